@@ -1,0 +1,16 @@
+pub mod Ring
+pub mod Identities
+pub mod Field
+pub mod Points
+pub mod Series
+pub mod Derivative
+pub mod Poly
+pub mod Eval
+pub mod Roots
+pub mod Sum
+pub mod Euclid
+pub mod Goppa
+pub mod Squarefree
+pub mod Register
+pub mod Figure1
+pub mod Locator

@@ -1,0 +1,281 @@
+-- Packed rows and the lists of their bits. Assumes nothing.
+use mathlib.Core.Path.{_≡_, refl, sym, ap, ap₂, _∙_}
+use mathlib.Core.Logic.{_≢_}
+use mathlib.Core.Bool.{true, _&&_}
+use mathlib.Core.List.{List, [], _∷_, _++_, map}
+use Prim.Native.Nat.{ℕ, zero, suc, _+_, _-_, _*_, _/_, _%_, _^_, _≤_, _<_}
+use native.Mathlib.Nat.{zero-add, mod-lt, zero-lt-suc, div-one, zero-div, zero-mod, pow-suc, min-le-left, le-of-suc-le-suc, not-suc-le-zero}
+use native.Mathlib.Decide.{ℕ-discrete, decLt}
+use native.Mathlib.Omega.{arith}
+use borrow.Author.Tests.{eqb-true, eq-eqb, ne-eqb}
+use lib.Arith.{lt-one}
+use lib.Dec.{eqb}
+use lib.Pow.{pow-pos, shr-shr, shr-lt}
+use lib.ListN.{length, getD, take, drop, length-take, drop-of-length-le, List·getD-eq-default}
+use lib.Seq.{getD-take, getD-drop, ext-getD}
+use Rattle.bits.specs.Xor.{_⊕_}
+use Rattle.bits.specs.Bits.{Bytes, Row, end, off, on, from, every, bytesFor, bitAt, unpack, number, pack, fillerClear, wellFormed, xorRow}
+use Rattle.bits.proofs.Xor.{Digit, xor-self}
+use Rattle.bits.proofs.Xor as xor
+use Rattle.bits.proofs.Lists.{and-left, and-right, length-map-from, map-from-at, map-from-past, map-from, map-append, from-add, every-from-at, every-from-all, every-from, take-below, drop-below}
+use Rattle.bits.proofs.Bits.{bit-digit, bit-past, bit-of-byte, digit-suc, digit-next, bits-determine}
+use Rattle.bits.proofs.Rows.{length-xorRow, bit-xorRow}
+
+-- lists of bits
+pub row-cons : {n d : ℕ} {e : List ℕ} → Digit d → Row n e → Row (suc n) (d ∷ e)
+row-cons xor.off r = off r
+row-cons xor.on r = on r
+
+pub row-length : {n : ℕ} {e : List ℕ} → Row n e → length e ≡ n
+row-length end = refl
+row-length (off r) = ap suc (row-length r)
+row-length (on r) = ap suc (row-length r)
+
+pub row-lt : {n : ℕ} {e : List ℕ} → Row n e → (k : ℕ) → getD e k 0 < 2
+row-lt end k = omega arith
+row-lt (off r) zero = omega arith
+row-lt (off r) (suc k) = row-lt r k
+row-lt (on r) zero = omega arith
+row-lt (on r) (suc k) = row-lt r k
+
+pub row-digit : {n : ℕ} {e : List ℕ} → Row n e → (k : ℕ) → Digit (getD e k 0)
+row-digit r k = xor.digit (row-lt r k)
+
+pub row-of : (e : List ℕ) → ((k : ℕ) → getD e k 0 < 2) → Row (length e) e
+row-of [] h = end
+row-of (b ∷ e) h = row-cons (xor.digit (h 0)) (row-of e (λ k. h (suc k)))
+
+row-map : (f : ℕ → ℕ) → ((i : ℕ) → Digit (f i)) → (k n : ℕ) → Row n (map f (from k n))
+unfolding from
+row-map f h k zero = end
+row-map f h k (suc n) = row-cons (h k) (row-map f h (suc k) n)
+
+-- unpack
+pub length-unpack : (n : ℕ) (s : List ℕ) → length (unpack n s) ≡ n
+unfolding unpack
+length-unpack n s = length-map-from (bitAt s) 0 n
+
+pub row-unpack : (n : ℕ) (s : List ℕ) → Row n (unpack n s)
+unfolding unpack
+row-unpack n s = row-map (bitAt s) (bit-digit s) 0 n
+
+pub unpack-at : (n : ℕ) (s : List ℕ) (i d : ℕ) → i < n → getD (unpack n s) i d ≡ bitAt s i
+unfolding unpack
+unpack-at n s i d h = map-from-at (bitAt s) 0 n i d h ∙ ap (bitAt s) (zero-add i)
+
+pub unpack-past : (n : ℕ) (s : List ℕ) (i d : ℕ) → n ≤ i → getD (unpack n s) i d ≡ d
+unfolding unpack
+unpack-past n s i d h = map-from-past (bitAt s) 0 n i d h
+
+pub unpack-ext : (n : ℕ) (s u : List ℕ) → ((i : ℕ) → i < n → bitAt s i ≡ bitAt u i) → unpack n s ≡ unpack n u
+unfolding unpack
+unpack-ext n s u h = map-from (bitAt s) (bitAt u) 0 0 n (λ i l. rw zero-add (h i l))
+
+pub unpack-bits : (n : ℕ) (s u : List ℕ) → unpack n s ≡ unpack n u → (i : ℕ) → i < n → bitAt s i ≡ bitAt u i
+unpack-bits n s u e i h = sym (unpack-at n s i 0 h) ∙ ap (λ (l : List ℕ). getD l i 0) e ∙ unpack-at n u i 0 h
+
+pub unpack-add : (n m : ℕ) (s : List ℕ) → unpack (n + m) s ≡ unpack n s ++ map (bitAt s) (from n m)
+unfolding unpack
+unpack-add n m s =
+    ap (map (bitAt s)) (from-add 0 n m)
+    ∙ map-append (bitAt s) (from 0 n) (from (0 + n) m)
+    ∙ ap (λ (k : ℕ). map (bitAt s) (from 0 n) ++ map (bitAt s) (from k m)) (zero-add n)
+
+-- the bits of one byte
+pub unpack-byte : (s : List ℕ) (q : ℕ) → map (bitAt s) (from (8 * q) 8) ≡ map (λ i. getD s q 0 / 2 ^ i % 2) (from 0 8)
+unpack-byte s q =
+    map-from (bitAt s) (λ i. getD s q 0 / 2 ^ i % 2) (8 * q) 0 8
+    (λ i l. bit-of-byte s q i l ∙ ap (λ (k : ℕ). getD s q 0 / 2 ^ k % 2) (sym (zero-add i)))
+
+xorRow-map : (f g : ℕ → ℕ) (l : List ℕ) → xorRow (map f l) (map g l) ≡ map (λ i. f i ⊕ g i) l
+unfolding xorRow
+xorRow-map f g [] = refl
+xorRow-map f g (x ∷ l) = ap (_∷_ (f x ⊕ g x)) (xorRow-map f g l)
+
+pub unpack-xorRow : (n : ℕ) (d s : List ℕ) → length s ≤ length d → unpack n (xorRow d s) ≡ xorRow (unpack n d) (unpack n s)
+unfolding unpack
+unpack-xorRow n d s h =
+    map-from (bitAt (xorRow d s)) (λ i. bitAt d i ⊕ bitAt s i) 0 0 n (λ i l. bit-xorRow d s (0 + i) h)
+    ∙ sym (xorRow-map (bitAt d) (bitAt s) (from 0 n))
+
+-- the number with given binary digits
+number-step : (m b x : ℕ) → b < 2 → x < 2 ^ m → b + 2 * x < 2 ^ suc m
+number-step m b x h l = omega (arith, pow-suc 2 m)
+
+low-digit : (b x : ℕ) → b < 2 → (b + 2 * x) / 1 % 2 ≡ b
+low-digit b x h = omega arith
+
+high-digits : (b x : ℕ) → b < 2 → (b + 2 * x) / 2 ≡ x
+high-digits b x h = omega arith
+
+number-lt : (m : ℕ) (e : List ℕ) → ((k : ℕ) → getD e k 0 < 2) → length e ≤ m → number e < 2 ^ m
+unfolding number
+number-lt m [] h l = pow-pos m
+number-lt zero (b ∷ e) h l = absurd (not-suc-le-zero l)
+number-lt (suc m) (b ∷ e) h l =
+    let i : number e < 2 ^ m = number-lt m e (λ k. h (suc k)) (le-of-suc-le-suc l) in
+    let j : b < 2 = h 0 in
+    number-step m b (number e) j i
+
+number-digit : (e : List ℕ) (k : ℕ) → ((k : ℕ) → getD e k 0 < 2) → number e / 2 ^ k % 2 ≡ getD e k 0
+unfolding number
+number-digit [] k h = simp (zero-div, zero-mod)
+number-digit (b ∷ e) zero h = low-digit b (number e) (h 0)
+number-digit (b ∷ e) (suc k) h =
+    digit-suc (b + 2 * number e) k
+    ∙ ap (λ (x : ℕ). x / 2 ^ k % 2) (high-digits b (number e) (h 0))
+    ∙ number-digit e k (λ k. h (suc k))
+
+-- pack
+pub bytes-enough : (n : ℕ) → n ≤ 8 * bytesFor n
+unfolding bytesFor
+bytes-enough n = omega arith
+
+pub length-pack : (e : List ℕ) → length (pack e) ≡ bytesFor (length e)
+unfolding pack
+length-pack e = length-map-from (λ j. number (take 8 (drop (8 * j) e))) 0 (bytesFor (length e))
+
+pack-at : (e : List ℕ) (q : ℕ) → getD (pack e) q 0 ≡ number (take 8 (drop (8 * q) e))
+unfolding pack number
+pack-at e q = go (decLt q (bytesFor (length e)))
+  where
+    byte : ℕ → ℕ
+    byte j = number (take 8 (drop (8 * j) e))
+
+    go : Dec (q < bytesFor (length e)) → getD (map byte (from 0 (bytesFor (length e)))) q 0 ≡ byte q
+    go (yes l) = map-from-at byte 0 (bytesFor (length e)) q 0 l ∙ ap byte (zero-add q)
+    go (no l) =
+        let past : length e ≤ 8 * q = omega (arith, bytes-enough (length e)) in
+        map-from-past byte 0 (bytesFor (length e)) q 0 (omega arith)
+        ∙ sym (ap (λ (r : List ℕ). number (take 8 r)) (drop-of-length-le e past))
+
+part-lt : {n : ℕ} {e : List ℕ} → Row n e → (m k : ℕ) → getD (take 8 (drop m e)) k 0 < 2
+part-lt {e} r m = take-below 2 8 (drop m e) (drop-below 2 m e (row-lt r))
+
+pub bytes-pack : {n : ℕ} {e : List ℕ} → Row n e → Bytes (pack e)
+bytes-pack {e} r q =
+    rw pack-at
+    (number-lt 8 (take 8 (drop (8 * q) e)) (part-lt r (8 * q))
+    (rw length-take (min-le-left 8 (length (drop (8 * q) e)))))
+
+pub bit-pack : {n : ℕ} {e : List ℕ} → Row n e → (i : ℕ) → bitAt (pack e) i ≡ getD e i 0
+unfolding bitAt
+bit-pack {e} r i =
+    let part : List ℕ = drop (8 * (i / 8)) e in
+    let place : 8 * (i / 8) + i % 8 ≡ i = omega arith in
+    ap (λ (b : ℕ). b / 2 ^ (i % 8) % 2) (pack-at e (i / 8))
+    ∙ number-digit (take 8 part) (i % 8) (part-lt r (8 * (i / 8)))
+    ∙ getD-take 8 part (i % 8) 0 (mod-lt i (zero-lt-suc 7))
+    ∙ getD-drop (8 * (i / 8)) e (i % 8) 0
+    ∙ ap (λ (k : ℕ). getD e k 0) place
+
+pub unpack-pack : {n : ℕ} {e : List ℕ} → Row n e → unpack n (pack e) ≡ e
+unpack-pack {n} {e} r =
+    let l : length (unpack n (pack e)) ≡ n = length-unpack n (pack e) in
+    ext-getD 0 (unpack n (pack e)) e (l ∙ sym (row-length r))
+    (λ i h. unpack-at n (pack e) i 0 (rw l at h) ∙ bit-pack r i)
+
+-- the filler: the bits from n to the end of the last byte
+pub clear-at : (n : ℕ) (s : List ℕ) → fillerClear n s ≡ true → (i : ℕ) → n ≤ i → i < 8 * bytesFor n → bitAt s i ≡ 0
+unfolding fillerClear
+clear-at n s e i h l =
+    let place : n + (i - n) ≡ i = omega arith in
+    eqb-true (bitAt s i) 0
+    (ap (λ (k : ℕ). eqb (bitAt s k) 0) (sym place)
+    ∙ every-from-at (λ i. eqb (bitAt s i) 0) n (8 * bytesFor n - n) e (i - n) (omega arith))
+
+pub clear-all : (n : ℕ) (s : List ℕ) → ((i : ℕ) → n ≤ i → i < 8 * bytesFor n → bitAt s i ≡ 0) → fillerClear n s ≡ true
+unfolding fillerClear
+clear-all n s h =
+    every-from-all (λ i. eqb (bitAt s i) 0) n (8 * bytesFor n - n)
+    (λ i l. eq-eqb (bitAt s (n + i)) 0 (h (n + i) (omega arith) (omega arith)))
+
+pub clear-whole : (n : ℕ) (s : List ℕ) → n % 8 ≡ 0 → fillerClear n s ≡ true
+unfolding bytesFor
+clear-whole n s e = clear-all n s (λ i h l. absurd (omega arith))
+
+pub clear-past : (n : ℕ) (s : List ℕ) → length s ≤ n / 8 → fillerClear n s ≡ true
+clear-past n s h = clear-all n s (λ i k l. bit-past s i (omega arith))
+
+-- a number is 0 where its digits are
+digits-clear : (m b : ℕ) → b < 2 ^ m → every (λ i. eqb (b / 2 ^ i % 2) 0) (from 0 m) ≡ eqb b 0
+unfolding from every
+digits-clear zero b h = sym (eq-eqb b 0 (lt-one h))
+digits-clear (suc m) b h =
+    ap₂ _&&_
+    (ap (λ (x : ℕ). eqb (x % 2) 0) (div-one b))
+    (every-from (λ i. eqb (b / 2 ^ i % 2) 0) (λ i. eqb (b / 2 / 2 ^ i % 2) 0) 1 0 m
+    (λ i l. ap (λ (x : ℕ). eqb x 0) (digit-next b i))
+    ∙ digits-clear m (b / 2) (omega (arith, pow-suc 2 m)))
+    ∙ go (ℕ-discrete (b % 2) 0) (ℕ-discrete (b / 2) 0)
+  where
+    go : Dec (b % 2 ≡ 0) → Dec (b / 2 ≡ 0) → eqb (b % 2) 0 && eqb (b / 2) 0 ≡ eqb b 0
+    go (no d) f = ap (_&& eqb (b / 2) 0) (ne-eqb (b % 2) 0 d) ∙ sym (ne-eqb b 0 (λ z. d (omega arith)))
+    go (yes e) (no d) = ap₂ _&&_ (eq-eqb (b % 2) 0 e) (ne-eqb (b / 2) 0 d) ∙ sym (ne-eqb b 0 (λ z. d (omega arith)))
+    go (yes e) (yes f) = ap₂ _&&_ (eq-eqb (b % 2) 0 e) (eq-eqb (b / 2) 0 f) ∙ sym (eq-eqb b 0 (omega arith))
+
+-- the filler in one byte
+pub clear-byte : (n : ℕ) (s : List ℕ) → n % 8 ≢ 0 → getD s (n / 8) 0 < 256 → fillerClear n s ≡ eqb (getD s (n / 8) 0 / 2 ^ (n % 8)) 0
+unfolding fillerClear bytesFor
+clear-byte n s d h =
+    let b : ℕ = getD s (n / 8) 0 in
+    let k : ℕ = n % 8 in
+    let m : ℕ = 8 * ((n + 7) / 8) - n in
+    let e : m + k ≡ 8 = omega arith in
+    every-from (λ i. eqb (bitAt s i) 0) (λ i. eqb (b / 2 ^ k / 2 ^ i % 2) 0) n 0 m
+    (λ i l.
+    let f : n + i ≡ 8 * (n / 8) + (k + i) = omega arith in
+    ap (λ (x : ℕ). eqb x 0)
+    (ap (bitAt s) f ∙ bit-of-byte s (n / 8) (k + i) (omega arith)
+    ∙ ap (_% 2) (sym (shr-shr b k i)) ∙ ap (λ (j : ℕ). b / 2 ^ k / 2 ^ j % 2) (sym (zero-add i))))
+    ∙ digits-clear m (b / 2 ^ k) (shr-lt m k (rw e h))
+
+-- well-formed rows
+module _ (n : ℕ) (s : List ℕ) where
+  pub well-formed : length s ≡ bytesFor n → fillerClear n s ≡ true → wellFormed n s ≡ true
+  unfolding wellFormed
+  well-formed e f = ap₂ _&&_ (eq-eqb (length s) (bytesFor n) e) f
+
+  pub well-formed-length : wellFormed n s ≡ true → length s ≡ bytesFor n
+  unfolding wellFormed
+  well-formed-length w = eqb-true (length s) (bytesFor n) (and-left (eqb (length s) (bytesFor n)) (fillerClear n s) w)
+
+  pub well-formed-clear : wellFormed n s ≡ true → fillerClear n s ≡ true
+  unfolding wellFormed
+  well-formed-clear w = and-right (eqb (length s) (bytesFor n)) (fillerClear n s) w
+
+  -- every bit past the n bits is 0
+  pub well-formed-past : wellFormed n s ≡ true → (i : ℕ) → n ≤ i → bitAt s i ≡ 0
+  well-formed-past w i h = go (decLt i (8 * bytesFor n))
+    where
+      go : Dec (i < 8 * bytesFor n) → bitAt s i ≡ 0
+      go (yes l) = clear-at n s (well-formed-clear w) i h l
+      go (no l) = bit-past s i (rw (well-formed-length w) (omega arith))
+
+pub well-formed-xorRow : (n : ℕ) (a b : List ℕ) → wellFormed n a ≡ true → wellFormed n b ≡ true → wellFormed n (xorRow a b) ≡ true
+well-formed-xorRow n a b wa wb =
+    let la : length a ≡ bytesFor n = well-formed-length n a wa in
+    let lb : length b ≡ bytesFor n = well-formed-length n b wb in
+    well-formed n (xorRow a b) (length-xorRow a b ∙ la)
+    (clear-all n (xorRow a b)
+    (λ i h l. bit-xorRow a b i (omega arith) ∙ ap₂ _⊕_ (well-formed-past n a wa i h) (well-formed-past n b wb i h) ∙ xor-self 0))
+
+pub well-formed-pack : {n : ℕ} {e : List ℕ} → Row n e → wellFormed n (pack e) ≡ true
+well-formed-pack {n} {e} r =
+    well-formed n (pack e)
+    (length-pack e ∙ ap bytesFor (row-length r))
+    (clear-all n (pack e) (λ i h l. bit-pack r i ∙ List·getD-eq-default e 0 (rw (row-length r) h)))
+
+pub pack-unpack : (n : ℕ) (s : List ℕ) → Bytes s → wellFormed n s ≡ true → pack (unpack n s) ≡ s
+pack-unpack n s h w =
+    bits-determine (pack (unpack n s)) s (bytes-pack (row-unpack n s)) h
+    (length-pack (unpack n s) ∙ ap bytesFor (length-unpack n s) ∙ sym (well-formed-length n s w))
+    (λ i. bit-pack (row-unpack n s) i ∙ go i (decLt i n))
+  where
+    go : (i : ℕ) → Dec (i < n) → getD (unpack n s) i 0 ≡ bitAt s i
+    go i (yes l) = unpack-at n s i 0 l
+    go i (no l) = unpack-past n s i 0 (omega arith) ∙ sym (well-formed-past n s w i (omega arith))
+
+pub row-determined : (n : ℕ) (s u : List ℕ) → Bytes s → Bytes u → wellFormed n s ≡ true → wellFormed n u ≡ true
+    → unpack n s ≡ unpack n u → s ≡ u
+row-determined n s u hs hu ws wu e = sym (pack-unpack n s hs ws) ∙ ap pack e ∙ pack-unpack n u hu wu

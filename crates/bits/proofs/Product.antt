@@ -1,0 +1,177 @@
+-- Products of lists of bits and of packed rows. Assumes nothing.
+use mathlib.Core.Path.{_≡_, refl, sym, ap, ap₂, _∙_}
+use mathlib.Core.Bool.{true}
+use mathlib.Core.List.{List, [], _∷_, _++_, map}
+use Prim.Native.Nat.{ℕ, zero, suc, _+_, _-_, _*_, _/_, _%_, _^_, _≤_, _<_}
+use native.Mathlib.Nat.{mul-comm, zero-mul, add-mod-mod, div-one, pow-suc, suc-inj, suc-ne-zero}
+use native.Mathlib.Omega.{arith}
+use lib.Arith.{lt-one, bin-ind}
+use lib.Bits.{bitAnd, and-shr, and-mod}
+use lib.Count.{ones-step}
+use lib.Count as count
+use lib.ListN.{length, getD}
+use Rattle.bits.specs.Xor.{_⊕_}
+use Rattle.bits.specs.Bits.{Row, end, off, on, from, bytesFor, bitAt, unpack, fillerClear, xorRow, dot, rowProduct}
+use Rattle.bits.proofs.Xor.{Digit, low, xor-assoc, xor-self, xor-zero, zero-xor, xor-shr, xor-mod, xor-four}
+use Rattle.bits.proofs.Xor as xor
+use Rattle.bits.proofs.Lists.{map-from}
+use Rattle.bits.proofs.Bits.{bit-past, digits-tail}
+use Rattle.bits.proofs.Pack.{row-unpack, length-unpack, unpack-add, unpack-byte, unpack-xorRow, bytes-enough, clear-at}
+use Rattle.bits.proofs.Ones.{no-ones}
+
+-- the product of two lists
+pub dot-comm : (a b : List ℕ) → dot a b ≡ dot b a
+unfolding dot
+dot-comm [] [] = refl
+dot-comm [] (y ∷ b) = refl
+dot-comm (x ∷ a) [] = refl
+dot-comm (x ∷ a) (y ∷ b) = ap₂ _⊕_ (mul-comm x y) (dot-comm a b)
+
+pub dot-digit : {n m : ℕ} {a b : List ℕ} → Row n a → Row m b → Digit (dot a b)
+unfolding dot _⊕_
+dot-digit end s = xor.off
+dot-digit (off r) end = xor.off
+dot-digit (on r) end = xor.off
+dot-digit (off r) (off s) = dot-digit r s
+dot-digit (off r) (on s) = dot-digit r s
+dot-digit (on r) (off s) = dot-digit r s
+dot-digit (on r) (on s) = flip (dot-digit r s)
+  where
+    flip : {d : ℕ} → Digit d → Digit (1 ⊕ d)
+    flip xor.off = xor.on
+    flip xor.on = xor.off
+
+pub dot-append : (a b c d : List ℕ) → length a ≡ length b → dot (a ++ c) (b ++ d) ≡ dot a b ⊕ dot c d
+unfolding dot
+dot-append [] [] c d e = sym (zero-xor (dot c d))
+dot-append [] (y ∷ b) c d e = absurd (suc-ne-zero (length b) (sym e))
+dot-append (x ∷ a) [] c d e = absurd (suc-ne-zero (length a) e)
+dot-append (x ∷ a) (y ∷ b) c d e = ap (_⊕_ (x * y)) (dot-append a b c d (suc-inj e)) ∙ sym (xor-assoc (x * y) (dot a b) (dot c d))
+
+dot-nil : (a : List ℕ) → dot a [] ≡ 0
+unfolding dot
+dot-nil [] = refl
+dot-nil (x ∷ a) = refl
+
+dot-none : (l r : List ℕ) → dot (map (λ i. 0) l) r ≡ 0
+unfolding dot
+dot-none [] r = refl
+dot-none (x ∷ l) [] = refl
+dot-none (x ∷ l) (y ∷ r) = ap₂ _⊕_ (zero-mul y) (dot-none l r) ∙ xor-self 0
+
+digit-xor-mul : {x y : ℕ} → Digit x → Digit y → (z : ℕ) → (x ⊕ y) * z ≡ x * z ⊕ y * z
+digit-xor-mul xor.off q z = simp (zero-mul, zero-xor)
+digit-xor-mul xor.on xor.off z = simp (zero-mul, xor-zero)
+digit-xor-mul xor.on xor.on z = simp (zero-mul, xor-self)
+
+dot-step : {x y : ℕ} → Digit x → Digit y → (z p q r : ℕ) → p ≡ q ⊕ r → (x ⊕ y) * z ⊕ p ≡ x * z ⊕ q ⊕ (y * z ⊕ r)
+dot-step {x} {y} hx hy z p q r e = ap₂ _⊕_ (digit-xor-mul hx hy z) e ∙ xor-four (x * z) (y * z) q r
+
+pub dot-xorRow : {n : ℕ} {a b : List ℕ} → Row n a → Row n b → (c : List ℕ) → dot (xorRow a b) c ≡ dot a c ⊕ dot b c
+unfolding dot xorRow
+dot-xorRow {a} {b} r s [] = dot-nil (xorRow a b) ∙ sym (ap₂ _⊕_ (dot-nil a) (dot-nil b) ∙ xor-self 0)
+dot-xorRow end end (z ∷ c) = sym (xor-self 0)
+dot-xorRow (off r) (off s) (z ∷ c) = dot-step xor.off xor.off z _ _ _ (dot-xorRow r s c)
+dot-xorRow (off r) (on s) (z ∷ c) = dot-step xor.off xor.on z _ _ _ (dot-xorRow r s c)
+dot-xorRow (on r) (off s) (z ∷ c) = dot-step xor.on xor.off z _ _ _ (dot-xorRow r s c)
+dot-xorRow (on r) (on s) (z ∷ c) = dot-step xor.on xor.on z _ _ _ (dot-xorRow r s c)
+
+-- bits of 0 from n to m add nothing
+dot-more : (n m : ℕ) (s u : List ℕ) → n ≤ m → ((i : ℕ) → n ≤ i → i < m → bitAt s i ≡ 0)
+    → dot (unpack m s) (unpack m u) ≡ dot (unpack n s) (unpack n u)
+dot-more n m s u h z =
+    let e : m ≡ n + (m - n) = omega arith in
+    let t : List ℕ = map (bitAt u) (from n (m - n)) in
+    ap (λ (k : ℕ). dot (unpack k s) (unpack k u)) e
+    ∙ ap₂ dot (unpack-add n (m - n) s) (unpack-add n (m - n) u)
+    ∙ dot-append (unpack n s) (unpack n u) (map (bitAt s) (from n (m - n))) t (length-unpack n s ∙ sym (length-unpack n u))
+    ∙ ap (λ (l : List ℕ). dot (unpack n s) (unpack n u) ⊕ dot l t)
+    (map-from (bitAt s) (λ i. 0) n n (m - n) (λ i l. z (n + i) (omega arith) (omega arith)))
+    ∙ ap (_⊕_ (dot (unpack n s) (unpack n u))) (dot-none (from n (m - n)) t)
+    ∙ xor-zero (dot (unpack n s) (unpack n u))
+
+-- the product of packed rows
+pub row-product-digit : (row pat : List ℕ) → Digit (rowProduct row pat)
+unfolding rowProduct
+row-product-digit row pat = dot-digit (row-unpack (8 * length pat) row) (row-unpack (8 * length pat) pat)
+
+pub row-product-bits : (n : ℕ) (row pat : List ℕ) → length pat ≡ bytesFor n → fillerClear n pat ≡ true
+    → rowProduct row pat ≡ dot (unpack n row) (unpack n pat)
+unfolding rowProduct
+row-product-bits n row pat e f =
+    let m : ℕ = 8 * length pat in
+    dot-comm (unpack m row) (unpack m pat)
+    ∙ dot-more n m pat row (rw e (bytes-enough n)) (λ i h l. clear-at n pat f i h (rw e at l))
+    ∙ dot-comm (unpack n pat) (unpack n row)
+
+pub row-product-xor : (a b pat : List ℕ) → length b ≤ length a → rowProduct (xorRow a b) pat ≡ rowProduct a pat ⊕ rowProduct b pat
+unfolding rowProduct
+row-product-xor a b pat h =
+    let m : ℕ = 8 * length pat in
+    ap (λ (r : List ℕ). dot r (unpack m pat)) (unpack-xorRow m a b h)
+    ∙ dot-xorRow (row-unpack m a) (row-unpack m b) (unpack m pat)
+
+-- q bytes are enough where the row has no more
+pub row-product-short : (q : ℕ) (row pat : List ℕ) → q ≤ length pat → (q < length pat → length row ≤ q)
+    → rowProduct row pat ≡ dot (unpack (8 * q) row) (unpack (8 * q) pat)
+unfolding rowProduct
+row-product-short q row pat h l =
+    dot-more (8 * q) (8 * length pat) row pat (omega arith)
+    (λ i a b. let k : length row ≤ q = l (omega arith) in bit-past row i (omega arith))
+
+-- parity: the number of ones of a number, modulo 2
+digit-sum : {d e : ℕ} → Digit d → Digit e → (d + e) % 2 ≡ d ⊕ e
+unfolding _⊕_
+digit-sum xor.off xor.off = refl
+digit-sum xor.off xor.on = refl
+digit-sum xor.on xor.off = refl
+digit-sum xor.on xor.on = refl
+
+parity-step : (n : ℕ) → count.ones n % 2 ≡ n % 2 ⊕ count.ones (n / 2) % 2
+parity-step n = ap (_% 2) (ones-step n) ∙ sym (add-mod-mod (n % 2) (count.ones (n / 2)) 2) ∙ digit-sum (low n) (low (count.ones (n / 2)))
+
+parity-xor : (a b : ℕ) → count.ones (a ⊕ b) % 2 ≡ count.ones a % 2 ⊕ count.ones b % 2
+parity-xor = bin-ind (λ (n : ℕ). (b : ℕ) → count.ones (n ⊕ b) % 2 ≡ count.ones n % 2 ⊕ count.ones b % 2) start step
+  where
+    start : (b : ℕ) → count.ones (0 ⊕ b) % 2 ≡ count.ones 0 % 2 ⊕ count.ones b % 2
+    start b = simp (zero-xor, no-ones)
+
+    step : (n : ℕ) → ((b : ℕ) → count.ones (n / 2 ⊕ b) % 2 ≡ count.ones (n / 2) % 2 ⊕ count.ones b % 2)
+        → (b : ℕ) → count.ones (n ⊕ b) % 2 ≡ count.ones n % 2 ⊕ count.ones b % 2
+    step n ih b =
+        parity-step (n ⊕ b)
+        ∙ ap₂ _⊕_ (xor-mod n b 1) (ap (λ (k : ℕ). count.ones k % 2) (xor-shr n b 1) ∙ ih (b / 2))
+        ∙ xor-four (n % 2) (b % 2) (count.ones (n / 2) % 2) (count.ones (b / 2) % 2)
+        ∙ sym (ap₂ _⊕_ (parity-step n) (parity-step b))
+
+digit-and : {d e : ℕ} → Digit d → Digit e → bitAnd d e ≡ d * e
+digit-and xor.off q = sym (zero-mul _)
+digit-and xor.on xor.off = refl
+digit-and xor.on xor.on = refl
+
+parity-and : (m x y : ℕ) → x < 2 ^ m
+    → dot (map (λ i. x / 2 ^ i % 2) (from 0 m)) (map (λ i. y / 2 ^ i % 2) (from 0 m)) ≡ count.ones (bitAnd x y) % 2
+unfolding dot from
+parity-and zero x y h = sym (ap (λ (k : ℕ). count.ones (bitAnd k y) % 2) (lt-one h) ∙ ap (_% 2) no-ones)
+parity-and (suc m) x y h =
+    ap₂ _⊕_
+    (ap₂ (λ (a b : ℕ). a % 2 * (b % 2)) (div-one x) (div-one y) ∙ sym (and-mod x y 1 ∙ digit-and (low x) (low y)))
+    (ap₂ dot (digits-tail x m) (digits-tail y m)
+    ∙ parity-and m (x / 2) (y / 2) (omega (arith, pow-suc 2 m))
+    ∙ ap (λ (k : ℕ). count.ones k % 2) (sym (and-shr x y 1)))
+    ∙ sym (parity-step (bitAnd x y))
+
+-- one byte more of a product
+pub row-product-byte : (row pat : List ℕ) (acc i : ℕ) → getD row i 0 < 256
+    → count.ones acc % 2 ≡ dot (unpack (8 * i) row) (unpack (8 * i) pat)
+    → count.ones (acc ⊕ bitAnd (getD row i 0) (getD pat i 0)) % 2 ≡ dot (unpack (8 * (i + 1)) row) (unpack (8 * (i + 1)) pat)
+row-product-byte row pat acc i h e =
+    let x : ℕ = getD row i 0 in
+    let y : ℕ = getD pat i 0 in
+    let f : 8 * (i + 1) ≡ 8 * i + 8 = omega arith in
+    parity-xor acc (bitAnd x y)
+    ∙ ap₂ _⊕_ e (sym (ap₂ dot (unpack-byte row i) (unpack-byte pat i) ∙ parity-and 8 x y h))
+    ∙ sym (ap (λ (k : ℕ). dot (unpack k row) (unpack k pat)) f
+    ∙ ap₂ dot (unpack-add (8 * i) 8 row) (unpack-add (8 * i) 8 pat)
+    ∙ dot-append (unpack (8 * i) row) (unpack (8 * i) pat) (map (bitAt row) (from (8 * i) 8)) (map (bitAt pat) (from (8 * i) 8))
+    (length-unpack (8 * i) row ∙ sym (length-unpack (8 * i) pat)))

@@ -1,0 +1,77 @@
+-- The number of a refusal, by the tests of the code, and the answer that follows from it. Assumes nothing.
+use mathlib.Core.Path.{_≡_, refl, sym, ap, _∙_}
+use mathlib.Core.Bool.{Bool, true, false, not, cond, _&&_}
+use mathlib.Core.List.{List, [], _∷_}
+use Prim.Native.Nat.{ℕ, zero, suc, _≤_, _<_, _^_}
+use native.Mathlib.Omega.{arith}
+use native.Mathlib.Nat.{le-of-suc-le-suc}
+use lib.Pow.{pow-mono}
+use borrow.Author.Tests.{lt-ltb, le-ltb, ltb-true}
+use Rattle.bits.specs.Bits.{every}
+use Rattle.field.specs.Numbers.{firstOf}
+use Rattle.field.specs.Field.{isWidth, isElement}
+use Rattle.field.specs.Answers.{elementsNumber, answer}
+use Rattle.field.specs.declared.Answer.the-variants.{Value, Refused}
+use Rattle.field.proofs.Table.{Width, width-narrow}
+
+module _ (m : ℕ) where
+  pub number-no-width : (xs : List ℕ) → isWidth m ≡ false → elementsNumber m xs ≡ 1
+  unfolding elementsNumber firstOf
+  number-no-width xs n = rw n
+
+  pub number-no-element : (a : ℕ) → Width m → 2 ^ m ≤ a → elementsNumber m (a ∷ []) ≡ 4
+  unfolding elementsNumber firstOf every isElement
+  number-no-element a w h = rw (w, le-ltb a (2 ^ m) h)
+
+  pub number-element : (a : ℕ) → Width m → a < 2 ^ m → elementsNumber m (a ∷ []) ≡ 0
+  unfolding elementsNumber firstOf every isElement
+  number-element a w h = rw (w, lt-ltb a (2 ^ m) h)
+
+  -- an element has 16 digits
+  element-lt : {a : ℕ} → Width m → isElement m a ≡ true → a < 65536
+  unfolding isElement
+  element-lt {a} w e = omega (arith, ltb-true a (2 ^ m) e, pow-mono (le-of-suc-le-suc (width-narrow m w)))
+
+-- the number, of a width and elements that are right or not
+abbrev number : Bool → Bool → ℕ
+number w e = cond (not w) 1 (cond (not e) 4 0)
+
+module _ (m x : ℕ) (xs : List ℕ) where
+  -- an element is refused: so are all
+  pub first-refused : (elementsNumber m (x ∷ []) ≡ 0 → ⊥) → elementsNumber m (x ∷ []) ≡ elementsNumber m (x ∷ xs)
+  unfolding elementsNumber firstOf every
+  first-refused = go (isWidth m) (isElement m x) (every (isElement m) xs)
+    where
+      go : (w e r : Bool) → (number w (e && true) ≡ 0 → ⊥) → number w (e && true) ≡ number w (e && r)
+      go false e r n = refl
+      go true false r n = refl
+      go true true r n = absurd (n refl)
+
+  -- it is not: the others decide
+  pub first-allowed : elementsNumber m (x ∷ []) ≡ 0 → elementsNumber m xs ≡ elementsNumber m (x ∷ xs)
+  unfolding elementsNumber firstOf every
+  first-allowed = go (isWidth m) (isElement m x) (every (isElement m) xs)
+    where
+      go : (w e r : Bool) → number w (e && true) ≡ 0 → number w r ≡ number w (e && r)
+      go false e r z = absurd (omega arith)
+      go true false r z = absurd (omega arith)
+      go true true r z = refl
+
+  -- accepted: the width and every element are right
+  pub accepted : elementsNumber m (x ∷ xs) ≡ 0 → (x < 65536) × (elementsNumber m xs ≡ 0)
+  unfolding elementsNumber firstOf every
+  accepted = go (isWidth m) (isElement m x) (every (isElement m) xs) refl refl
+    where
+      go : (w e r : Bool) → isWidth m ≡ w → isElement m x ≡ e → number w (e && r) ≡ 0 → (x < 65536) × (number w r ≡ 0)
+      go false e r p q z = absurd (omega arith)
+      go true false r p q z = absurd (omega arith)
+      go true true r p q z = (element-lt m p q, z)
+
+pub refused : (r : ℕ) {q : ℕ} (v : ℕ) → r ≡ q → (r ≡ 0 → ⊥) → Refused r ≡ answer q v
+unfolding answer
+refused zero v e n = absurd (n refl)
+refused (suc r) v e n = ap (λ (q : ℕ). answer q v) e
+
+pub allowed : {r q u v : ℕ} → r ≡ q → r ≡ 0 → u ≡ v → Value u ≡ answer q v
+unfolding answer
+allowed {v = v} e z h = ap Value h ∙ ap (λ (q : ℕ). answer q v) (sym z ∙ e)

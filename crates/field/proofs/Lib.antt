@@ -1,0 +1,11 @@
+pub mod Examples
+pub mod Horner
+pub mod Modular
+pub mod Inverses
+pub mod Table
+pub mod Search
+pub mod Laws
+pub mod Machine
+pub mod Guards
+pub mod Gf
+pub mod Arrays

@@ -1,0 +1,4 @@
+pub mod Numbers
+pub mod Field
+pub mod Poly
+pub mod Answers

@@ -1,0 +1,135 @@
+// The fields GF(2^m) for m of 4, 12 and 13 (document 01, 'Field').
+ghost use mathlib.Core.Path.{_≡_};
+ghost use mathlib.Core.List.{[], _∷_};
+ghost use Prim.Native.Nat.{_^_, _<_};
+ghost use mathlib.Core.Bool.{true};
+ghost use Rattle.field.specs.Field.{isWidth, modulusOf, mul, inv};
+ghost use Rattle.field.specs.Answers.{elementsNumber, addOf, multiplyOf, invertOf};
+
+// What a public call answers: the element, or the number of a refusal.
+pub enum Answer {
+    Value(u16),
+    Refused(u8),
+}
+
+// The modulus at each width, and 0 where there is none.
+const MODULI: [u16; 14] = [0, 0, 0, 0, 0x13, 0, 0, 0, 0, 0, 0, 0, 0x1009, 0x201B];
+
+// The modulus of the width m, and 0 where m is no width.
+pub fn modulus(m: u8) -> u16
+    ensures { λ r. ⌜ r ≡ modulusOf m ⌝ }
+{
+    if m < 14 { MODULI[m as usize] } else { 0 }
+}
+
+// a·b modulo f by Horner's rule from b's digit 12 down. The count is constant, so that a loop over places vectorises.
+fn product(m: u8, f: u16, a: u16, b: u16) -> u16
+    requires { ⌜ (isWidth m ≡ true) × (f ≡ modulusOf m) × (a < 2 ^ m) × (b < 2 ^ m) ⌝ }
+    ensures { λ r. ⌜ r ≡ mul m a b ⌝ }
+{
+    let mut r: u16 = 0;
+    let mut k: u16 = 13;
+    while 0 < k {
+        k -= 1;
+        let d = r << 1;
+        r = d ^ ((d >> m) & 1) * f ^ ((b >> k) & 1) * a;
+    }
+    r
+}
+
+// a·b in the field of width m, of the m low digits of a and b; 0 where m is no width.
+pub fn times(m: u8, a: u16, b: u16) -> u16
+    ensures { λ r. ⌜ r ≡ mul m a b ⌝ }
+{
+    let f = modulus(m);
+    if f == 0 {
+        return 0;
+    }
+    let mask: u16 = (1 << m) - 1;
+    product(m, f, a & mask, b & mask)
+}
+
+// a^(2^m - 2): the exponent has m - 1 ones and a 0 in binary.
+fn reciprocal(m: u8, f: u16, a: u16) -> u16
+    requires { ⌜ (isWidth m ≡ true) × (f ≡ modulusOf m) × (a < 2 ^ m) ⌝ }
+    ensures { λ r. ⌜ r ≡ inv m a ⌝ }
+{
+    let mut r: u16 = 1;
+    let mut k = 1;
+    while k < m {
+        let s = product(m, f, r, r);
+        r = product(m, f, s, a);
+        k += 1;
+    }
+    product(m, f, r, r)
+}
+
+// The inverse of a's m low digits in the field of width m, 0 for 0; 0 where m is no width.
+pub fn inverse(m: u8, a: u16) -> u16
+    ensures { λ r. ⌜ r ≡ inv m a ⌝ }
+{
+    let f = modulus(m);
+    if f == 0 {
+        return 0;
+    }
+    let mask: u16 = (1 << m) - 1;
+    reciprocal(m, f, a & mask)
+}
+
+// The number of the refusal of an element a of width m, and 0 where there is none.
+fn refusal(m: u8, a: u32) -> u8
+    ensures { λ r. ⌜ r ≡ elementsNumber m (a ∷ []) ⌝ }
+{
+    if modulus(m) == 0 {
+        return 1;
+    }
+    let top: u16 = 1 << m;
+    if top as u32 <= a {
+        return 4;
+    }
+    0
+}
+
+// The same for two elements.
+fn pair_refusal(m: u8, a: u32, b: u32) -> u8
+    ensures { λ r. ⌜ r ≡ elementsNumber m (a ∷ b ∷ []) ⌝ }
+{
+    let x = refusal(m, a);
+    if x != 0 {
+        return x;
+    }
+    refusal(m, b)
+}
+
+// The sum, exclusive or, of two elements.
+pub fn add(m: u8, a: u32, b: u32) -> Answer
+    ensures { λ r. ⌜ r ≡ addOf m a b ⌝ }
+{
+    let x = pair_refusal(m, a, b);
+    if x != 0 {
+        return Answer::Refused(x);
+    }
+    Answer::Value((a as u16) ^ (b as u16))
+}
+
+// The product of two elements.
+pub fn multiply(m: u8, a: u32, b: u32) -> Answer
+    ensures { λ r. ⌜ r ≡ multiplyOf m a b ⌝ }
+{
+    let x = pair_refusal(m, a, b);
+    if x != 0 {
+        return Answer::Refused(x);
+    }
+    Answer::Value(times(m, a as u16, b as u16))
+}
+
+// The inverse of an element, and 0 for 0.
+pub fn invert(m: u8, a: u32) -> Answer
+    ensures { λ r. ⌜ r ≡ invertOf m a ⌝ }
+{
+    let x = refusal(m, a);
+    if x != 0 {
+        return Answer::Refused(x);
+    }
+    Answer::Value(inverse(m, a as u16))
+}
