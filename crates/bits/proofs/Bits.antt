@@ -12,10 +12,10 @@ use borrow.Author.Tests.{eqb-true}
 use lib.Arith.{lt-one, lt-of-le-ne, digits-mod, digits-lt}
 use lib.Bits.{bitAnd, bitOr, and-le-l, or-lt}
 use lib.Dec.{eqb}
-use lib.ListN.{length, getD, set, length-set, List·getD-eq-default}
+use lib.ListN.{length, getD, set, replicate, length-set, List·getD-eq-default}
 use lib.Pow.{pow-pos, shr-shr, field, mod-mod-pow, high, low}
 use lib.Seq.{getD-set-same, getD-set-other, set-out, ext-getD}
-use Rattle.bits.specs.Bits.{Bytes, bitAt, from, every, bitAt, withBit, setBit}
+use Rattle.bits.specs.Bits.{Bytes, from, every, bitAt, withBit, setBit}
 use Rattle.bits.proofs.Xor.{Digit}
 use Rattle.bits.proofs.Xor as xor
 use Rattle.bits.proofs.Lists.{every-below-at, map-from}
@@ -70,6 +70,19 @@ bit-of-byte s q i h =
     let e : (8 * q + i) / 8 ≡ q = omega arith in
     let f : (8 * q + i) % 8 ≡ i = omega arith in
     rw (e, f)
+
+-- a row of zeros
+zeros-at : (m k : ℕ) → _≡_ {A = ℕ} (getD (replicate m 0) k 0) 0
+zeros-at zero k = refl
+zeros-at (suc m) zero = refl
+zeros-at (suc m) (suc k) = zeros-at m k
+
+pub bytes-zeros : (m : ℕ) → Bytes (replicate m 0)
+bytes-zeros m k = rw zeros-at (zero-lt-suc 255)
+
+pub bit-zeros : (m i : ℕ) → bitAt (replicate m 0) i ≡ 0
+unfolding bitAt
+bit-zeros m i = simp (zeros-at, zero-div, zero-mod)
 
 -- rows of bytes of one length are determined by their bits
 pub bits-determine : (s u : List ℕ) → Bytes s → Bytes u → length s ≡ length u → ((i : ℕ) → bitAt s i ≡ bitAt u i) → s ≡ u

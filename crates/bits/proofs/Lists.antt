@@ -9,6 +9,9 @@ use lib.ListN.{length, getD, take, drop, length-map, length-take, length-drop, L
 use lib.Seq.{ext-getD, getD-take, getD-drop}
 use Rattle.bits.specs.Bits.{from, every}
 
+pub cons-eq : {x y : ℕ} {l r : List ℕ} → x ≡ y → l ≡ r → x ∷ l ≡ y ∷ r
+cons-eq e f = ap₂ (λ (z : ℕ) (t : List ℕ). z ∷ t) e f
+
 pub and-left : (a b : Bool) → a && b ≡ true → a ≡ true
 and-left true b e = refl
 and-left false b e = absurd (false≢true e)
@@ -58,7 +61,7 @@ pub map-from : (f g : ℕ → ℕ) (k j n : ℕ) → ((i : ℕ) → i < n → f 
 unfolding from
 map-from f g k j zero h = refl
 map-from f g k j (suc n) h =
-    ap₂ (λ (x : ℕ) (l : List ℕ). x ∷ l)
+    cons-eq
     (ap f (sym (add-zero k)) ∙ h 0 (zero-lt-suc n) ∙ ap g (add-zero j))
     (map-from f g (suc k) (suc j) n (λ i l. ap f (next k i) ∙ h (suc i) (suc-le-suc l) ∙ ap g (sym (next j i))))
 

@@ -11,14 +11,14 @@ use borrow.Author.Tests.{eqb-true, eq-eqb, ne-eqb}
 use lib.Arith.{lt-one}
 use lib.Dec.{eqb}
 use lib.Pow.{pow-pos, shr-shr, shr-lt}
-use lib.ListN.{length, getD, take, drop, length-take, drop-of-length-le, List·getD-eq-default}
-use lib.Seq.{getD-take, getD-drop, ext-getD}
+use lib.ListN.{length, getD, take, drop, set, replicate, length-take, length-set, length-replicate, drop-of-length-le, List·getD-eq-default}
+use lib.Seq.{getD-take, getD-drop, getD-set-same, getD-set-other, ext-getD}
 use Rattle.bits.specs.Xor.{_⊕_}
-use Rattle.bits.specs.Bits.{Bytes, Row, end, off, on, from, every, bytesFor, bitAt, unpack, number, pack, fillerClear, wellFormed, xorRow}
+use Rattle.bits.specs.Bits.{Bytes, Row, end, off, on, from, every, bytesFor, bitAt, unpack, number, pack, setBit, fillerClear, wellFormed, eachWith, xorRow}
 use Rattle.bits.proofs.Xor.{Digit, xor-self}
 use Rattle.bits.proofs.Xor as xor
 use Rattle.bits.proofs.Lists.{and-left, and-right, length-map-from, map-from-at, map-from-past, map-from, map-append, from-add, every-from-at, every-from-all, every-from, take-below, drop-below}
-use Rattle.bits.proofs.Bits.{bit-digit, bit-past, bit-of-byte, digit-suc, digit-next, bits-determine}
+use Rattle.bits.proofs.Bits.{bit-digit, bit-past, bit-zeros, bit-of-byte, digit-suc, digit-next, bits-determine, length-setBit, set-bit-same, set-bit-other}
 use Rattle.bits.proofs.Rows.{length-xorRow, bit-xorRow}
 
 -- lists of bits
@@ -88,7 +88,7 @@ unpack-byte s q =
     (λ i l. bit-of-byte s q i l ∙ ap (λ (k : ℕ). getD s q 0 / 2 ^ k % 2) (sym (zero-add i)))
 
 xorRow-map : (f g : ℕ → ℕ) (l : List ℕ) → xorRow (map f l) (map g l) ≡ map (λ i. f i ⊕ g i) l
-unfolding xorRow
+unfolding xorRow eachWith
 xorRow-map f g [] = refl
 xorRow-map f g (x ∷ l) = ap (_∷_ (f x ⊕ g x)) (xorRow-map f g l)
 
@@ -97,6 +97,17 @@ unfolding unpack
 unpack-xorRow n d s h =
     map-from (bitAt (xorRow d s)) (λ i. bitAt d i ⊕ bitAt s i) 0 0 n (λ i l. bit-xorRow d s (0 + i) h)
     ∙ sym (xorRow-map (bitAt d) (bitAt s) (from 0 n))
+
+pub unpack-setBit : (n : ℕ) (s : List ℕ) (i v : ℕ) → i / 8 < length s → unpack n (setBit s i v) ≡ set (unpack n s) i (v % 2)
+unpack-setBit n s i v h =
+    ext-getD 0 (unpack n (setBit s i v)) (set (unpack n s) i (v % 2)) (simp (length-set, length-unpack))
+    (λ j l. let k : j < n = rw length-unpack at l in unpack-at n (setBit s i v) j 0 k ∙ go j k (ℕ-discrete j i))
+  where
+    go : (j : ℕ) → j < n → Dec (j ≡ i) → bitAt (setBit s i v) j ≡ getD (set (unpack n s) i (v % 2)) j 0
+    go j k (yes e) =
+        let m : i < length (unpack n s) = rw (length-unpack, ← e) k in
+        rw e (set-bit-same s i v h ∙ sym (getD-set-same (unpack n s) i (v % 2) 0 m))
+    go j k (no d) = set-bit-other s i j v d ∙ sym (getD-set-other (unpack n s) i j (v % 2) 0 d ∙ unpack-at n s j 0 k)
 
 -- the number with given binary digits
 number-step : (m b x : ℕ) → b < 2 → x < 2 ^ m → b + 2 * x < 2 ^ suc m
@@ -130,6 +141,10 @@ number-digit (b ∷ e) (suc k) h =
 pub bytes-enough : (n : ℕ) → n ≤ 8 * bytesFor n
 unfolding bytesFor
 bytes-enough n = omega arith
+
+pub byte-below : (n i : ℕ) → i < n → i / 8 < bytesFor n
+unfolding bytesFor
+byte-below n i h = omega arith
 
 pub length-pack : (e : List ℕ) → length (pack e) ≡ bytesFor (length e)
 unfolding pack
@@ -251,6 +266,16 @@ module _ (n : ℕ) (s : List ℕ) where
       go : Dec (i < 8 * bytesFor n) → bitAt s i ≡ 0
       go (yes l) = clear-at n s (well-formed-clear w) i h l
       go (no l) = bit-past s i (rw (well-formed-length w) (omega arith))
+
+pub well-formed-zeros : (n : ℕ) → wellFormed n (replicate (bytesFor n) 0) ≡ true
+well-formed-zeros n =
+    well-formed n (replicate (bytesFor n) 0) (length-replicate (bytesFor n) 0)
+    (clear-all n (replicate (bytesFor n) 0) (λ i h l. bit-zeros (bytesFor n) i))
+
+pub well-formed-setBit : (n : ℕ) (s : List ℕ) (i v : ℕ) → i < n → wellFormed n s ≡ true → wellFormed n (setBit s i v) ≡ true
+well-formed-setBit n s i v h w =
+    well-formed n (setBit s i v) (length-setBit s i v ∙ well-formed-length n s w)
+    (clear-all n (setBit s i v) (λ j k l. set-bit-other s i j v (λ e. omega arith) ∙ well-formed-past n s w j k))
 
 pub well-formed-xorRow : (n : ℕ) (a b : List ℕ) → wellFormed n a ≡ true → wellFormed n b ≡ true → wellFormed n (xorRow a b) ≡ true
 well-formed-xorRow n a b wa wb =

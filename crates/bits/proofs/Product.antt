@@ -11,7 +11,7 @@ use lib.Count.{ones-step}
 use lib.Count as count
 use lib.ListN.{length, getD}
 use Rattle.bits.specs.Xor.{_⊕_}
-use Rattle.bits.specs.Bits.{Row, end, off, on, from, bytesFor, bitAt, unpack, fillerClear, xorRow, dot, rowProduct}
+use Rattle.bits.specs.Bits.{Row, end, off, on, from, bytesFor, bitAt, unpack, fillerClear, eachWith, xorRow, dot, rowProduct}
 use Rattle.bits.proofs.Xor.{Digit, low, xor-assoc, xor-self, xor-zero, zero-xor, xor-shr, xor-mod, xor-four}
 use Rattle.bits.proofs.Xor as xor
 use Rattle.bits.proofs.Lists.{map-from}
@@ -50,8 +50,7 @@ dot-append (x ∷ a) (y ∷ b) c d e = ap (_⊕_ (x * y)) (dot-append a b c d (s
 
 dot-nil : (a : List ℕ) → dot a [] ≡ 0
 unfolding dot
-dot-nil [] = refl
-dot-nil (x ∷ a) = refl
+dot-nil a = dot-comm a []
 
 dot-none : (l r : List ℕ) → dot (map (λ i. 0) l) r ≡ 0
 unfolding dot
@@ -68,7 +67,7 @@ dot-step : {x y : ℕ} → Digit x → Digit y → (z p q r : ℕ) → p ≡ q �
 dot-step {x} {y} hx hy z p q r e = ap₂ _⊕_ (digit-xor-mul hx hy z) e ∙ xor-four (x * z) (y * z) q r
 
 pub dot-xorRow : {n : ℕ} {a b : List ℕ} → Row n a → Row n b → (c : List ℕ) → dot (xorRow a b) c ≡ dot a c ⊕ dot b c
-unfolding dot xorRow
+unfolding dot xorRow eachWith
 dot-xorRow {a} {b} r s [] = dot-nil (xorRow a b) ∙ sym (ap₂ _⊕_ (dot-nil a) (dot-nil b) ∙ xor-self 0)
 dot-xorRow end end (z ∷ c) = sym (xor-self 0)
 dot-xorRow (off r) (off s) (z ∷ c) = dot-step xor.off xor.off z _ _ _ (dot-xorRow r s c)

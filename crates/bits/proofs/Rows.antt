@@ -1,57 +1,43 @@
 -- The sum of two rows, place by place, and of two rows of one workspace. Assumes nothing.
-use mathlib.Core.Path.{_≡_, refl, sym, ap, ap₂, _∙_}
+use mathlib.Core.Path.{_≡_, refl, sym, ap, _∙_}
 use mathlib.Core.Logic.{_⊎_, inl, inr, ⊎-map}
 use mathlib.Core.Bool.{Bool, true, false, _&&_, _||_, cond}
 use mathlib.Core.List.{List, [], _∷_}
-use Prim.Native.Nat.{ℕ, zero, suc, _+_, _/_, _%_, _^_, _≤_, _<_, suc-le-suc}
-use native.Mathlib.Nat.{zero-add, suc-add, suc-inj, suc-ne-zero, zero-lt-suc, le-of-suc-le-suc, not-suc-le-zero, min-le-left}
+use Prim.Native.Nat.{ℕ, zero, suc, _+_, _/_, _%_, _^_, _≤_, _<_}
+use native.Mathlib.Nat.{zero-add, suc-add, suc-inj, suc-ne-zero, le-of-suc-le-suc, not-suc-le-zero, min-le-left}
 use native.Mathlib.Omega.{arith}
 use borrow.Author.Tests.{leb-true, le-leb}
 use lib.Dec.{leb}
 use lib.ListN.{length, getD, take, drop, set, replicate, length-take}
 use Rattle.bits.specs.Xor.{_⊕_}
-use Rattle.bits.specs.Bits.{Bytes, Row, end, off, on, bitAt, xorRow, onPart, rowsApart, xorRows}
+use Rattle.bits.specs.Bits.{Bytes, Row, end, off, on, bitAt, eachWith, xorRow, onPart, rowsApart, xorRows}
 use Rattle.bits.proofs.Xor.{xor-comm, xor-assoc, xor-self, xor-zero, xor-shr, xor-mod, xor-lt}
-use Rattle.bits.proofs.Lists.{and-left, and-right, take-below, drop-below, part-same}
+use Rattle.bits.proofs.Each.{length-eachWith, eachWith-nil, eachWith-suc, eachWith-take, take-eachWith, eachWith-past}
+use Rattle.bits.proofs.Lists.{cons-eq, and-left, and-right, take-below, drop-below, part-same}
 
 pub length-xorRow : (d s : List ℕ) → length (xorRow d s) ≡ length d
 unfolding xorRow
-length-xorRow [] s = refl
-length-xorRow (x ∷ d) [] = refl
-length-xorRow (x ∷ d) (y ∷ s) = ap suc (length-xorRow d s)
+length-xorRow = length-eachWith _⊕_
 
 pub xorRow-nil : (d : List ℕ) → xorRow d [] ≡ d
 unfolding xorRow
-xorRow-nil [] = refl
-xorRow-nil (x ∷ d) = refl
+xorRow-nil = eachWith-nil _⊕_
 
--- one place more is added
 pub xorRow-suc : (d s : List ℕ) (i : ℕ) → i < length s → i < length d
     → set (xorRow d (take i s)) i (getD (xorRow d (take i s)) i 0 ⊕ getD s i 0) ≡ xorRow d (take (suc i) s)
 unfolding xorRow
-xorRow-suc d [] i h k = absurd (not-suc-le-zero h)
-xorRow-suc [] (y ∷ s) i h k = absurd (not-suc-le-zero k)
-xorRow-suc (x ∷ d) (y ∷ s) zero h k = ap (_∷_ (x ⊕ y)) (sym (xorRow-nil d))
-xorRow-suc (x ∷ d) (y ∷ s) (suc i) h k = ap (_∷_ (x ⊕ y)) (xorRow-suc d s i (le-of-suc-le-suc h) (le-of-suc-le-suc k))
+xorRow-suc = eachWith-suc _⊕_
 
--- what the second row has past the end of the first does not count
 pub xorRow-take : (d s : List ℕ) (n : ℕ) → (n < length s → length d ≤ n) → xorRow d (take n s) ≡ xorRow d s
 unfolding xorRow
-xorRow-take [] s n h = refl
-xorRow-take (x ∷ d) [] zero h = refl
-xorRow-take (x ∷ d) [] (suc n) h = refl
-xorRow-take (x ∷ d) (y ∷ s) zero h = absurd (not-suc-le-zero (h (zero-lt-suc (length s))))
-xorRow-take (x ∷ d) (y ∷ s) (suc n) h = ap (_∷_ (x ⊕ y)) (xorRow-take d s n (λ l. le-of-suc-le-suc (h (suc-le-suc l))))
+xorRow-take = eachWith-take _⊕_
 
 pub take-xorRow : (n : ℕ) (d s : List ℕ) → take n (xorRow d s) ≡ xorRow (take n d) s
 unfolding xorRow
-take-xorRow zero d s = refl
-take-xorRow (suc n) [] s = refl
-take-xorRow (suc n) (x ∷ d) [] = refl
-take-xorRow (suc n) (x ∷ d) (y ∷ s) = ap (_∷_ (x ⊕ y)) (take-xorRow n d s)
+take-xorRow = take-eachWith _⊕_
 
 pub getD-xorRow : (d s : List ℕ) (k : ℕ) → length s ≤ length d → getD (xorRow d s) k 0 ≡ getD d k 0 ⊕ getD s k 0
-unfolding xorRow
+unfolding xorRow eachWith
 getD-xorRow [] [] k h = sym (xor-self 0)
 getD-xorRow [] (y ∷ s) k h = absurd (not-suc-le-zero h)
 getD-xorRow (x ∷ d) [] k h = sym (xor-zero (getD (x ∷ d) k 0))
@@ -60,13 +46,10 @@ getD-xorRow (x ∷ d) (y ∷ s) (suc k) h = getD-xorRow d s k (le-of-suc-le-suc 
 
 getD-xorRow-past : (d s : List ℕ) (j : ℕ) → length s ≤ j → getD (xorRow d s) j 0 ≡ getD d j 0
 unfolding xorRow
-getD-xorRow-past [] s j h = refl
-getD-xorRow-past (x ∷ d) [] j h = refl
-getD-xorRow-past (x ∷ d) (y ∷ s) zero h = absurd (not-suc-le-zero h)
-getD-xorRow-past (x ∷ d) (y ∷ s) (suc j) h = getD-xorRow-past d s j (le-of-suc-le-suc h)
+getD-xorRow-past = eachWith-past _⊕_
 
 pub bytes-xorRow : (d s : List ℕ) → Bytes d → Bytes s → Bytes (xorRow d s)
-unfolding xorRow
+unfolding xorRow eachWith
 bytes-xorRow [] s hd hs k = hd k
 bytes-xorRow (x ∷ d) [] hd hs k = hd k
 bytes-xorRow (x ∷ d) (y ∷ s) hd hs zero = xor-lt 8 (hd 0) (hs 0)
@@ -81,40 +64,40 @@ bit-xorRow d s i h =
 
 -- the group's laws
 pub xorRow-comm : (a b : List ℕ) → length a ≡ length b → xorRow a b ≡ xorRow b a
-unfolding xorRow
+unfolding xorRow eachWith
 xorRow-comm [] [] e = refl
 xorRow-comm [] (y ∷ b) e = absurd (suc-ne-zero (length b) (sym e))
 xorRow-comm (x ∷ a) [] e = absurd (suc-ne-zero (length a) e)
-xorRow-comm (x ∷ a) (y ∷ b) e = ap₂ (λ (z : ℕ) (l : List ℕ). z ∷ l) (xor-comm x y) (xorRow-comm a b (suc-inj e))
+xorRow-comm (x ∷ a) (y ∷ b) e = cons-eq (xor-comm x y) (xorRow-comm a b (suc-inj e))
 
 pub xorRow-assoc : (a b c : List ℕ) → length a ≤ length b → xorRow (xorRow a b) c ≡ xorRow a (xorRow b c)
-unfolding xorRow
+unfolding xorRow eachWith
 xorRow-assoc [] b c h = refl
 xorRow-assoc (x ∷ a) [] c h = absurd (not-suc-le-zero h)
 xorRow-assoc (x ∷ a) (y ∷ b) [] h = refl
 xorRow-assoc (x ∷ a) (y ∷ b) (z ∷ c) h =
-    ap₂ (λ (n : ℕ) (l : List ℕ). n ∷ l) (xor-assoc x y z) (xorRow-assoc a b c (le-of-suc-le-suc h))
+    cons-eq (xor-assoc x y z) (xorRow-assoc a b c (le-of-suc-le-suc h))
 
 pub xorRow-self : (a : List ℕ) → xorRow a a ≡ replicate (length a) 0
-unfolding xorRow
+unfolding xorRow eachWith
 xorRow-self [] = refl
-xorRow-self (x ∷ a) = ap₂ (λ (n : ℕ) (l : List ℕ). n ∷ l) (xor-self x) (xorRow-self a)
+xorRow-self (x ∷ a) = cons-eq (xor-self x) (xorRow-self a)
 
 pub xorRow-zeros : (a : List ℕ) (n : ℕ) → xorRow a (replicate n 0) ≡ a
-unfolding xorRow
+unfolding xorRow eachWith
 xorRow-zeros [] n = refl
 xorRow-zeros (x ∷ a) zero = refl
-xorRow-zeros (x ∷ a) (suc n) = ap₂ (λ (n : ℕ) (l : List ℕ). n ∷ l) (xor-zero x) (xorRow-zeros a n)
+xorRow-zeros (x ∷ a) (suc n) = cons-eq (xor-zero x) (xorRow-zeros a n)
 
 pub xorRow-twice : (a b : List ℕ) → xorRow (xorRow a b) b ≡ a
-unfolding xorRow
+unfolding xorRow eachWith
 xorRow-twice [] b = refl
 xorRow-twice (x ∷ a) [] = refl
 xorRow-twice (x ∷ a) (y ∷ b) =
-    ap₂ (λ (n : ℕ) (l : List ℕ). n ∷ l) (xor-assoc x y y ∙ ap (_⊕_ x) (xor-self y) ∙ xor-zero x) (xorRow-twice a b)
+    cons-eq (xor-assoc x y y ∙ ap (_⊕_ x) (xor-self y) ∙ xor-zero x) (xorRow-twice a b)
 
 pub row-xorRow : {n : ℕ} {a b : List ℕ} → Row n a → Row n b → Row n (xorRow a b)
-unfolding xorRow _⊕_
+unfolding xorRow eachWith _⊕_
 row-xorRow end end = end
 row-xorRow (off a) (off b) = off (row-xorRow a b)
 row-xorRow (off a) (on b) = on (row-xorRow a b)
@@ -123,13 +106,13 @@ row-xorRow (on a) (on b) = off (row-xorRow a b)
 
 -- a row added to the part of a workspace from index a on
 pub length-addAt : (a : ℕ) (s w : List ℕ) → length (onPart a (λ d. xorRow d s) w) ≡ length w
-unfolding onPart xorRow
+unfolding onPart xorRow eachWith
 length-addAt zero s w = length-xorRow w s
 length-addAt (suc a) s [] = refl
 length-addAt (suc a) s (x ∷ w) = ap suc (length-addAt a s w)
 
 pub addAt-nil : (a : ℕ) (w : List ℕ) → onPart a (λ d. xorRow d []) w ≡ w
-unfolding onPart xorRow
+unfolding onPart xorRow eachWith
 addAt-nil zero w = xorRow-nil w
 addAt-nil (suc a) [] = refl
 addAt-nil (suc a) (x ∷ w) = ap (_∷_ x) (addAt-nil a w)
@@ -143,14 +126,14 @@ addAt-suc (suc a) s [] i h k = absurd (not-suc-le-zero k)
 addAt-suc (suc a) s (x ∷ w) i h k = rw suc-add (ap (_∷_ x) (addAt-suc a s w i h (le-of-suc-le-suc (rw suc-add at k))))
 
 pub addAt-before : (a : ℕ) (s w : List ℕ) (j : ℕ) → j < a → getD (onPart a (λ d. xorRow d s) w) j 0 ≡ getD w j 0
-unfolding onPart xorRow
+unfolding onPart xorRow eachWith
 addAt-before zero s w j h = absurd (not-suc-le-zero h)
 addAt-before (suc a) s [] j h = refl
 addAt-before (suc a) s (x ∷ w) zero h = refl
 addAt-before (suc a) s (x ∷ w) (suc j) h = addAt-before a s w j (le-of-suc-le-suc h)
 
 pub addAt-past : (a : ℕ) (s w : List ℕ) (j : ℕ) → a + length s ≤ j → getD (onPart a (λ d. xorRow d s) w) j 0 ≡ getD w j 0
-unfolding onPart xorRow
+unfolding onPart xorRow eachWith
 addAt-past zero s w j h = getD-xorRow-past w s j (rw zero-add at h)
 addAt-past (suc a) s [] j h = refl
 addAt-past (suc a) s (x ∷ w) zero h = absurd (not-suc-le-zero (rw suc-add at h))
@@ -210,7 +193,7 @@ length-xorRows n a b w = go (rowsApart n a b (length w))
 
 -- the workspace after it: the row at a, a part that lies before or past that row, and the bytes
 drop-addAt : (a : ℕ) (s w : List ℕ) → drop a (onPart a (λ d. xorRow d s) w) ≡ xorRow (drop a w) s
-unfolding onPart xorRow
+unfolding onPart xorRow eachWith
 drop-addAt zero s w = refl
 drop-addAt (suc a) s [] = refl
 drop-addAt (suc a) s (x ∷ w) = drop-addAt a s w
@@ -242,7 +225,7 @@ xorRows-other n a b w c m h = go (rowsApart n a b (length w))
     go false = refl
 
 bytes-addAt : (a : ℕ) (s w : List ℕ) → Bytes s → Bytes w → Bytes (onPart a (λ d. xorRow d s) w)
-unfolding onPart xorRow
+unfolding onPart xorRow eachWith
 bytes-addAt zero s w hs hw k = bytes-xorRow w s hw hs k
 bytes-addAt (suc a) s [] hs hw k = hw k
 bytes-addAt (suc a) s (x ∷ w) hs hw zero = hw 0

@@ -72,11 +72,15 @@ fillerClear n s = every (λ i. eqb (bitAt s i) 0) (from n (8 * bytesFor n - n))
 unfoldable pub wellFormed : ℕ → List ℕ → Bool
 wellFormed n s = eqb (length s) (bytesFor n) && fillerClear n s
 
--- d with the numbers of s added by exclusive or, from the front; where s is longer, its rest does not count
+-- f(x, y) for each x of d and y of s, from the front, as far as both go; the rest of d as it is
+unfoldable pub eachWith : (ℕ → ℕ → ℕ) → List ℕ → List ℕ → List ℕ
+eachWith f [] s = []
+eachWith f (x ∷ d) [] = x ∷ d
+eachWith f (x ∷ d) (y ∷ s) = f x y ∷ eachWith f d s
+
+-- d with s added by exclusive or
 unfoldable pub xorRow : List ℕ → List ℕ → List ℕ
-xorRow [] s = []
-xorRow (x ∷ xs) [] = x ∷ xs
-xorRow (x ∷ xs) (y ∷ ys) = (x ⊕ y) ∷ xorRow xs ys
+xorRow d s = eachWith _⊕_ d s
 
 -- the part from index a on, changed by f
 unfoldable pub onPart : ℕ → (List ℕ → List ℕ) → List ℕ → List ℕ

@@ -126,6 +126,7 @@ pub fn row_product(row: &[u8], pat: &[u8]) -> u8
     parity(acc)
 }
 
+// A byte as a usize.
 fn wide(x: u8) -> usize
     ensures { λ r. ⌜ r ≡ x ⌝ }
 {
@@ -139,7 +140,8 @@ fn parity(x: u8) -> u8
     (u32::count_ones(x as u32) & 1) as u8
 }
 
-fn smaller(a: usize, b: usize) -> usize
+// The smaller of two lengths.
+pub fn smaller(a: usize, b: usize) -> usize
     ensures { λ r. ⌜ r ≡ min a b ⌝ }
 {
     if a < b { a } else { b }

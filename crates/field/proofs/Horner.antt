@@ -93,7 +93,8 @@ polyMul-double : (k a b : ℕ) → polyMul k (a * 2) b ≡ polyMul k a b * 2
 unfolding polyMul
 polyMul-double zero a b = refl
 polyMul-double (suc k) a b =
-    ap₂ _⊕_ (sym (mul-assoc (b % 2) a 2)) (polyMul-double k (a * 2) (b / 2)) ∙ sym (xor-double (b % 2 * a) (polyMul k (a * 2) (b / 2)))
+    ap₂ _⊕_ (sym (mul-assoc (b % 2) a 2)) (polyMul-double k (a * 2) (b / 2))
+    ∙ sym (xor-double (b % 2 * a) (polyMul k (a * 2) (b / 2)))
 
 module _ (m f : ℕ) where
   reduced-add : (k : ℕ) → Additive (reduced m f k)
@@ -107,7 +108,8 @@ module _ (m f : ℕ) where
   unfolding reduced
   reduced-small zero h = refl
   reduced-small (suc k) {c} h =
-      ap (reduced m f k) (ap (λ (x : ℕ). c ⊕ x % 2 * (f * 2 ^ k)) (div-eq-of-lt wide) ∙ simp (zero-mul, xor-zero)) ∙ reduced-small k h
+      ap (reduced m f k) (ap (λ (x : ℕ). c ⊕ x % 2 * (f * 2 ^ k)) (div-eq-of-lt wide) ∙ simp (zero-mul, xor-zero))
+      ∙ reduced-small k h
     where
       wide : c < 2 ^ (m + k)
       wide = omega (arith, pow-mono {i = m} {j = m + k} (omega arith))
@@ -118,13 +120,16 @@ module _ (m f : ℕ) where
   reduced-double zero c = simp (add-zero, mul-one)
   reduced-double (suc k) c = ap (reduced m f (suc k)) same ∙ reduced-double k _
     where
+      digit : c * 2 / 2 ^ (m + suc k) ≡ c / 2 ^ (m + k)
+      digit =
+          ap (λ (x : ℕ). c * 2 / x) (ap (_^_ 2) (add-suc m k) ∙ pow-suc 2 (m + k))
+          ∙ mul-div-mul-right c (2 ^ (m + k)) (zero-lt-suc 1)
+
       same : c * 2 ⊕ c * 2 / 2 ^ (m + suc k) % 2 * (f * 2 ^ suc k) ≡ (c ⊕ c / 2 ^ (m + k) % 2 * (f * 2 ^ k)) * 2
       same =
           ap (_⊕_ (c * 2))
-          (ap₂ (λ (x y : ℕ). x % 2 * (f * y))
-          (ap (λ (x : ℕ). c * 2 / x) (ap (_^_ 2) (add-suc m k) ∙ pow-suc 2 (m + k)) ∙ mul-div-mul-right c (2 ^ (m + k)) (zero-lt-suc 1))
-          (pow-suc 2 k)
-          ∙ ap (_*_ (c / 2 ^ (m + k) % 2)) (sym (mul-assoc f (2 ^ k) 2)) ∙ sym (mul-assoc (c / 2 ^ (m + k) % 2) (f * 2 ^ k) 2))
+          (ap₂ (λ (x y : ℕ). x % 2 * (f * y)) digit (pow-suc 2 k) ∙ ap (_*_ (c / 2 ^ (m + k) % 2)) (sym (mul-assoc f (2 ^ k) 2))
+          ∙ sym (mul-assoc (c / 2 ^ (m + k) % 2) (f * 2 ^ k) 2))
           ∙ sym (xor-double c _)
 
   reduced-horner : (k b : ℕ) {a : ℕ} → a < 2 ^ m → reduced m f k (polyMul k a b) ≡ horner m f k b a
@@ -133,7 +138,8 @@ module _ (m f : ℕ) where
   reduced-horner (suc k) b {a} h =
       reduced-add (suc k) _ _
       ∙ ap₂ _⊕_ (reduced-small (suc k) (digit-lt (low b) h))
-      (ap (reduced m f (suc k)) (polyMul-double k a (b / 2)) ∙ reduced-double k _ ∙ ap (xtime m f) (reduced-horner k (b / 2) h))
+      (ap (reduced m f (suc k)) (polyMul-double k a (b / 2)) ∙ reduced-double k _
+      ∙ ap (xtime m f) (reduced-horner k (b / 2) h))
 
   pub mulMod-horner : (a b : ℕ) → mulMod m f a b ≡ horner m f m b (a % 2 ^ m)
   unfolding mulMod

@@ -1,16 +1,18 @@
 -- One computed test on the m powers 2^i, for a width m and a modulus f: squaring m times fixes each, and a list of numbers,
 -- as an additive map, takes e² + e to e but for its lowest digit. Then e² = e only for 0 and 1. Assumes nothing.
 use mathlib.Core.Path.{_≡_, refl, sym, ap, ap₂, _∙_, subst}
-use mathlib.Core.Logic.{_⊎_, inl, inr}
-use mathlib.Core.Bool.{Bool, true, false, _&&_}
+use mathlib.Core.Bool.{Bool, true, _&&_}
 use mathlib.Core.List.{List, [], _∷_}
 use Prim.Native.Nat.{ℕ, zero, suc, _*_, _/_, _%_, _^_, _<_}
-use native.Mathlib.Nat.{mod-lt, div-lt-iff-lt-mul, le-refl, pow-suc, eq-or-lt-of-le, le-of-suc-le-suc, not-suc-le-zero}
+use native.Mathlib.Nat.{mod-lt, div-lt-iff-lt-mul, le-refl, pow-suc}
 use native.Mathlib.Omega.{arith}
-use lib.Dec.{T, eqb, eqb→eq}
+use lib.Dec.{eqb}
+use borrow.Author.Tests.{eqb-true}
 use lib.Arith.{lt-one}
 use lib.Pow.{pow-pos, split}
 use Rattle.bits.specs.Xor.{_⊕_}
+use Rattle.bits.specs.Bits.{from, every}
+use Rattle.bits.proofs.Lists.{and-left, and-right, every-below-at}
 use Rattle.bits.proofs.Xor.{Digit, off, on, digit, low, xor-self, zero-xor, xor-shr, xor-shifted, xor-low, xor-mod, xor-assoc, xor-four, xor-cancel, xor-eq, differ-mul}
 use Rattle.field.specs.Field.{mulMod}
 use Rattle.field.proofs.Horner.{Additive, additive-zero, additive-digit}
@@ -69,24 +71,6 @@ module _ (m f : ℕ) where
   frobenius-add zero a b = refl
   frobenius-add (suc k) a b = ap (square m f) (frobenius-add k a b) ∙ square-add _ _
 
--- p passes at each i < k
-unfoldable pub all : (ℕ → Bool) → ℕ → Bool
-all p zero = true
-all p (suc k) = p k && all p k
-
-both : (p q : Bool) → T (p && q) → T p × T q
-both true q t = (tt, t)
-both false q t = absurd t
-
-pub all-at : (p : ℕ → Bool) (k : ℕ) → T (all p k) → (i : ℕ) → i < k → T (p i)
-unfolding all
-all-at p zero t i h = absurd (not-suc-le-zero h)
-all-at p (suc k) t i h = here (eq-or-lt-of-le (le-of-suc-le-suc h)) (all-at p k (both (p k) (all p k) t .1) i)
-  where
-    here : (i ≡ k) ⊎ (i < k) → (i < k → T (p i)) → T (p i)
-    here (inl e) r = subst (λ (j : ℕ). T (p j)) (sym e) (both (p k) (all p k) t .0)
-    here (inr l) r = r l
-
 -- m squares fix 2^i
 unfoldable pub fixes : ℕ → ℕ → ℕ → Bool
 fixes m f i = eqb (frobenius m f m (2 ^ i)) (2 ^ i)
@@ -96,23 +80,29 @@ unfoldable pub returns : ℕ → ℕ → List ℕ → ℕ → Bool
 returns m f c i = eqb (combine c (square m f (2 ^ i) ⊕ 2 ^ i)) (2 ^ i ⊕ 2 ^ i % 2)
 
 unfoldable pub test : ℕ → ℕ → List ℕ → Bool
-test m f c = all (λ i. fixes m f i && returns m f c i) m
+test m f c = every (λ i. fixes m f i && returns m f c i) (from 0 m)
 
-module _ (m f : ℕ) (c : List ℕ) (t : T (test m f c)) where
-  passed : (i : ℕ) → i < m → T (fixes m f i) × T (returns m f c i)
+module _ (m f : ℕ) (c : List ℕ) (t : test m f c ≡ true) where
+  passed : (i : ℕ) → i < m → fixes m f i && returns m f c i ≡ true
   unfolding test
-  passed i h = both (fixes m f i) (returns m f c i) (all-at (λ i. fixes m f i && returns m f c i) m t i h)
+  passed = every-below-at (λ i. fixes m f i && returns m f c i) m t
+
+  fixed : (i : ℕ) → i < m → frobenius m f m (2 ^ i) ≡ 2 ^ i
+  unfolding fixes
+  fixed i h = eqb-true _ _ (and-left (fixes m f i) (returns m f c i) (passed i h))
+
+  returned : (i : ℕ) → i < m → combine c (square m f (2 ^ i) ⊕ 2 ^ i) ≡ 2 ^ i ⊕ 2 ^ i % 2
+  unfolding returns
+  returned i h = eqb-true _ _ (and-right (fixes m f i) (returns m f c i) (passed i h))
 
   pub fermat : (a : ℕ) → a < 2 ^ m → frobenius m f m a ≡ a
-  unfolding fixes
-  fermat = agree (frobenius m f m) (λ a. a) (frobenius-add m f m) (λ a b. refl) m (λ i h. eqb→eq _ _ (passed i h .0))
+  fermat = agree (frobenius m f m) (λ a. a) (frobenius-add m f m) (λ a b. refl) m fixed
 
   back : (a : ℕ) → a < 2 ^ m → combine c (square m f a ⊕ a) ≡ a ⊕ a % 2
-  unfolding returns
   back =
       agree (λ a. combine c (square m f a ⊕ a)) (λ a. a ⊕ a % 2)
       (λ a b. ap (combine c) (ap (λ (x : ℕ). x ⊕ (a ⊕ b)) (square-add m f a b) ∙ xor-four _ _ _ _) ∙ combine-add c _ _)
-      (λ a b. ap (_⊕_ (a ⊕ b)) (xor-mod a b 1) ∙ xor-four _ _ _ _) m (λ i h. eqb→eq _ _ (passed i h .1))
+      (λ a b. ap (_⊕_ (a ⊕ b)) (xor-mod a b 1) ∙ xor-four _ _ _ _) m returned
 
   idempotent : (e : ℕ) → e < 2 ^ m → mulMod m f e e ≡ e → Digit e
   unfolding square

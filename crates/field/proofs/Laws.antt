@@ -45,7 +45,8 @@ module _ (m : ℕ) where
 
   pub mul-lt : (a b : ℕ) → mul m a b < 2 ^ m
   mul-lt a b =
-      by-width m (λ w. rw (mul-at m w) (mulMod-lt m (modulusOf m) (width-modulus m w) a b)) (λ n. rw (mul-none m n) (pow-pos m))
+      by-width m (λ w. rw (mul-at m w) (mulMod-lt m (modulusOf m) (width-modulus m w) a b))
+      (λ n. rw (mul-none m n) (pow-pos m))
 
   pub low-mul : (a b : ℕ) → mul m a (b % 2 ^ m) ≡ mul m a b
   low-mul a b = mul-comm a (b % 2 ^ m) ∙ mul-low b a ∙ mul-comm b a
@@ -152,7 +153,9 @@ module _ (m : ℕ) (w : Width m) {a : ℕ} (h : a < 2 ^ m) where
 
   recip-mul : mul m recip a ≡ power m a (2 ^ m - 1)
   unfolding recip
-  recip-mul = let e : suc (2 ^ m - 2) ≡ 2 ^ m - 1 = omega (arith, one-lt m w) in sym (power-suc m a (2 ^ m - 2)) ∙ ap (power m a) e
+  recip-mul =
+      let e : suc (2 ^ m - 2) ≡ 2 ^ m - 1 = omega (arith, one-lt m w) in
+      sym (power-suc m a (2 ^ m - 2)) ∙ ap (power m a) e
 
   fixes : mul m (mul m recip a) a ≡ a
   fixes =
@@ -204,8 +207,8 @@ module _ (m : ℕ) where
 
   pub inv-unique : (a b : ℕ) → b < 2 ^ m → mul m a b ≡ 1 → b ≡ inv m a
   inv-unique a b h e =
-      sym (mul-one m w h) ∙ ap (mul m b) (sym (found a b h e)) ∙ mul-left-comm m b a (inv m a) ∙ sym (mul-assoc m a b (inv m a))
-      ∙ ap (λ (x : ℕ). mul m x (inv m a)) e ∙ one-mul m w (inv-lt a)
+      sym (mul-one m w h) ∙ ap (mul m b) (sym (found a b h e)) ∙ mul-left-comm m b a (inv m a)
+      ∙ sym (mul-assoc m a b (inv m a)) ∙ ap (λ (x : ℕ). mul m x (inv m a)) e ∙ one-mul m w (inv-lt a)
     where
       w : Width m
       w = mul-width a b e
@@ -236,19 +239,17 @@ module _ (m : ℕ) (w : Width m) where
       below (suc a) h =
           sym (inv-unique m (suc a) (power m (suc a) (2 ^ m - 2)) (power-lt m w _ _) (power-inverse m w h (omega arith)))
 
-  -- no zero divisors
-  pub mul-eq-zero : (a b : ℕ) → a < 2 ^ m → b < 2 ^ m → mul m a b ≡ 0 → (a ≡ 0) ⊎ (b ≡ 0)
-  mul-eq-zero zero b ha hb e = inl refl
-  mul-eq-zero (suc a) b ha hb e =
-      inr
-      (sym (one-mul m w hb) ∙ ap (λ (x : ℕ). mul m x b) (sym (inv-mul ha (omega arith))) ∙ mul-assoc m (inv m (suc a)) (suc a) b
-      ∙ ap (mul m (inv m (suc a))) e ∙ mul-zero m (inv m (suc a)))
-
   pub mul-cancel : {a b c : ℕ} → a < 2 ^ m → 0 < a → b < 2 ^ m → c < 2 ^ m → mul m a b ≡ mul m a c → b ≡ c
   mul-cancel {a} {b} {c} ha p hb hc e = sym (back hb) ∙ ap (mul m (inv m a)) e ∙ back hc
     where
       back : {b : ℕ} → b < 2 ^ m → mul m (inv m a) (mul m a b) ≡ b
       back {b} h = sym (mul-assoc m (inv m a) a b) ∙ ap (λ (x : ℕ). mul m x b) (inv-mul ha p) ∙ one-mul m w h
+
+  -- no zero divisors
+  pub mul-eq-zero : (a b : ℕ) → a < 2 ^ m → b < 2 ^ m → mul m a b ≡ 0 → (a ≡ 0) ⊎ (b ≡ 0)
+  mul-eq-zero zero b ha hb e = inl refl
+  mul-eq-zero (suc a) b ha hb e =
+      inr (mul-cancel ha (omega arith) hb (pow-pos m) (e ∙ sym (mul-zero m (suc a))))
 
   pub inv-pos : {a : ℕ} → a < 2 ^ m → 0 < a → 0 < inv m a
   inv-pos {a} h p = pos-of-ne-zero (λ z. omega (arith, sym (mul-zero m a) ∙ ap (mul m a) (sym z) ∙ mul-inv h p))

@@ -47,7 +47,8 @@ module _ (m f : ℕ) (M : Modulus m f) where
   pub xtime-lt : {a : ℕ} → a < 2 ^ m → xtime m f a < 2 ^ m
   unfolding xtime
   xtime-lt {a} h =
-      let e : xtime m f a / 2 ^ m ≡ zero = xor-shr (a * 2) _ m ∙ cleared (digit (div-lt-iff-lt-mul (pow-pos m) .1 (omega arith)))
+      let d : Digit (a * 2 / 2 ^ m) = digit (div-lt-iff-lt-mul (pow-pos m) .1 (omega arith)) in
+      let e : xtime m f a / 2 ^ m ≡ zero = xor-shr (a * 2) _ m ∙ cleared d
       in omega (arith, div-lt-iff-lt-mul {x = xtime m f a} {y = 1} (pow-pos m) .0 (omega (arith, e)))
 
   pub horner-lt : (k b : ℕ) {v : ℕ} → v < 2 ^ m → horner m f k b v < 2 ^ m

@@ -1,6 +1,6 @@
 -- What a search below n finds: a number that passes, where there is one; else 0. Assumes nothing.
 use mathlib.Core.Path.{_≡_, refl, sym, ap, _∙_}
-use mathlib.Core.Logic.{_⊎_, inl, inr}
+use mathlib.Core.Logic.{⊎-elim}
 use mathlib.Core.Bool.{Bool, true, false, true≢false, cond}
 use Prim.Native.Nat.{ℕ, zero, suc, _<_}
 use native.Mathlib.Nat.{eq-or-lt-of-le, le-of-suc-le-suc, not-suc-le-zero}
@@ -19,11 +19,9 @@ module _ (p : ℕ → Bool) where
 
   pub lastBelow-passes : (n i : ℕ) → i < n → p i ≡ true → p (lastBelow n p) ≡ true
   lastBelow-passes zero i h t = absurd (not-suc-le-zero h)
-  lastBelow-passes (suc n) i h t = step (λ x. p x ≡ true) n (λ e. e) (λ e. lastBelow-passes n i (before e (eq-or-lt-of-le (le-of-suc-le-suc h))) t)
-    where
-      before : p n ≡ false → (i ≡ n) ⊎ (i < n) → i < n
-      before e (inl q) = absurd (true≢false (sym t ∙ ap p q ∙ e))
-      before e (inr l) = l
+  lastBelow-passes (suc n) i h t =
+      step (λ x. p x ≡ true) n (λ e. e)
+      (λ e. lastBelow-passes n i (⊎-elim (λ q. absurd (true≢false (sym t ∙ ap p q ∙ e))) (λ l. l) (eq-or-lt-of-le (le-of-suc-le-suc h))) t)
 
   pub lastBelow-lt : (n : ℕ) → lastBelow (suc n) p < suc n
   unfolding lastBelow

@@ -5,14 +5,16 @@ use mathlib.Core.Bool.{Bool, true, false, true≢false, cond, _&&_}
 use mathlib.Core.List.{List, [], _∷_}
 use Prim.Native.Nat.{ℕ, suc, _≤_, _<_, _^_}
 use native.Mathlib.Omega.{arith}
-use lib.Dec.{T, eqb, leb, ltb, eqb→eq, leb→le, ltb→lt}
+use lib.Dec.{eqb, leb, ltb}
 use lib.ListN.{getD, List·getD-eq-default}
 use lib.Pow.{pow-pos}
-use borrow.Author.Tests.{ltb-true, ltb-false, ne-eqb}
+use borrow.Author.Tests.{ltb-true, ltb-false, leb-true, eqb-true, ne-eqb}
 use Rattle.bits.specs.Xor.{_⊕_}
+use Rattle.bits.specs.Bits.{from, every}
+use Rattle.bits.proofs.Lists.{and-left, and-right, every-below-at}
 use Rattle.field.specs.Field.{isWidth, modulusOf, polyMul, reduced, mulMod}
 use Rattle.field.proofs.Modular.{Modulus}
-use Rattle.field.proofs.Inverses.{combine, square, frobenius, all, all-at, fixes, returns, test}
+use Rattle.field.proofs.Inverses.{combine, square, frobenius, fixes, returns, test}
 
 -- m is a width
 abbrev pub Width : ℕ → Type 0
@@ -22,18 +24,9 @@ Width m = isWidth m ≡ true
 unfoldable certificate : ℕ → List ℕ
 certificate m =
     getD
-    ([]
-    ∷ []
-    ∷ []
-    ∷ []
+    ([] ∷ [] ∷ [] ∷ []
     ∷ (6 ∷ 10 ∷ 8 ∷ 0 ∷ [])
-    ∷ []
-    ∷ []
-    ∷ []
-    ∷ []
-    ∷ []
-    ∷ []
-    ∷ []
+    ∷ [] ∷ [] ∷ [] ∷ [] ∷ [] ∷ [] ∷ []
     ∷ (72 ∷ 3088 ∷ 3090 ∷ 520 ∷ 3094 ∷ 3458 ∷ 512 ∷ 272 ∷ 3078 ∷ 0 ∷ 3490 ∷ 1444 ∷ [])
     ∷ (0 ∷ 5376 ∷ 5378 ∷ 898 ∷ 5382 ∷ 5276 ∷ 906 ∷ 280 ∷ 5398 ∷ 3324 ∷ 5308 ∷ 4110 ∷ 970 ∷ [])
     ∷ [])
@@ -46,9 +39,9 @@ isField m f = ltb 1 m && (leb (2 ^ m) f && (ltb f (2 ^ suc m) && test m f (certi
 unfoldable right : ℕ → Bool
 right m = cond (isWidth m) (isField m (modulusOf m)) (eqb (modulusOf m) 0)
 
-all-right : T (all right 14)
-unfolding all right isField certificate isWidth modulusOf test fixes returns combine frobenius square mulMod polyMul reduced _⊕_
-all-right = tt
+all-right : every right (from 0 14) ≡ true
+unfolding every from right isField certificate isWidth modulusOf test fixes returns combine frobenius square mulMod polyMul reduced _⊕_
+all-right = refl
 
 -- past the table there is no width, and the modulus is 0
 no-width : (m : ℕ) → 14 ≤ m → isWidth m ≡ false
@@ -59,38 +52,38 @@ no-modulus : (m : ℕ) → 14 ≤ m → modulusOf m ≡ 0
 unfolding modulusOf
 no-modulus m h = search List·getD-eq-default
 
-right-at : (m : ℕ) → T (right m)
+right-at : (m : ℕ) → right m ≡ true
 unfolding right
 right-at m = go (ltb m 14) refl
   where
-    go : (b : Bool) → ltb m 14 ≡ b → T (right m)
-    go true e = all-at right 14 all-right m (ltb-true m 14 e)
-    go false e = rw (no-width m (ltb-false m 14 e), no-modulus m (ltb-false m 14 e)) tt
-
-four : (p q r s : Bool) → T (p && (q && (r && s))) → T p × T q × T r × T s
-four true true true s t = (tt, tt, tt, t)
-four true true false s t = absurd t
-four true false r s t = absurd t
-four false q r s t = absurd t
+    go : (b : Bool) → ltb m 14 ≡ b → right m ≡ true
+    go true e = every-below-at right 14 all-right m (ltb-true m 14 e)
+    go false e = rw (no-width m (ltb-false m 14 e), no-modulus m (ltb-false m 14 e))
 
 module _ (m : ℕ) (w : Width m) where
-  checked : T (ltb 1 m) × T (leb (2 ^ m) (modulusOf m)) × T (ltb (modulusOf m) (2 ^ suc m)) × T (test m (modulusOf m) (certificate m))
-  unfolding right isField
-  checked = four (ltb 1 m) (leb (2 ^ m) (modulusOf m)) (ltb (modulusOf m) (2 ^ suc m)) _ (rw w at (right-at m))
+  checked : isField m (modulusOf m) ≡ true
+  unfolding right
+  checked = rw w at (right-at m)
+
+  small : leb (2 ^ m) (modulusOf m) && (ltb (modulusOf m) (2 ^ suc m) && test m (modulusOf m) (certificate m)) ≡ true
+  unfolding isField
+  small = and-right (ltb 1 m) _ checked
 
   pub width-over-one : 1 < m
-  width-over-one = ltb→lt 1 m (checked .0)
+  unfolding isField
+  width-over-one = ltb-true 1 m (and-left (ltb 1 m) _ checked)
 
   pub width-modulus : Modulus m (modulusOf m)
   width-modulus =
       record {
         pos = omega (arith, width-over-one);
-        lo = leb→le (2 ^ m) (modulusOf m) (checked .1);
-        hi = ltb→lt (modulusOf m) (2 ^ suc m) (checked .2);
+        lo = leb-true (2 ^ m) (modulusOf m) (and-left (leb (2 ^ m) (modulusOf m)) _ small);
+        hi = ltb-true (modulusOf m) (2 ^ suc m) (and-left (ltb (modulusOf m) (2 ^ suc m)) _ (and-right (leb (2 ^ m) (modulusOf m)) _ small));
       }
 
-  pub width-test : (c : List ℕ) × T (test m (modulusOf m) c)
-  width-test = (certificate m, checked .3)
+  pub width-test : (c : List ℕ) × (test m (modulusOf m) c ≡ true)
+  width-test =
+      (certificate m, and-right (ltb (modulusOf m) (2 ^ suc m)) _ (and-right (leb (2 ^ m) (modulusOf m)) _ small))
 
   pub width-narrow : m < 14
   width-narrow = go (ltb m 14) refl
@@ -109,7 +102,7 @@ by-width {P} m width none = go (isWidth m) refl
 
 pub modulus-zero : (m : ℕ) → isWidth m ≡ false → modulusOf m ≡ 0
 unfolding right
-modulus-zero m n = eqb→eq (modulusOf m) 0 (rw n at (right-at m))
+modulus-zero m n = eqb-true (modulusOf m) 0 (rw n at (right-at m))
 
 -- the code's test of the modulus r
 pub modulus-none : (m : ℕ) {r : ℕ} → r ≡ modulusOf m → r ≡ 0 → isWidth m ≡ false

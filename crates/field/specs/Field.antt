@@ -1,8 +1,8 @@
 -- Document 01, 'Field': GF(2^m) for m of 4, 12 and 13. An element is a number below 2^m whose digit of value 2^i is the
--- coefficient of z^i. Addition is exclusive or. Every operation reads the m low digits of its operands. Assumes nothing.
+-- coefficient of z^i. Addition is exclusive or. Products and inverses read the m low digits of their operands. Assumes nothing.
 use Prim.Native.Nat.{ℕ, zero, suc, _+_, _*_, _/_, _%_, _^_}
 use mathlib.Core.Bool.{Bool, cond, _||_}
-use mathlib.Core.List.{List, [], _∷_}
+use mathlib.Core.List.{[], _∷_}
 use lib.Dec.{eqb, ltb}
 use lib.ListN.{getD}
 use Rattle.bits.specs.Xor.{_⊕_}

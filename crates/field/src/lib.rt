@@ -4,6 +4,7 @@ ghost use mathlib.Core.List.{[], _∷_};
 ghost use Prim.Native.Nat.{_^_, _<_};
 ghost use mathlib.Core.Bool.{true};
 ghost use Rattle.field.specs.Field.{isWidth, modulusOf, mul, inv};
+ghost use Rattle.field.specs.Poly.{hornerEach};
 ghost use Rattle.field.specs.Answers.{elementsNumber, addOf, multiplyOf, invertOf};
 
 // What a public call answers: the element, or the number of a refusal.
@@ -74,6 +75,18 @@ pub fn inverse(m: u8, a: u16) -> u16
     }
     let mask: u16 = (1 << m) - 1;
     reciprocal(m, f, a & mask)
+}
+
+// One step of Horner's rule at each place, r[i] := r[i]·a[i] + c, as far as both go. The loop vectorises.
+pub fn horner_each(m: u8, r: &mut [u16], a: &[u16], c: u16)
+    ensures { λ _. ⌜ now (r .exit) ≡ hornerEach m c (now (r .entry)) (now (a .entry)) ⌝ }
+{
+    let n = bits::smaller(r.len(), a.len());
+    let mut i = 0;
+    while i < n {
+        r[i] = times(m, r[i], a[i]) ^ c;
+        i += 1;
+    }
 }
 
 // The number of the refusal of an element a of width m, and 0 where there is none.

@@ -2,6 +2,7 @@
 -- Assumes nothing.
 use mathlib.Core.Path.{_≡_, sym, _∙_}
 use Prim.Native.Nat.{ℕ, _≤_, _<_, _-_, _*_, _/_, _%_, _^_}
+use native.Mathlib.Nat.{le-of-suc-le-suc}
 use native.Mathlib.Omega.{arith}
 use Rattle.field.specs.Field.{modulusOf, mul}
 use Rattle.field.proofs.Horner.{horner, first, turn, last}
@@ -35,13 +36,16 @@ shr-r : tie.Need-shr-r Inv-loop μ-loop
 shr-r c = omega (arith, width-narrow _ (c .before .before .pre .0))
 
 mul-r : tie.Need-mul-r Inv-loop μ-loop
-mul-r c = record { fits = masked-lt (c .before .loop .r * 2 % 65536 / 2 ^ c .before .before .args .m) (c .before .before .fits .f .fits) }
+mul-r c =
+    let at = c .before in
+    record { fits = masked-lt (at .loop .r * 2 % 65536 / 2 ^ at .before .args .m) (at .before .fits .f .fits) }
 
 shr-r-2 : tie.Need-shr-r-2 Inv-loop μ-loop
 shr-r-2 c = omega arith
 
 mul-r-2 : tie.Need-mul-r-2 Inv-loop μ-loop
-mul-r-2 c = record { fits = masked-lt (c .before .before .args .b / 2 ^ (c .before .loop .k - 1)) (c .before .before .fits .a .fits) }
+mul-r-2 c =
+    let at = c .before in record { fits = masked-lt (at .before .args .b / 2 ^ (at .loop .k - 1)) (at .before .fits .a .fits) }
 
 loop-less : tie.Need-loop-less Inv-loop μ-loop
 loop-less c = omega arith
@@ -49,17 +53,17 @@ loop-less c = omega arith
 loop-again : tie.Need-loop-again Inv-loop μ-loop
 loop-again c =
     let at = c .before in
-    let pre = at .before .pre in (
-      omega arith,
-      step-law _ (width-narrow _ (pre .0)) _ _ (at .before .args .b) _ _ (below _ _ _ _ (pre .0) (pre .1) (pre .2) _ _ (at .loop .inv .1))
-          ∙ turn _ _ 13 _ (at .before .args .b) _ _ (c .loop-test .taken) (at .loop .inv .0) (at .loop .inv .1),
-    )
+    let pre = at .before .pre in
+    let b = at .before .args .b in
+    let r-lt = below _ _ _ b (pre .0) (pre .1) (pre .2) _ _ (at .loop .inv .1) in
+    (omega arith, step-law _ (width-narrow _ (pre .0)) _ _ b _ _ r-lt ∙ turn _ _ 13 _ b _ _ (c .loop-test .taken) (at .loop .inv .0) (at .loop .inv .1))
 
 returns : tie.Need-returns Inv-loop μ-loop
 returns c =
     let at = c .before in
     let pre = at .before .pre in
-    last _ _ 13 _ (at .before .args .b) _ _ (c .loop-test .left) (omega (arith, width-narrow _ (pre .0))) (pre .3) (at .loop .inv .1)
+    let wide = le-of-suc-le-suc (width-narrow _ (pre .0)) in
+    last _ _ 13 _ (at .before .args .b) _ _ (c .loop-test .left) wide (pre .3) (at .loop .inv .1)
     ∙ done _ _ _ _ (pre .0) (pre .1) (pre .2)
 
 pub product-spec : {M : Type 1} → statement M

@@ -33,7 +33,8 @@ module _ (m a k r : ℕ) (w : Width m) (p : 0 < k) (g : r ≡ power m a (2 ^ (k 
   grow s e =
       let n : k ≡ k + 1 - 1 = omega arith in
       let q : suc (2 ^ k - 2) ≡ 2 ^ k - 1 = omega (arith, double, pow-pos (k - 1)) in
-      ap (λ (x : ℕ). mul m x a) (e ∙ squared) ∙ sym (power-suc m a (2 ^ k - 2)) ∙ ap (power m a) q ∙ ap (λ (x : ℕ). power m a (2 ^ x - 1)) n
+      ap (λ (x : ℕ). mul m x a) (e ∙ squared) ∙ sym (power-suc m a (2 ^ k - 2)) ∙ ap (power m a) q
+      ∙ ap (λ (x : ℕ). power m a (2 ^ x - 1)) n
 
   -- the square after the last
   done : k ≤ m → m ≤ k → mul m r r ≡ inv m a
@@ -63,11 +64,9 @@ loop-less c = omega arith
 
 loop-again : tie.Need-loop-again Inv-loop μ-loop
 loop-again c =
-    let at = c .before .before .before in (
-      omega arith,
-      omega arith,
-      c .product2 .ensures ∙ grow _ _ _ _ (at .before .pre .0) (at .loop .inv .0) (at .loop .inv .2) _ (c .before .product .ensures),
-    )
+    let at = c .before .before .before in
+    let inv = at .loop .inv in
+    (omega arith, omega arith, c .product2 .ensures ∙ grow _ _ _ _ (at .before .pre .0) (inv .0) (inv .2) _ (c .before .product .ensures))
 
 product-requires-3 : tie.Need-product-requires-3 Inv-loop μ-loop
 product-requires-3 c κs =
@@ -76,8 +75,8 @@ product-requires-3 c κs =
 returns : tie.Need-returns Inv-loop μ-loop
 returns c =
     let at = c .before .before in
-    c .product3 .ensures
-    ∙ done _ _ _ _ (at .before .pre .0) (at .loop .inv .0) (at .loop .inv .2) (at .loop .inv .1) (c .before .loop-test .left)
+    let inv = at .loop .inv in
+    c .product3 .ensures ∙ done _ _ _ _ (at .before .pre .0) (inv .0) (inv .2) (inv .1) (c .before .loop-test .left)
 
 pub reciprocal-spec : {M : Type 1} → statement M
 reciprocal-spec =

@@ -35,7 +35,8 @@ returns-2 : tie.Need-returns-2
 returns-2 c =
     let at = c .before .before in
     let s = width-narrow _ (modulus-some _ (at .modulus .ensures) (c .before .if1 .left)) in
-    c .product .ensures ∙ ap₂ (mul _) (low-digits _ s (at .before .args .a)) (low-digits _ s (at .before .args .b)) ∙ mul-low _ _ _ ∙ low-mul _ _ _
+    c .product .ensures ∙ ap₂ (mul _) (low-digits _ s (at .before .args .a)) (low-digits _ s (at .before .args .b))
+    ∙ mul-low _ _ _ ∙ low-mul _ _ _
 
 pub times-spec : {M : Type 1} → statement M
 times-spec = tie.close (tie.spec modulus-requires returns shl-mask sub-mask product-requires returns-2)
