@@ -7,5 +7,6 @@ pub mod Search
 pub mod Laws
 pub mod Machine
 pub mod Guards
+pub mod Places
 pub mod Gf
 pub mod Arrays

@@ -1,15 +1,16 @@
 -- Polynomials over GF(2^m) as lists of coefficients, the lowest first. Assumes nothing.
 use Prim.Native.Nat.{ℕ}
+use mathlib.Core.Bool.{cond}
 use mathlib.Core.List.{List, [], _∷_}
 use Rattle.bits.specs.Xor.{_⊕_}
 use Rattle.bits.specs.Bits.{eachWith}
-use Rattle.field.specs.Field.{mul}
+use Rattle.field.specs.Field.{isWidth, mul}
 
 -- the value at a
 unfoldable pub value : ℕ → List ℕ → ℕ → ℕ
 value m [] a = 0
 value m (x ∷ xs) a = x ⊕ mul m a (value m xs a)
 
--- x·a + c for each x of r and a of s: one step of Horner's rule at each place
+-- x·a + c for each x of r and a of s, one step of Horner's rule at each place; r itself where m is no width
 unfoldable pub hornerEach : ℕ → ℕ → List ℕ → List ℕ → List ℕ
-hornerEach m c r s = eachWith (λ x a. mul m x a ⊕ c) r s
+hornerEach m c r s = cond (isWidth m) (eachWith (λ x a. mul m x a ⊕ c) r s) r

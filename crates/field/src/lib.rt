@@ -1,8 +1,10 @@
 // The fields GF(2^m) for m of 4, 12 and 13 (document 01, 'Field').
 ghost use mathlib.Core.Path.{_≡_};
 ghost use mathlib.Core.List.{[], _∷_};
-ghost use Prim.Native.Nat.{_^_, _<_};
+ghost use Prim.Native.Nat.{_^_, _<_, _≤_};
 ghost use mathlib.Core.Bool.{true};
+ghost use Rattle.bits.specs.Xor.{_⊕_};
+ghost use Rattle.bits.specs.Bits.{eachWith};
 ghost use Rattle.field.specs.Field.{isWidth, modulusOf, mul, inv};
 ghost use Rattle.field.specs.Poly.{hornerEach};
 ghost use Rattle.field.specs.Answers.{elementsNumber, addOf, multiplyOf, invertOf};
@@ -23,13 +25,14 @@ pub fn modulus(m: u8) -> u16
     if m < 14 { MODULI[m as usize] } else { 0 }
 }
 
-// a·b modulo f by Horner's rule from b's digit 12 down. The count is constant, so that a loop over places vectorises.
-fn product(m: u8, f: u16, a: u16, b: u16) -> u16
-    requires { ⌜ (isWidth m ≡ true) × (f ≡ modulusOf m) × (a < 2 ^ m) × (b < 2 ^ m) ⌝ }
+// a·b modulo f by Horner's rule, from b's digit n - 1 down. Scalar callers take n = m; the loop over places takes the
+// constant 13, which the compiler unrolls once the product is inlined there, so that the loop vectorises.
+fn product(m: u8, f: u16, a: u16, b: u16, n: u16) -> u16
+    requires { ⌜ (isWidth m ≡ true) × (f ≡ modulusOf m) × (a < 2 ^ m) × (b < 2 ^ m) × (m ≤ n) × (n < 14) ⌝ }
     ensures { λ r. ⌜ r ≡ mul m a b ⌝ }
 {
     let mut r: u16 = 0;
-    let mut k: u16 = 13;
+    let mut k = n;
     while 0 < k {
         k -= 1;
         let d = r << 1;
@@ -47,7 +50,7 @@ pub fn times(m: u8, a: u16, b: u16) -> u16
         return 0;
     }
     let mask: u16 = (1 << m) - 1;
-    product(m, f, a & mask, b & mask)
+    product(m, f, a & mask, b & mask, m as u16)
 }
 
 // a^(2^m - 2): the exponent has m - 1 ones and a 0 in binary.
@@ -58,11 +61,11 @@ fn reciprocal(m: u8, f: u16, a: u16) -> u16
     let mut r: u16 = 1;
     let mut k = 1;
     while k < m {
-        let s = product(m, f, r, r);
-        r = product(m, f, s, a);
+        let s = product(m, f, r, r, m as u16);
+        r = product(m, f, s, a, m as u16);
         k += 1;
     }
-    product(m, f, r, r)
+    product(m, f, r, r, m as u16)
 }
 
 // The inverse of a's m low digits in the field of width m, 0 for 0; 0 where m is no width.
@@ -77,14 +80,27 @@ pub fn inverse(m: u8, a: u16) -> u16
     reciprocal(m, f, a & mask)
 }
 
-// One step of Horner's rule at each place, r[i] := r[i]·a[i] + c, as far as both go. The loop vectorises.
+// One step of Horner's rule at each place, r[i] := r[i]·a[i] + c, as far as both go; nothing where m is no width.
 pub fn horner_each(m: u8, r: &mut [u16], a: &[u16], c: u16)
     ensures { λ _. ⌜ now (r .exit) ≡ hornerEach m c (now (r .entry)) (now (a .entry)) ⌝ }
 {
+    let f = modulus(m);
+    if f == 0 {
+        return;
+    }
+    horner_places(m, f, r, a, c);
+}
+
+// The same where m is a width and f its modulus. This loop vectorises.
+fn horner_places(m: u8, f: u16, r: &mut [u16], a: &[u16], c: u16)
+    requires { ⌜ (isWidth m ≡ true) × (f ≡ modulusOf m) ⌝ }
+    ensures { λ _. ⌜ now (r .exit) ≡ eachWith (λ x y. mul m x y ⊕ c) (now (r .entry)) (now (a .entry)) ⌝ }
+{
+    let mask: u16 = (1 << m) - 1;
     let n = bits::smaller(r.len(), a.len());
     let mut i = 0;
     while i < n {
-        r[i] = times(m, r[i], a[i]) ^ c;
+        r[i] = product(m, f, r[i] & mask, a[i] & mask, 13) ^ c;
         i += 1;
     }
 }

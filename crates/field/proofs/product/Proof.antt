@@ -13,21 +13,21 @@ use Rattle.field.proofs.Machine.{masked-lt, step-law}
 use Rattle.field.proofs.product.Statement.{statement}
 use Rattle.field.proofs.product.Tie as tie
 
-module _ (m f a b : ℕ) (w : Width m) (e : f ≡ modulusOf m) (ha : a < 2 ^ m) where
-  below : (k r : ℕ) → r ≡ horner m f (13 - k) (b / 2 ^ k) a → r < 2 ^ m
-  below k r i = rw (i, e) (horner-lt m (modulusOf m) (width-modulus m w) (13 - k) (b / 2 ^ k) ha)
+module _ (m f a b n : ℕ) (w : Width m) (e : f ≡ modulusOf m) (ha : a < 2 ^ m) where
+  below : (k r : ℕ) → r ≡ horner m f (n - k) (b / 2 ^ k) a → r < 2 ^ m
+  below k r i = rw (i, e) (horner-lt m (modulusOf m) (width-modulus m w) (n - k) (b / 2 ^ k) ha)
 
   done : horner m f m b a ≡ mul m a b
   done = rw e (sym (mul-at m w a b ∙ mulMod-as-horner m (modulusOf m) (width-modulus m w) b ha))
 
 abbrev Inv-loop : tie.InvT-loop
-Inv-loop m f a b r₀ k₀ r k = (k ≤ 13) × (r ≡ horner m f (13 - k) (b / 2 ^ k) a)
+Inv-loop m f a b n r₀ k₀ r k = (k ≤ n) × (r ≡ horner m f (n - k) (b / 2 ^ k) a)
 
 abbrev μ-loop : tie.MeasureT-loop
-μ-loop m f a b r₀ k₀ r k = k
+μ-loop m f a b n r₀ k₀ r k = k
 
 loop-holds : tie.Need-loop-holds Inv-loop μ-loop
-loop-holds c = (omega arith, first (c .args .m) (c .args .f) 13 (c .args .a) (c .args .b))
+loop-holds c = (omega arith, first (c .args .m) (c .args .f) (c .args .n) (c .args .a) (c .args .b))
 
 sub-k : tie.Need-sub-k Inv-loop μ-loop
 sub-k c = omega arith
@@ -55,16 +55,17 @@ loop-again c =
     let at = c .before in
     let pre = at .before .pre in
     let b = at .before .args .b in
-    let r-lt = below _ _ _ b (pre .0) (pre .1) (pre .2) _ _ (at .loop .inv .1) in
-    (omega arith, step-law _ (width-narrow _ (pre .0)) _ _ b _ _ r-lt ∙ turn _ _ 13 _ b _ _ (c .loop-test .taken) (at .loop .inv .0) (at .loop .inv .1))
+    let r-lt = below _ _ _ b _ (pre .0) (pre .1) (pre .2) _ _ (at .loop .inv .1) in
+    (omega arith, step-law _ (width-narrow _ (pre .0)) _ _ b _ _ r-lt ∙ turn _ _ _ _ b _ _ (c .loop-test .taken) (at .loop .inv .0) (at .loop .inv .1))
 
 returns : tie.Need-returns Inv-loop μ-loop
 returns c =
     let at = c .before in
     let pre = at .before .pre in
     let wide = le-of-suc-le-suc (width-narrow _ (pre .0)) in
-    last _ _ 13 _ (at .before .args .b) _ _ (c .loop-test .left) wide (pre .3) (at .loop .inv .1)
-    ∙ done _ _ _ _ (pre .0) (pre .1) (pre .2)
+    let enough : at .before .args .m ≤ at .before .args .n = omega arith in
+    last _ _ _ _ (at .before .args .b) _ _ (c .loop-test .left) enough (pre .3) (at .loop .inv .1)
+    ∙ done _ _ _ _ (at .before .args .n) (pre .0) (pre .1) (pre .2)
 
 pub product-spec : {M : Type 1} → statement M
 product-spec =

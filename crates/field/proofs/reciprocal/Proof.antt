@@ -6,7 +6,7 @@ use native.Mathlib.Omega.{arith}
 use borrow.Author.Needs.{needs}
 use lib.Pow.{pow-pos}
 use Rattle.field.specs.Field.{mul, power, inv}
-use Rattle.field.proofs.Table.{Width, width-modulus}
+use Rattle.field.proofs.Table.{Width, width-modulus, width-narrow}
 use Rattle.field.proofs.Laws.{mul-lt, power-zero, power-suc, power-lt, power-add, inv-power}
 use Rattle.field.proofs.reciprocal.Statement.{statement}
 use Rattle.field.proofs.reciprocal.Tie as tie
@@ -51,10 +51,13 @@ loop-holds c = (omega arith, width-modulus _ (c .pre .0) .pos, sym (power-zero _
 
 product-requires : tie.Need-product-requires Inv-loop μ-loop
 product-requires c κs =
-    let h = power-element _ _ _ _ (c .before .before .pre .0) (c .before .loop .inv .2) in search needs
+    let h = power-element _ _ _ _ (c .before .before .pre .0) (c .before .loop .inv .2) in
+    let narrow = width-narrow _ (c .before .before .pre .0) in search needs
 
 product-requires-2 : tie.Need-product-requires-2 Inv-loop μ-loop
-product-requires-2 c κs = let h = product-element _ _ _ _ (c .product .ensures) in search needs
+product-requires-2 c κs =
+    let h = product-element _ _ _ _ (c .product .ensures) in
+    let narrow = width-narrow _ (c .before .before .before .pre .0) in search needs
 
 add-k : tie.Need-add-k Inv-loop μ-loop
 add-k c = omega arith
@@ -70,7 +73,8 @@ loop-again c =
 
 product-requires-3 : tie.Need-product-requires-3 Inv-loop μ-loop
 product-requires-3 c κs =
-    let h = power-element _ _ _ _ (c .before .before .pre .0) (c .before .loop .inv .2) in search needs
+    let h = power-element _ _ _ _ (c .before .before .pre .0) (c .before .loop .inv .2) in
+    let narrow = width-narrow _ (c .before .before .pre .0) in search needs
 
 returns : tie.Need-returns Inv-loop μ-loop
 returns c =

@@ -29,7 +29,8 @@ product-requires c κs =
     let w = modulus-some _ (c .before .modulus .ensures) (c .if1 .left) in
     let low-a = low-digits-lt _ (width-narrow _ w) (c .before .before .args .a) in
     let low-b = low-digits-lt _ (width-narrow _ w) (c .before .before .args .b) in
-    (w, c .before .modulus .ensures, search needs, search needs)
+    let narrow = width-narrow _ w in
+    (w, c .before .modulus .ensures, search needs, search needs, omega arith, narrow)
 
 returns-2 : tie.Need-returns-2
 returns-2 c =

@@ -1,0 +1,26 @@
+// The field's products under C names, for the benchmark.
+ghost use mathlib.Core.Path.{_≡_};
+ghost use Rattle.field.specs.Poly.{hornerEach};
+ghost use Rattle.field_bench.specs.Chain.{chain};
+
+// b·a^n: n products, each of which waits for the one before.
+#[no_mangle]
+pub extern "C" fn bench_chain(m: u8, a: u16, b: u16, n: u32) -> u16
+    ensures { λ r. ⌜ r ≡ chain n m a b ⌝ }
+{
+    let mut r = b;
+    let mut k = n;
+    while 0 < k {
+        k -= 1;
+        r = field::times(m, r, a);
+    }
+    r
+}
+
+// One step of Horner's rule at each place.
+#[no_mangle]
+pub extern "C" fn bench_horner(m: u8, r: &mut [u16], a: &[u16], c: u16)
+    ensures { λ _. ⌜ now (r .exit) ≡ hornerEach m c (now (r .entry)) (now (a .entry)) ⌝ }
+{
+    field::horner_each(m, r, a, c);
+}
