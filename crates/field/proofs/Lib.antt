@@ -5,6 +5,7 @@ pub mod Inverses
 pub mod Table
 pub mod Search
 pub mod Laws
+pub mod Numbers
 pub mod Machine
 pub mod Guards
 pub mod Places
