@@ -194,7 +194,7 @@ module _ (K : Field) where
         unit p q = let R = series in simp (ring, R)
 
     -- separable, or with a square factor, by induction on a bound N of the degree
-    separable? : (N t : ℕ) → t < N → (g : Series F) → Monic L t g → Separable L t g ⊎ Square g
+    pub separable? : (N t : ℕ) → t < N → (g : Series F) → Monic L t g → Separable L t g ⊎ Square g
     separable? zero t k g m = absurd (omega arith)
     separable? (suc N) zero k g m = inl (constant-separable g m)
     separable? (suc N) (suc t) k g m = go (λ j l e me. separable? N j (omega arith) e me) (degree K (suc t) (D L g) (below-D L (suc t) g (m .below)))
