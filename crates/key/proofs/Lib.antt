@@ -1,0 +1,5 @@
+pub mod Examples
+pub mod Conditions
+pub mod Shapes
+pub mod Parse
+pub mod Accepted

@@ -1,0 +1,1 @@
+// Polynomials and registers. So far their definitions, in specs/, and laws about them, in proofs/.

@@ -1,0 +1,83 @@
+-- The three demands as statements about the definitions: for every station, call, pattern, code word and list of calls.
+-- Assumes nothing.
+use Prim.Native.Nat.{ℕ, suc, _≤_}
+use mathlib.Core.Path.{_≡_}
+use mathlib.Core.Logic.{_↔_}
+use mathlib.Core.Bool.{true}
+use mathlib.Core.List.{List, []}
+use mathlib.Core.Option.{Option, none, some}
+use lib.ListN.{length}
+use Rattle.bits.specs.Bits.{Bytes, Row, bytesFor, unpack, pack, ones, wellFormed, xorRow}
+use Rattle.field.specs.Numbers.{First, Clear}
+use Rattle.key.specs.Keys.{Key, keyNumber}
+use Rattle.code.specs.Code.{inCode}
+use Rattle.code.specs.PublicKey.{Matrix, publicKey}
+use Rattle.code.specs.Lock.{locked}
+use Rattle.decoder.specs.Reading.{opening}
+use Rattle.station.specs.Station.{empty, loaded, published, Station, fresh, heldBy, capsuleBits, over, Result}
+use Rattle.station.specs.Calls.{Call, load, publish, open-capsule, read-word, drop-key, conditionsOf, step, run, answered}
+use Rattle.station.specs.Ledger.{Ledger, blank, ledgerAfter, expected}
+
+-- the buffer that a call writes to
+unfoldable pub outputOf : Call → List ℕ
+outputOf (load file) = []
+outputOf (publish out work) = out
+outputOf (open-capsule capsule out) = out
+outputOf (read-word word out) = out
+outputOf drop-key = []
+
+-- Demand 1: a number only where its condition is the first that holds, and then nothing changes; none where none holds.
+pub record Refuses (s : Station) (c : Call) : Type 0 where
+  pub number : (n : ℕ) → step s c .number ≡ suc n → First (conditionsOf (heldBy s) c) (suc n)
+  pub accepts : step s c .number ≡ 0 → Clear (conditionsOf (heldBy s) c)
+  pub station : (n : ℕ) → step s c .number ≡ suc n → step s c .station ≡ s
+  pub output : (n : ℕ) → step s c .number ≡ suc n → step s c .output ≡ outputOf c
+
+abbrev pub Demand1 : Type 0
+Demand1 = (s : Station) (c : Call) → Refuses s c
+
+-- Demand 2: under a key that load accepts and its public key, lock then open gives the pattern back, and the other way round.
+pub record RoundTrips (k : Key) (rows : Matrix) : Type 0 where
+  pub locked-opened : (e : List ℕ) → Row (k .n) e → ones e ≡ k .t → opening k (locked rows e) ≡ some e
+  pub opened-locked : (capsule e : List ℕ) → Bytes capsule → wellFormed (capsuleBits k) capsule ≡ true
+      → opening k (unpack (capsuleBits k) capsule) ≡ some e → pack (locked rows e) ≡ capsule
+
+abbrev pub Demand2 : Type 0
+Demand2 = (k : Key) (rows : Matrix) → keyNumber k ≡ 0 → publicKey k ≡ some rows → RoundTrips k rows
+
+-- the pattern e has exactly t ones and locks to the capsule
+pub record Locks (k : Key) (rows : Matrix) (capsule e : List ℕ) : Type 0 where
+  pub row : Row (k .n) e
+  pub weight : ones e ≡ k .t
+  pub same : locked rows e ≡ unpack (capsuleBits k) capsule
+
+-- the word and a code word differ exactly in the places of e, at most t
+pub record Differs (k : Key) (word e : List ℕ) : Type 0 where
+  pub row : Row (k .n) e
+  pub weight : ones e ≤ k .t
+  pub code : inCode k (xorRow (unpack (k .n) word) e) ≡ true
+
+-- refused with this number exactly when no pattern is P; else the only such pattern is written, and its ones are counted
+pub record Decides (P : List ℕ → Type 0) (refusal : ℕ) (out : List ℕ) (r : Result) : Type 0 where
+  pub refuses : (r .number ≡ refusal) ↔ ((e : List ℕ) → P e → ⊥)
+  pub only : (r .number ≡ refusal → ⊥) → r .number ≡ 0
+  pub writes : r .number ≡ 0 → (e : List ℕ) × P e × (r .output ≡ over (pack e) out) × (r .count ≡ ones e) × ((d : List ℕ) → P d → d ≡ e)
+
+-- the key that a station holds, or none
+unfoldable pub keyHeld : Station → Option Key
+keyHeld s = elim (s .state) [ empty ↦ none | loaded ↦ some (s .key) | published ↦ some (s .key) ]
+
+-- Demand 3, after one list of calls: the key, each call's number, and any open or read made next.
+pub record After (calls : List Call) (s : Station) (l : Ledger) : Type 0 where
+  pub key : keyHeld s ≡ l .key
+  pub numbers : answered fresh calls ≡ expected blank calls
+  pub opening : (k : Key) → l .key ≡ some k → l .mark ≡ true → (rows : Matrix) × (publicKey k ≡ some rows) × ((capsule out : List ℕ)
+      → wellFormed (capsuleBits k) capsule ≡ true → bytesFor (k .n) ≤ length out
+      → Decides (Locks k rows capsule) 13 out (step s (open-capsule capsule out)))
+  pub reading : (k : Key) (word out : List ℕ) → l .key ≡ some k
+      → wellFormed (k .n) word ≡ true → bytesFor (k .n) ≤ length out
+      → Decides (Differs k word) 14 out (step s (read-word word out))
+
+-- Demand 3: one claim about every list of calls from a fresh station.
+abbrev pub AfterEveryList : Type 0
+AfterEveryList = (calls : List Call) → After calls (run fresh calls) (ledgerAfter blank calls)

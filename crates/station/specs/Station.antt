@@ -1,0 +1,157 @@
+-- Document 01, 'Station': the conditions of the five calls, and what each hands back, on every station, argument and buffer.
+-- Assumes nothing.
+use Prim.Native.Nat.{ℕ, zero, suc, _-_, _*_}
+use mathlib.Core.Bool.{Bool, true, false, not}
+use mathlib.Core.List.{List, [], _∷_, _++_}
+use mathlib.Core.Option.{Option, none, some}
+use lib.Dec.{eqb, ltb}
+use lib.ListN.{length, drop}
+use Rattle.bits.specs.Bits.{bytesFor, unpack, pack, ones, fillerClear}
+use Rattle.field.specs.Numbers.{firstOf}
+use Rattle.key.specs.Keys.{Key, parse, fileConditions, keyNumber}
+use Rattle.code.specs.PublicKey.{publicKey, dependent, written}
+use Rattle.decoder.specs.Reading.{reading, opening}
+
+pub data State : Type 0 where
+  empty loaded published : State
+
+-- a state and the key that is kept; an empty station keeps the key of no size
+pub record Station : Type 0 where
+  pub state : State
+  pub key : Key
+
+unfoldable pub noKey : Key
+noKey = record { m = 0; n = 0; t = 0; support = []; g = [] }
+
+-- a fresh station is empty
+unfoldable pub fresh : Station
+fresh = record { state = empty; key = noKey }
+
+-- What the numbers look at besides a call's arguments: whether 21, 25 and 24 hold, and the key.
+pub record Held : Type 0 where
+  pub missing : Bool
+  pub unsound : Bool
+  pub unpublished : Bool
+  pub key : Key
+
+unfoldable pub isEmpty : State → Bool
+isEmpty empty = true
+isEmpty loaded = false
+isEmpty published = false
+
+unfoldable pub isUnpublished : State → Bool
+isUnpublished empty = true
+isUnpublished loaded = true
+isUnpublished published = false
+
+unfoldable pub heldBy : Station → Held
+heldBy s =
+    let bad : Bool = not (eqb (keyNumber (s .key)) 0) in
+    record { missing = isEmpty (s .state); unsound = bad; unpublished = isUnpublished (s .state); key = s .key }
+
+-- the bits of a capsule
+unfoldable pub capsuleBits : Key → ℕ
+capsuleBits k = k .m * k .t
+
+-- the pattern that is found, and whether none is
+unfoldable pub found : Option (List ℕ) → List ℕ
+found none = []
+found (some e) = e
+
+unfoldable pub isNone : Option (List ℕ) → Bool
+isNone none = true
+isNone (some e) = false
+
+-- 22, then 1 to 7 of the key file
+unfoldable pub loadConditions : Held → List ℕ → List (Bool × ℕ)
+loadConditions h file = (not (h .missing), 22) ∷ fileConditions file
+
+-- 21, 25, 10, 11: once they have passed, the workspace's contents are free
+unfoldable pub publishChecks : Held → List ℕ → List ℕ → List (Bool × ℕ)
+publishChecks h out work =
+    (h .missing, 21) ∷
+    (h .unsound, 25) ∷
+    (ltb (length out) (capsuleBits (h .key) * bytesFor (h .key .n - capsuleBits (h .key))), 10) ∷
+    (ltb (length work) (capsuleBits (h .key) * bytesFor (h .key .n)), 11) ∷ []
+
+-- and 23
+unfoldable pub publishConditions : Held → List ℕ → List ℕ → List (Bool × ℕ)
+publishConditions h out work = publishChecks h out work ++ ((dependent (h .key), 23) ∷ [])
+
+-- 21, 25, 24, 8, 9, 10, 13
+unfoldable pub openConditions : Held → List ℕ → List ℕ → List (Bool × ℕ)
+openConditions h capsule out =
+    (h .missing, 21) ∷
+    (h .unsound, 25) ∷
+    (h .unpublished, 24) ∷
+    (not (eqb (length capsule) (bytesFor (capsuleBits (h .key)))), 8) ∷
+    (not (fillerClear (capsuleBits (h .key)) capsule), 9) ∷
+    (ltb (length out) (bytesFor (h .key .n)), 10) ∷
+    (isNone (opening (h .key) (unpack (capsuleBits (h .key)) capsule)), 13) ∷ []
+
+-- 21, 25, 8, 9, 10, 14
+unfoldable pub readConditions : Held → List ℕ → List ℕ → List (Bool × ℕ)
+readConditions h word out =
+    (h .missing, 21) ∷
+    (h .unsound, 25) ∷
+    (not (eqb (length word) (bytesFor (h .key .n))), 8) ∷
+    (not (fillerClear (h .key .n) word), 9) ∷
+    (ltb (length out) (bytesFor (h .key .n)), 10) ∷
+    (isNone (reading (h .key) (unpack (h .key .n) word)), 14) ∷ []
+
+-- 21
+unfoldable pub dropConditions : Held → List (Bool × ℕ)
+dropConditions h = (h .missing, 21) ∷ []
+
+-- What a call hands back: the station, its number (0: accepted), the output buffer, the number of ones, and whether
+-- the contents of publish's workspace are free; else it is unchanged.
+pub record Result : Type 0 where
+  pub station : Station
+  pub number : ℕ
+  pub output : List ℕ
+  pub count : ℕ
+  pub free : Bool
+
+-- the bytes from the output's start; bytes beyond keep their contents
+unfoldable pub over : List ℕ → List ℕ → List ℕ
+over bytes out = bytes ++ drop (length bytes) out
+
+-- a refusal returns its number and changes nothing
+unfoldable pub unless : ℕ → Station → List ℕ → Result → Result
+unless zero s out r = r
+unless (suc n) s out r = record { station = s; number = suc n; output = out; count = 0; free = r .free }
+
+unfoldable pub loadOf : Station → List ℕ → Result
+loadOf s file =
+    unless (firstOf (loadConditions (heldBy s) file)) s []
+    (record { station = record { state = loaded; key = parse file }; number = 0; output = []; count = 0; free = false })
+
+unfoldable pub publishOf : Station → List ℕ → List ℕ → Result
+publishOf s out work =
+    unless (firstOf (publishConditions (heldBy s) out work)) s out
+    (record {
+      station = record { state = published; key = s .key };
+      number = 0;
+      output = over (written (publicKey (s .key))) out;
+      count = 0;
+      free = eqb (firstOf (publishChecks (heldBy s) out work)) 0;
+    })
+
+-- the pattern e written, and the ones counted in it
+unfoldable pub gives : Station → List ℕ → List ℕ → Result
+gives s e out = record { station = s; number = 0; output = over (pack e) out; count = ones e; free = false }
+
+unfoldable pub openOf : Station → List ℕ → List ℕ → Result
+openOf s capsule out =
+    unless (firstOf (openConditions (heldBy s) capsule out)) s out
+    (gives s (found (opening (s .key) (unpack (capsuleBits (s .key)) capsule))) out)
+
+unfoldable pub readOf : Station → List ℕ → List ℕ → Result
+readOf s word out =
+    unless (firstOf (readConditions (heldBy s) word out)) s out
+    (gives s (found (reading (s .key) (unpack (s .key .n) word))) out)
+
+unfoldable pub dropOf : Station → Result
+dropOf s =
+    unless (firstOf (dropConditions (heldBy s))) s []
+    (record { station = fresh; number = 0; output = []; count = 0; free = false })
