@@ -2,7 +2,7 @@
 use Prim.Native.Nat.{ℕ, suc, _<_}
 use mathlib.Core.Path.{_≡_, refl, subst}
 use mathlib.Core.Bool.{Bool, true, false, _&&_}
-use mathlib.Core.List.{List, [], _∷_}
+use mathlib.Core.List.{List, [], _∷_, _++_}
 use native.Mathlib.Omega.{arith}
 use lib.Dec.{ltb}
 use borrow.Author.Tests.{ltb-true}
@@ -42,3 +42,19 @@ clear-of (c ∷ cs) p e = go (c .0) (c .1) (clear-of cs (and-right (ltb 0 (c .1)
     go : (b : Bool) (k : ℕ) → (firstOf cs ≡ 0 → Clear cs) → 0 < k → firstOf ((b, k) ∷ cs) ≡ 0 → Clear ((b, k) ∷ cs)
     go true k ih h e = absurd (omega arith)
     go false k ih h e = Numbers.later (ih e)
+
+-- 0 of a list with a numbered condition in front: that does not hold, and the others give 0
+pub first-clear : (b : Bool) (n : ℕ) (cs : List (Bool × ℕ)) → firstOf ((b, suc n) ∷ cs) ≡ 0 → (b ≡ false) × (firstOf cs ≡ 0)
+unfolding firstOf
+first-clear true n cs e = absurd (omega arith)
+first-clear false n cs e = (refl, e)
+
+-- conditions of which none holds leave the number to those behind them
+pub first-append : (cs ds : List (Bool × ℕ)) → numbered cs ≡ true → firstOf cs ≡ 0 → firstOf (cs ++ ds) ≡ firstOf ds
+unfolding firstOf numbered
+first-append [] ds p e = refl
+first-append (c ∷ cs) ds p e = go (c .0) (c .1) (first-append cs ds (and-right (ltb 0 (c .1)) (numbered cs) p)) (ltb-true 0 (c .1) (and-left (ltb 0 (c .1)) (numbered cs) p)) e
+  where
+    go : (b : Bool) (k : ℕ) → (firstOf cs ≡ 0 → firstOf (cs ++ ds) ≡ firstOf ds) → 0 < k → firstOf ((b, k) ∷ cs) ≡ 0 → firstOf ((b, k) ∷ (cs ++ ds)) ≡ firstOf ds
+    go true k ih h e = absurd (omega arith)
+    go false k ih h e = ih e

@@ -16,7 +16,7 @@ use Rattle.field.proofs.Table.{Width}
 use Rattle.poly.specs.Polynomials.{hasSquare}
 use Rattle.key.specs.Shapes.{inLimits}
 use Rattle.key.specs.Keys.{Key, distinct, goppaAt, conditions, keyNumber}
-use Rattle.key.proofs.Conditions.{first-clear}
+use Rattle.field.proofs.Numbers.{first-clear}
 use Rattle.key.proofs.Shapes.{Limits, limits}
 
 -- elements of a list, and 0 past its end, are below 2^m

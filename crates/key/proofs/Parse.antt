@@ -10,7 +10,7 @@ use Rattle.bits.specs.Bits.{from}
 use Rattle.bits.proofs.Lists.{cons-eq, map-from, length-map-from}
 use Rattle.field.specs.Numbers.{firstOf}
 use Rattle.key.specs.Keys.{Key, pair, elements, parse, twoBytes, fileOf, conditions, fileConditions, keyNumber}
-use Rattle.key.proofs.Conditions.{first-clear}
+use Rattle.field.proofs.Numbers.{first-clear}
 
 two-back : (x : ℕ) → x % 256 + 256 * (x / 256) ≡ x
 two-back x = omega arith

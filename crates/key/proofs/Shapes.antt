@@ -11,7 +11,8 @@ use Rattle.bits.proofs.Lists.{and-left, and-right, every-below-at}
 use Rattle.field.specs.Field.{isWidth}
 use Rattle.field.proofs.Table.{Width}
 use Rattle.key.specs.Shapes.{inLimits, shapes, shapeNumber, shapeAt}
-use Rattle.key.proofs.Conditions.{first-clear, or-false}
+use Rattle.field.proofs.Numbers.{first-clear}
+use Rattle.key.proofs.Conditions.{or-false}
 
 -- a width, and within the limits
 unfoldable pub isShape : ℕ × ℕ × ℕ → Bool

@@ -1,1 +1,7 @@
 pub mod Table
+pub mod StepLaws
+pub mod LedgerLaws
+pub mod Demand1
+pub mod Agreement
+pub mod Patterns
+pub mod Theorem

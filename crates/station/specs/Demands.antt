@@ -3,18 +3,17 @@
 use Prim.Native.Nat.{ℕ, suc, _≤_}
 use mathlib.Core.Path.{_≡_}
 use mathlib.Core.Logic.{_↔_}
-use mathlib.Core.Bool.{true}
-use mathlib.Core.List.{List, []}
+use mathlib.Core.Bool.{true, false}
+use mathlib.Core.List.{List, [], flatMap}
 use mathlib.Core.Option.{Option, none, some}
-use lib.ListN.{length}
-use Rattle.bits.specs.Bits.{Bytes, Row, bytesFor, unpack, pack, ones, wellFormed, xorRow}
+use lib.ListN.{length, take}
+use Rattle.bits.specs.Bits.{Bytes, Row, bytesFor, unpack, pack, ones, weight, wellFormed, xorRow}
 use Rattle.field.specs.Numbers.{First, Clear}
 use Rattle.key.specs.Keys.{Key, keyNumber}
 use Rattle.code.specs.Code.{inCode}
 use Rattle.code.specs.PublicKey.{Matrix, publicKey}
-use Rattle.code.specs.Lock.{locked}
-use Rattle.decoder.specs.Reading.{opening}
-use Rattle.station.specs.Station.{empty, loaded, published, Station, fresh, heldBy, capsuleBits, over, Result}
+use Rattle.code.specs.Lock.{locked, lock}
+use Rattle.station.specs.Station.{State, empty, loaded, published, Station, fresh, heldBy, capsuleBits, over, Result}
 use Rattle.station.specs.Calls.{Call, load, publish, open-capsule, read-word, drop-key, conditionsOf, step, run, answered}
 use Rattle.station.specs.Ledger.{Ledger, blank, ledgerAfter, expected}
 
@@ -26,21 +25,33 @@ outputOf (open-capsule capsule out) = out
 outputOf (read-word word out) = out
 outputOf drop-key = []
 
--- Demand 1: a number only where its condition is the first that holds, and then nothing changes; none where none holds.
+-- Demand 1: a number only where its condition is the first that holds, and then nothing changes, the workspace under 23
+-- aside; none where none holds.
 pub record Refuses (s : Station) (c : Call) : Type 0 where
   pub number : (n : ℕ) → step s c .number ≡ suc n → First (conditionsOf (heldBy s) c) (suc n)
   pub accepts : step s c .number ≡ 0 → Clear (conditionsOf (heldBy s) c)
   pub station : (n : ℕ) → step s c .number ≡ suc n → step s c .station ≡ s
   pub output : (n : ℕ) → step s c .number ≡ suc n → step s c .output ≡ outputOf c
+  pub work : (n : ℕ) → step s c .number ≡ suc n → (suc n ≡ 23 → ⊥) → step s c .free ≡ false
 
 abbrev pub Demand1 : Type 0
 Demand1 = (s : Station) (c : Call) → Refuses s c
 
--- Demand 2: under a key that load accepts and its public key, lock then open gives the pattern back, and the other way round.
+-- a station in a state with a key
+unfoldable pub at : State → Key → Station
+at state k = record { state = state; key = k }
+
+-- Demand 2, under an accepted key and its public key: publish writes T; lock then open gives the pattern back, and open then
+-- lock the capsule, byte for byte.
 pub record RoundTrips (k : Key) (rows : Matrix) : Type 0 where
-  pub locked-opened : (e : List ℕ) → Row (k .n) e → ones e ≡ k .t → opening k (locked rows e) ≡ some e
-  pub opened-locked : (capsule e : List ℕ) → Bytes capsule → wellFormed (capsuleBits k) capsule ≡ true
-      → opening k (unpack (capsuleBits k) capsule) ≡ some e → pack (locked rows e) ≡ capsule
+  pub publishes : (out work : List ℕ) → step (at loaded k) (publish out work) .number ≡ 0
+      → step (at loaded k) (publish out work) .output ≡ over (flatMap pack rows) out
+  pub locked-opened : (pattern out : List ℕ) → Bytes pattern → wellFormed (k .n) pattern ≡ true → weight (k .n) pattern ≡ k .t
+      → bytesFor (k .n) ≤ length out
+      → (step (at published k) (open-capsule (lock (k .m) (k .n) (k .t) (flatMap pack rows) pattern) out) .number ≡ 0)
+      × (step (at published k) (open-capsule (lock (k .m) (k .n) (k .t) (flatMap pack rows) pattern) out) .output ≡ over pattern out)
+  pub opened-locked : (capsule out : List ℕ) → Bytes capsule → step (at published k) (open-capsule capsule out) .number ≡ 0
+      → lock (k .m) (k .n) (k .t) (flatMap pack rows) (take (bytesFor (k .n)) (step (at published k) (open-capsule capsule out) .output)) ≡ capsule
 
 abbrev pub Demand2 : Type 0
 Demand2 = (k : Key) (rows : Matrix) → keyNumber k ≡ 0 → publicKey k ≡ some rows → RoundTrips k rows
