@@ -1,4 +1,6 @@
-pub mod Examples
 pub mod Laws
 pub mod Squares
-pub mod Register
+pub mod Steps
+pub mod Answers
+pub mod RegisterLaws
+pub mod Examples

@@ -1,1 +1,4 @@
-// Polynomials and registers. So far their definitions, in specs/, and laws about them, in proofs/.
+// Registers (document 004's Figure 1) and polynomials over GF(2^m).
+mod register;
+
+pub use register::Registered;

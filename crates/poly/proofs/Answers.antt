@@ -1,0 +1,68 @@
+-- The number of a refusal, by the tests of the code, and the answer that follows from it. Assumes nothing.
+use mathlib.Core.Path.{_≡_, refl, sym, ap, _∙_}
+use mathlib.Core.Bool.{Bool, true, false, not, cond}
+use mathlib.Core.List.{List}
+use Prim.Native.Nat.{ℕ, zero, suc, _≤_, _<_, _^_}
+use native.Mathlib.Omega.{arith}
+use native.Mathlib.Decide.{decLt}
+use borrow.Author.Tests.{lt-ltb, le-ltb, ltb-true, ltb-false}
+use lib.Dec.{ltb}
+use lib.ListN.{length, getD, replicate, List·getD-eq-default}
+use lib.Pow.{pow-pos}
+use Rattle.bits.specs.Bits.{every}
+use Rattle.bits.proofs.Lists.{every-at}
+use Rattle.field.specs.Numbers.{firstOf}
+use Rattle.field.specs.Field.{isWidth, isElement}
+use Rattle.field.proofs.Table.{Width}
+use Rattle.field.proofs.Arrays.{Elements}
+use Rattle.poly.specs.Register.{Register, longest, register, registerNumber}
+use Rattle.poly.specs.Registered.{registered, registeredOf}
+use Rattle.poly.specs.declared.register.Registered.{Registered}
+
+module _ (m : ℕ) (s : List ℕ) where
+  pub number-no-width : isWidth m ≡ false → registerNumber m s ≡ 1
+  unfolding registerNumber firstOf
+  number-no-width n = rw n
+
+  pub number-long : Width m → 256 < length s → registerNumber m s ≡ 2
+  unfolding registerNumber firstOf longest
+  number-long w h = rw (w, lt-ltb 256 (length s) h)
+
+  pub number-element : Width m → length s ≤ 256 → every (isElement m) s ≡ false → registerNumber m s ≡ 4
+  unfolding registerNumber firstOf longest
+  number-element w h e = rw (w, le-ltb 256 (length s) h, e)
+
+  pub number-none : Width m → length s ≤ 256 → every (isElement m) s ≡ true → registerNumber m s ≡ 0
+  unfolding registerNumber firstOf longest
+  number-none w h e = rw (w, le-ltb 256 (length s) h, e)
+
+  -- accepted: the width, the length and every element are right
+  pub accepted : registerNumber m s ≡ 0 → Width m × (length s ≤ 256) × (every (isElement m) s ≡ true)
+  unfolding registerNumber firstOf longest
+  accepted = go (isWidth m) (ltb 256 (length s)) (every (isElement m) s) refl refl refl
+    where
+      go : (w l e : Bool) → isWidth m ≡ w → ltb 256 (length s) ≡ l → every (isElement m) s ≡ e
+          → _≡_ {A = ℕ} (cond (not w) 1 (cond l 2 (cond (not e) 4 0))) 0 → Width m × (length s ≤ 256) × (every (isElement m) s ≡ true)
+      go false l e p q r z = absurd (omega arith)
+      go true true e p q r z = absurd (omega arith)
+      go true false false p q r z = absurd (omega arith)
+      go true false true p q r z = (p, ltb-false 256 (length s) q, r)
+
+  pub every-elements : every (isElement m) s ≡ true → Elements m s
+  unfolding isElement
+  every-elements e k = elim (decLt k (length s)) [
+    | yes h ↦ ltb-true (getD s k 0) (2 ^ m) (every-at (isElement m) s e k 0 h)
+    | no h ↦ rw (List·getD-eq-default s 0 {n = k} (omega arith)) (pow-pos m)
+  ]
+
+  -- the answers
+  pub refused : (n : ℕ) → n ≡ registerNumber m s → (n ≡ 0 → ⊥)
+      → _≡_ {A = Registered} record { refused = n; length = 0; c = replicate 257 0 } (registeredOf m s)
+  unfolding registeredOf registered longest
+  refused zero e h = absurd (h refl)
+  refused (suc n) e h = ap (λ (k : ℕ). registered k (register m s)) e
+
+  pub found : (r : Register) → registerNumber m s ≡ 0 → r ≡ register m s
+      → _≡_ {A = Registered} record { refused = 0; length = r .l; c = r .c } (registeredOf m s)
+  unfolding registeredOf registered
+  found r e h = ap (registered 0) h ∙ ap (λ (k : ℕ). registered k (register m s)) (sym e)

@@ -1,0 +1,163 @@
+-- What the register's loops compute, a step at a time. Assumes nothing.
+use mathlib.Core.Path.{_≡_, refl, sym, ap, _∙_}
+use mathlib.Core.Bool.{true, false, _&&_}
+use mathlib.Core.List.{List, [], _∷_, _++_, map}
+use Prim.Native.Nat.{ℕ, zero, suc, _+_, _-_, _*_, _^_, _≤_, _<_}
+use native.Mathlib.Nat.{sub-zero}
+use native.Mathlib.Omega.{arith}
+use native.Mathlib.Decide.{decLt}
+use native.Mathlib.Numerals.{add-one}
+use borrow.Author.Tests.{eq-eqb, ne-eqb, lt-ltb, le-ltb}
+use lib.Dec.{ltb}
+use lib.ListN.{length, getD, take, drop, set, replicate, length-replicate, length-append, drop-of-length-le}
+use lib.Seq.{drop-cons, take-at, getD-append-add}
+use Rattle.bits.specs.Xor.{_⊕_}
+use Rattle.bits.specs.Bits.{from, every, eachWith, xorRow}
+use Rattle.bits.proofs.Xor.{xor-zero, xor-assoc}
+use Rattle.bits.proofs.Lists.{cons-eq}
+use Rattle.bits.proofs.Rows.{xorRow-suc, xorRow-take}
+use Rattle.field.specs.Field.{isElement, mul, inv}
+use Rattle.field.specs.Poly.{hornerEach}
+use Rattle.field.proofs.Table.{Width}
+use Rattle.field.proofs.Laws.{mul-comm}
+use Rattle.field.proofs.Places.{hornerEach-width}
+use Rattle.poly.specs.Polynomials.{sum}
+use Rattle.poly.specs.Register.{Register, start, discrepancy, corrected, turn, turns, register}
+
+-- the test of the elements from the place i on
+module _ (m : ℕ) (s : List ℕ) (i : ℕ) where
+  at-place : i < length s → every (isElement m) (drop i s) ≡ ltb (getD s i 0) (2 ^ m) && every (isElement m) (drop (i + 1) s)
+  unfolding every isElement
+  at-place h = rw (add-one, drop-cons s i 0 h)
+
+  pub element-passed : i < length s → getD s i 0 < 2 ^ m → every (isElement m) (drop (i + 1) s) ≡ every (isElement m) (drop i s)
+  element-passed h e = sym (at-place h ∙ ap (λ b. b && every (isElement m) (drop (i + 1) s)) (lt-ltb _ _ e))
+
+  pub element-refused : i < length s → 2 ^ m ≤ getD s i 0 → every (isElement m) (drop i s) ≡ false
+  element-refused h e = at-place h ∙ ap (λ b. b && every (isElement m) (drop (i + 1) s)) (le-ltb _ _ e)
+
+  pub elements-end : length s ≤ i → every (isElement m) (drop i s) ≡ true
+  unfolding every
+  elements-end h = rw (drop-of-length-le s h)
+
+-- the term of the place k in the discrepancy
+abbrev pub term : ℕ → List ℕ → Register → ℕ → ℕ → ℕ
+term m s r n k = mul m (getD (r .c) k 0) (getD s (n - k) 0)
+
+pub sum-nil : sum [] ≡ 0
+unfolding sum
+sum-nil = refl
+
+pub sum-cons : (x : ℕ) (xs : List ℕ) → sum (x ∷ xs) ≡ x ⊕ sum xs
+unfolding sum
+sum-cons x xs = refl
+
+-- d, with the terms from i to l
+module _ (m : ℕ) (s : List ℕ) (r : Register) (n : ℕ) where
+  unfoldable pub rest : ℕ → ℕ → ℕ
+  rest d i = d ⊕ sum (map (term m s r n) (from i (r .l + 1 - i)))
+
+  pub rest-start : rest (getD s n 0) 1 ≡ discrepancy m s r n
+  unfolding rest discrepancy
+  rest-start = let e : r .l + 1 - 1 ≡ r .l = omega arith in rw e
+
+  pub rest-step : (d i : ℕ) → i ≤ r .l → rest (d ⊕ term m s r n i) (i + 1) ≡ rest d i
+  unfolding rest from
+  rest-step d i h =
+      let e : r .l + 1 - i ≡ suc (r .l + 1 - (i + 1)) = omega arith in
+      rw (e, add-one i, sum-cons) (xor-assoc d _ _)
+
+  pub rest-none : (d i : ℕ) → r .l < i → rest d i ≡ d
+  unfolding rest from
+  rest-none d i h = let e : r .l + 1 - i ≡ 0 = omega arith in rw (e, sum-nil) (xor-zero d)
+
+-- c + x^y·p, with the first places done
+zeros-same : (c : List ℕ) (y : ℕ) → xorRow c (replicate y 0) ≡ c
+unfolding xorRow eachWith
+zeros-same [] y = refl
+zeros-same (x ∷ c) zero = refl
+zeros-same (x ∷ c) (suc y) = cons-eq (xor-zero x) (zeros-same c y)
+
+module _ (c p : List ℕ) (y : ℕ) where
+  unfoldable pub partly : ℕ → List ℕ
+  partly i = xorRow c (take i (replicate y 0 ++ p))
+
+  pub partly-start : partly y ≡ c
+  unfolding partly
+  partly-start = rw (take-at (replicate y 0) p y (length-replicate y 0)) (zeros-same c y)
+
+  pub partly-step : (i : ℕ) → y ≤ i → i - y < length p → i < length c → set (partly i) i (getD (partly i) i 0 ⊕ getD p (i - y) 0) ≡ partly (i + 1)
+  unfolding partly
+  partly-step i a h k =
+      let e : y + (i - y) ≡ i = omega arith in
+      let l : length {A = ℕ} (replicate y 0) ≡ y = length-replicate y 0 in
+      let z : getD (replicate y 0 ++ p) i 0 ≡ getD p (i - y) 0 =
+      ap (λ (j : ℕ). getD (replicate y 0 ++ p) j 0) (sym (ap (λ (j : ℕ). j + (i - y)) l ∙ e)) ∙ getD-append-add (replicate y 0) p (i - y) 0 in
+      ap (λ (v : ℕ). set (partly i) i (getD (partly i) i 0 ⊕ v)) (sym z)
+      ∙ xorRow-suc c (replicate y 0 ++ p) i (omega (arith, length-append (replicate y 0) p)) k
+      ∙ ap (λ (j : ℕ). xorRow c (take j (replicate y 0 ++ p))) (sym (add-one i))
+
+  pub partly-all : (i : ℕ) → length c ≤ i → partly i ≡ xorRow c (replicate y 0 ++ p)
+  unfolding partly
+  partly-all i h = xorRow-take c (replicate y 0 ++ p) i (λ _. h)
+
+-- f·b, over all places at once
+scaled : (m f n : ℕ) (b : List ℕ) → length b ≤ n → eachWith (λ x y. mul m x y ⊕ 0) b (replicate n f) ≡ map (mul m f) b
+unfolding eachWith
+scaled m f n [] h = refl
+scaled m f zero (x ∷ b) h = absurd (omega arith)
+scaled m f (suc n) (x ∷ b) h = cons-eq (xor-zero _ ∙ mul-comm m x f) (scaled m f n b (omega arith))
+
+pub corrected-by : (m d : ℕ) (r : Register) (i f n : ℕ) (p : List ℕ) → Width m → i ≡ inv m (r .d) → f ≡ mul m d i → length (r .b) ≤ n
+    → p ≡ hornerEach m 0 (r .b) (replicate n f) → xorRow (r .c) (replicate (r .y) 0 ++ p) ≡ corrected m r d
+unfolding corrected
+corrected-by m d r i f n p w ei ef h ep =
+    ap (λ (q : List ℕ). xorRow (r .c) (replicate (r .y) 0 ++ q))
+    (ep ∙ hornerEach-width m 0 (r .b) (replicate n f) w ∙ scaled m f n (r .b) h ∙ ap (λ (g : ℕ). map (mul m g) (r .b)) (ef ∙ ap (mul m d) ei))
+
+-- the three cases of a turn, with c for the corrected polynomial
+module _ (m d n : ℕ) (r : Register) where
+  pub turn-skip : d ≡ 0 → turn m d n r ≡ record { c = r .c; l = r .l; b = r .b; d = r .d; y = r .y + 1 }
+  unfolding turn
+  turn-skip e = rw (turn, eq-eqb d 0 e)
+
+  pub turn-fix : {c : List ℕ} → c ≡ corrected m r d → (d ≡ 0 → ⊥) → n < 2 * r .l
+      → turn m d n r ≡ record { c = c; l = r .l; b = r .b; d = r .d; y = r .y + 1 }
+  unfolding turn
+  turn-fix f e h = rw (f, turn, ne-eqb d 0 e, lt-ltb n (2 * r .l) h)
+
+  pub turn-grow : {c : List ℕ} → c ≡ corrected m r d → (d ≡ 0 → ⊥) → 2 * r .l ≤ n
+      → turn m d n r ≡ record { c = c; l = n + 1 - r .l; b = r .c; d = d; y = 1 }
+  unfolding turn
+  turn-grow f e h = rw (f, turn, ne-eqb d 0 e, le-ltb n (2 * r .l) h)
+
+  -- l and y stay small
+  pub turn-small : (t : Register) → t ≡ turn m d n r → r .l ≤ n → r .y ≤ n + 1 → (t .l ≤ n + 1) × (t .y ≤ n + 1 + 1)
+  turn-small t f h k = rw f (elim (decLt 0 d) [
+    | no e ↦ rw (turn-skip (omega arith)) (omega arith, omega arith)
+    | yes e ↦ elim (decLt n (2 * r .l)) [
+      | yes q ↦ rw (turn-fix refl (λ z. omega arith) q) (omega arith, omega arith)
+      | no q ↦ rw (turn-grow refl (λ z. omega arith) (omega arith)) (omega arith, omega arith)
+    ]
+  ])
+
+pub start-small : (r : Register) → r ≡ start → (r .l ≤ 0) × (r .y ≤ 1)
+unfolding start
+start-small r e = rw e (omega arith, omega arith)
+
+-- the turns that are left, from n on
+module _ (m : ℕ) (s : List ℕ) (n : ℕ) (r : Register) where
+  pub turns-start : n ≡ 0 → r ≡ start → turns m s (length s - n) n r ≡ register m s
+  unfolding register
+  turns-start e h = rw (e, h) (ap (λ (k : ℕ). turns m s k 0 start) (sub-zero (length s)))
+
+  pub turns-none : length s ≤ n → turns m s (length s - n) n r ≡ r
+  unfolding turns
+  turns-none h = let e : length s - n ≡ 0 = omega arith in rw e
+
+  pub turns-step : (d : ℕ) (t : Register) → d ≡ discrepancy m s r n → t ≡ turn m d n r → n < length s
+      → turns m s (length s - (n + 1)) (n + 1) t ≡ turns m s (length s - n) n r
+  unfolding turns
+  turns-step d t h k l =
+      let e : length s - n ≡ suc (length s - (n + 1)) = omega arith in
+      rw (e, k, h)

@@ -1,0 +1,71 @@
+-- The loop's invariant: the elements before i are below 2^m, so that those from i on decide. Assumes nothing.
+use mathlib.Core.Path.{_≡_, refl, sym, _∙_}
+use Prim.Native.Nat.{_-_, _^_, _≤_, _<_}
+use native.Mathlib.Omega.{arith}
+use borrow.Author.Needs.{needs}
+use lib.ListN.{length, drop, getD}
+use Rattle.bits.specs.Bits.{every}
+use Rattle.field.specs.Field.{isElement}
+use Rattle.field.proofs.Table.{width-narrow}
+use Rattle.field.proofs.Machine.{one-shl}
+use Rattle.poly.proofs.Steps.{element-passed, element-refused, elements-end}
+use Rattle.poly.proofs.register.elements.Statement.{statement}
+use Rattle.poly.proofs.register.elements.Tie as tie
+
+abbrev Inv-loop : tie.InvT-loop
+Inv-loop m s top i₀ i = (i ≤ length s) × (every (isElement m) (drop i s) ≡ every (isElement m) s)
+
+abbrev μ-loop : tie.MeasureT-loop
+μ-loop m s top i₀ i = length s - i
+
+shl-top : tie.Need-shl-top Inv-loop μ-loop
+shl-top c = omega (arith, width-narrow _ (c .pre))
+
+loop-holds : tie.Need-loop-holds Inv-loop μ-loop
+loop-holds c = (omega arith, refl)
+
+mul-if1 : tie.Need-mul-if1 Inv-loop μ-loop
+mul-if1 c = search needs
+
+shared-slice-read-if1 : tie.Need-shared-slice-read-if1 Inv-loop μ-loop
+shared-slice-read-if1 c = search needs
+
+returns : tie.Need-returns Inv-loop μ-loop
+returns c =
+    let l = c .before .before .before .loop in
+    let b = c .before .before .before .before in
+    let h : 2 ^ b .args .m ≤ getD (b .args .s .now) (l .i) 0 = omega (arith, one-shl _ (width-narrow _ (b .pre))) in
+    sym (element-refused (b .args .m) (b .args .s .now) (l .i) (omega arith) h) ∙ l .inv .1
+
+add-i : tie.Need-add-i Inv-loop μ-loop
+add-i c = search needs
+
+loop-less : tie.Need-loop-less Inv-loop μ-loop
+loop-less c = search needs
+
+loop-again : tie.Need-loop-again Inv-loop μ-loop
+loop-again c =
+    let l = c .before .before .before .loop in
+    let b = c .before .before .before .before in
+    let h : getD (b .args .s .now) (l .i) 0 < 2 ^ b .args .m = omega (arith, one-shl _ (width-narrow _ (b .pre))) in
+    (omega arith, element-passed (b .args .m) (b .args .s .now) (l .i) (omega arith) h ∙ l .inv .1)
+
+returns-2 : tie.Need-returns-2 Inv-loop μ-loop
+returns-2 c =
+    let a = c .before .before .args in sym (elements-end (a .m) (a .s .now) (c .before .loop .i) (omega arith)) ∙ c .before .loop .inv .1
+
+pub elements-spec : {M : Type 1} → statement M
+elements-spec =
+    tie.close
+    (tie.spec
+    Inv-loop
+    μ-loop
+    shl-top
+    loop-holds
+    mul-if1
+    shared-slice-read-if1
+    returns
+    add-i
+    loop-less
+    loop-again
+    returns-2)
