@@ -19,7 +19,11 @@ use Rattle.station.specs.Calls.{open-capsule, read-word, step}
 use Rattle.station.specs.Ledger.{Ledger, blank}
 use Rattle.station.specs.Demands.{Locks, Differs, Decides, AfterEveryList}
 use Rattle.station.proofs.Agreement.{stationOf, Agree, nothing, held, marked, sound-held, agree-run, agree-numbers, agree-key}
-use Rattle.station.proofs.Patterns.{differ, reading-sound, reading-complete, opening-sound, opening-complete}
+use Rattle.station.proofs.Patterns.{reading-sound, reading-complete, opening-sound, opening-complete}
+
+-- 0 and 1 are different
+differ : {A : Type 0} → _≡_ {A = ℕ} 0 1 → A
+differ e = absurd (omega arith)
 
 -- An answer that gives what a search found, unless it found none, decides.
 module _ (P : List ℕ → Type 0) (o : Option (List ℕ)) (sound : (e : List ℕ) → o ≡ some e → P e) (complete : o ≡ none → (e : List ℕ) → P e → ⊥)

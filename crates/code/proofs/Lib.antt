@@ -1,0 +1,5 @@
+pub mod Examples
+pub mod Kernel
+pub mod Parity
+pub mod PublicKey
+pub mod Identity

@@ -1,0 +1,115 @@
+-- Reading and opening, by what they find: sound, complete, and the pattern itself where it is the only one. Assumes nothing.
+use mathlib.Core.Path.{_≡_, refl, sym, ap, ap₂, _∙_}
+use mathlib.Core.Bool.{true, _&&_}
+use mathlib.Core.List.{List, []}
+use mathlib.Core.Option.{none, some}
+use Prim.Native.Nat.{ℕ, zero, suc, _≤_}
+use native.Mathlib.Nat.{zero-add}
+use native.Mathlib.Omega.{arith}
+use lib.Dec.{eqb, leb}
+use lib.ListN.{replicate}
+use borrow.Author.Tests.{eqb-true, eq-eqb, leb-true, le-leb}
+use Rattle.bits.specs.Bits.{Row, ones, xorRow}
+use Rattle.bits.proofs.Lists.{and-left, and-right}
+use Rattle.bits.proofs.Rows.{xorRow-zeros}
+use Rattle.poly.specs.Polynomials.{same}
+use Rattle.poly.proofs.Laws.{same-eq, eq-same}
+use Rattle.key.specs.Keys.{Key}
+use Rattle.code.specs.Code.{inCode}
+use Rattle.code.specs.PublicKey.{Matrix, publicKey}
+use Rattle.code.specs.Lock.{locked}
+use Rattle.decoder.specs.Search.{firstRow}
+use Rattle.decoder.specs.Reading.{corrects, reading, opens, opening}
+use Rattle.decoder.proofs.Search.{search-sound, search-none, search-only, search-nothing, zeros-first}
+
+ones-zeros : (n : ℕ) → ones (replicate n 0) ≡ 0
+unfolding ones
+ones-zeros zero = refl
+ones-zeros (suc n) = zero-add (ones (replicate n 0)) ∙ ones-zeros n
+
+-- a pattern of n bits with at most t ones that leads from w into the code
+pub record Corrects (k : Key) (w e : List ℕ) : Type 0 where
+  pub bits : Row (k .n) e
+  pub few : ones e ≤ k .t
+  pub code : inCode k (xorRow w e) ≡ true
+
+-- a pattern of n bits with exactly t ones that locks to the capsule s
+pub record Opens (k : Key) (rows : Matrix) (s e : List ℕ) : Type 0 where
+  pub bits : Row (k .n) e
+  pub count : ones e ≡ k .t
+  pub locks : locked rows e ≡ s
+
+module _ (k : Key) (w : List ℕ) where
+  corrects-true : {e : List ℕ} → Corrects k w e → corrects k w e ≡ true
+  unfolding corrects
+  corrects-true {e} c = ap₂ _&&_ (le-leb (ones e) (k .t) (c .few)) (c .code)
+
+  true-corrects : {e : List ℕ} → Row (k .n) e → corrects k w e ≡ true → Corrects k w e
+  unfolding corrects
+  true-corrects {e} r h =
+      record {
+        bits = r;
+        few = leb-true (ones e) (k .t) (and-left (leb (ones e) (k .t)) (inCode k (xorRow w e)) h);
+        code = and-right (leb (ones e) (k .t)) (inCode k (xorRow w e)) h;
+      }
+
+  pub reading-sound : (e : List ℕ) → reading k w ≡ some e → Corrects k w e
+  unfolding reading
+  reading-sound e h = let f = search-sound (corrects k w) {n = k .n} {x = e} h in true-corrects (f .0) (f .1)
+
+  pub reading-complete : reading k w ≡ none → (e : List ℕ) → Corrects k w e → ⊥
+  unfolding reading
+  reading-complete h e c = search-none (corrects k w) h e (c .bits) (corrects-true c)
+
+  pub reading-only : (e : List ℕ) → Corrects k w e → ((d : List ℕ) → Corrects k w d → d ≡ e) → reading k w ≡ some e
+  unfolding reading
+  reading-only e c u = search-only (corrects k w) e (c .bits) (corrects-true c) (λ d r h. u d (true-corrects r h))
+
+  pub reading-nothing : ((e : List ℕ) → Corrects k w e → ⊥) → reading k w ≡ none
+  unfolding reading
+  reading-nothing u = search-nothing (corrects k w) (λ e r h. u e (true-corrects r h))
+
+  -- a code word is read with no ones
+  pub reading-code : inCode k w ≡ true → reading k w ≡ some (replicate (k .n) 0)
+  unfolding reading corrects
+  reading-code c =
+      zeros-first (corrects k w) (k .n)
+      (ap₂ _&&_ (le-leb (ones (replicate (k .n) 0)) (k .t) (omega (arith, ones-zeros (k .n))))
+      (ap (inCode k) (xorRow-zeros w (k .n)) ∙ c))
+
+-- opening under the public key
+module _ (k : Key) (rows : Matrix) (s : List ℕ) where
+  opens-true : {e : List ℕ} → Opens k rows s e → opens (k .t) rows s e ≡ true
+  unfolding opens
+  opens-true {e} o = ap₂ _&&_ (eq-eqb (ones e) (k .t) (o .count)) (rw (o .locks) (eq-same s s refl))
+
+  true-opens : {e : List ℕ} → Row (k .n) e → opens (k .t) rows s e ≡ true → Opens k rows s e
+  unfolding opens
+  true-opens {e} r h =
+      record {
+        bits = r;
+        count = eqb-true (ones e) (k .t) (and-left (eqb (ones e) (k .t)) (same (locked rows e) s) h);
+        locks = same-eq (locked rows e) s (and-right (eqb (ones e) (k .t)) (same (locked rows e) s) h);
+      }
+
+  opening-at : publicKey k ≡ some rows → opening k s ≡ firstRow (opens (k .t) rows s) (k .n) []
+  unfolding opening
+  opening-at p = rw (p, opening)
+
+  pub opening-sound : publicKey k ≡ some rows → (e : List ℕ) → opening k s ≡ some e → Opens k rows s e
+  opening-sound p e h =
+      let f = search-sound (opens (k .t) rows s) {n = k .n} {x = e} (sym (opening-at p) ∙ h) in true-opens (f .0) (f .1)
+
+  pub opening-complete : publicKey k ≡ some rows → opening k s ≡ none → (e : List ℕ) → Opens k rows s e → ⊥
+  opening-complete p h e o = search-none (opens (k .t) rows s) (sym (opening-at p) ∙ h) e (o .bits) (opens-true o)
+
+  pub opening-only : publicKey k ≡ some rows → (e : List ℕ) → Opens k rows s e → ((d : List ℕ) → Opens k rows s d → d ≡ e) → opening k s ≡ some e
+  opening-only p e o u = opening-at p ∙ search-only (opens (k .t) rows s) e (o .bits) (opens-true o) (λ d r h. u d (true-opens r h))
+
+  pub opening-nothing : publicKey k ≡ some rows → ((e : List ℕ) → Opens k rows s e → ⊥) → opening k s ≡ none
+  opening-nothing p u = opening-at p ∙ search-nothing (opens (k .t) rows s) (λ e r h. u e (true-opens r h))
+
+-- without a public key nothing opens
+pub opening-none : (k : Key) (s : List ℕ) → publicKey k ≡ none → opening k s ≡ none
+unfolding opening
+opening-none k s p = rw (p, opening)
