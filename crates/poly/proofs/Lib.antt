@@ -1,6 +1,11 @@
+pub mod Examples
 pub mod Laws
-pub mod Squares
 pub mod Steps
 pub mod Answers
 pub mod RegisterLaws
-pub mod Examples
+pub mod Product
+pub mod SquareSearch
+pub mod Coefficients
+pub mod Combination
+pub mod Euclid
+pub mod Ideal

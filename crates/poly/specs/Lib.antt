@@ -1,3 +1,4 @@
 pub mod Polynomials
 pub mod Register
 pub mod Registered
+pub mod SquareTest

@@ -1,4 +1,6 @@
 // Registers (document 004's Figure 1) and polynomials over GF(2^m).
 mod register;
+mod square;
 
 pub use register::Registered;
+pub use square::has_square;
