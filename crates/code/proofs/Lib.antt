@@ -3,3 +3,4 @@ pub mod Kernel
 pub mod Parity
 pub mod PublicKey
 pub mod Identity
+pub mod LockLaws

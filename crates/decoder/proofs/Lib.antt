@@ -1,3 +1,6 @@
 pub mod Examples
 pub mod Search
 pub mod Sanity
+pub mod Words
+pub mod Distance
+pub mod Uniqueness

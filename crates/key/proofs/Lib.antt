@@ -1,5 +1,15 @@
 pub mod Examples
-pub mod Conditions
+pub mod Numbers
 pub mod Shapes
+pub mod Positions
+pub mod Limits
 pub mod Parse
 pub mod Accepted
+pub mod Goppa
+pub mod Scan
+pub mod Seen
+pub mod Values
+pub mod Order
+pub mod Conditions
+pub mod Filled
+pub mod Files

@@ -12,7 +12,7 @@ use Rattle.field.specs.Field.{isWidth}
 use Rattle.field.proofs.Table.{Width}
 use Rattle.key.specs.Shapes.{inLimits, shapes, shapeNumber, shapeAt}
 use Rattle.field.proofs.Numbers.{first-clear}
-use Rattle.key.proofs.Conditions.{or-false}
+use Rattle.key.proofs.Numbers.{or-false}
 
 -- a width, and within the limits
 unfoldable pub isShape : ℕ × ℕ × ℕ → Bool

@@ -1,1 +1,5 @@
-// Shapes, key files and keys. So far their definitions, in specs/, and laws about them, in proofs/.
+// Shapes, key files and keys (document 01, 'Keys').
+pub mod checks;
+pub mod file;
+pub mod kept;
+pub mod shape;

@@ -26,7 +26,7 @@ use Rattle.poly.specs.declared.square.Pair.{Pair}
 use Rattle.poly.specs.Polynomials.{monic, hasSquare}
 use Rattle.poly.specs.SquareTest.{loaded, derivative, started, lowered, swapped, quotient, reduced, euclid}
 use Rattle.poly.proofs.Product.{monic-lead, poly-monic}
-use Rattle.poly.proofs.SquareSearch.{separable-none, none-separable}
+use Rattle.poly.proofs.SquareSearch.{hasSquare-separable, separable-hasSquare}
 use Rattle.poly.proofs.Coefficients.{padded-at, length-loaded, length-derivative, derivative-poly, derivative-elements, loaded-poly, loaded-elements, added-elements, length-added, added-poly}
 use Rattle.poly.proofs.Combination.{Combination, first, swap, add, change}
 use Rattle.poly.proofs.Euclid.{Low, by-step, Side, Top, top-nonzero}
@@ -98,6 +98,7 @@ module _ (m : ℕ) (W : Width m) (g : List ℕ) where
           let n : length g + 1 - 1 ≡ length g = omega arith in
           ap (λ (k : ℕ). getD (loaded g) k 0) n ∙ padded-at (monic g) (128 - length g) (length g) ∙ monic-lead g
 
+  -- the three kinds of step
   kept-low : (p : Pair) → Kept p → 0 < p .db → Low p → Kept (lowered p)
   kept-low p k h z = record {
     side-a = k .side-a;
@@ -129,6 +130,7 @@ module _ (m : ℕ) (W : Width m) (g : List ℕ) where
     d-of = change L k h (i .d-of);
   }
 
+  -- a reduced by b: a + c·x^y·b with y = da - db
   module _ (p : Pair) (k : Kept p) (h : 0 < p .db) (n : ¬ Low p) (l : p .db ≤ p .da) where
     A : Series F
     A = poly m (p .a)
@@ -152,19 +154,22 @@ module _ (m : ℕ) (W : Width m) (g : List ℕ) where
     cancel : c ⊗ B (p .db - 1) ≡ A (p .da - 1)
     unfolding A B c
     cancel =
+        let b = top-nonzero m (p .b) (p .db) (k .side-b .elements) (record { some = h; nonzero = n }) in
         ap (λ x. x ⊗ B (p .db - 1)) (val-mul m _ _ ∙ ap (times m (A (p .da - 1))) (val-inv m _))
-        ∙ L .mul-assoc _ _ _ ∙ ap (λ x. A (p .da - 1) ⊗ x) (inv-mul (gf m W) (B (p .db - 1)) (top-nonzero m (p .b) (p .db) (k .side-b .elements) (record { some = h; nonzero = n })))
-        ∙ L .mul-one _
+        ∙ L .mul-assoc _ _ _ ∙ ap (λ x. A (p .da - 1) ⊗ x) (inv-mul (gf m W) (B (p .db - 1)) b) ∙ L .mul-one _
 
     multiple-below : Below L (p .da) (factor ⊠ B)
     unfolding factor B y
-    multiple-below i b = ap (λ x. x i) (shift-mul L y (C c) B) ∙ below-shift L y (p .db) (C c ⊠ B) (below-scale L c (k .side-b .below)) i (omega arith)
+    multiple-below i b =
+        ap (λ x. x i) (shift-mul L y (C c) B)
+        ∙ below-shift L y (p .db) (C c ⊠ B) (below-scale L c (k .side-b .below)) i (omega arith)
 
     multiple-top : (factor ⊠ B) (p .da - 1) ≡ A (p .da - 1)
     unfolding factor B y
     multiple-top =
         let e : p .da - 1 ≡ y + (p .db - 1) = omega arith in
-        ap (λ x. x (p .da - 1)) (shift-mul L y (C c) B) ∙ ap (shift L y (C c ⊠ B)) e ∙ shift-at L y (C c ⊠ B) (p .db - 1) ∙ C-at L c B (p .db - 1) ∙ cancel
+        ap (λ x. x (p .da - 1)) (shift-mul L y (C c) B) ∙ ap (shift L y (C c ⊠ B)) e ∙ shift-at L y (C c ⊠ B) (p .db - 1)
+        ∙ C-at L c B (p .db - 1) ∙ cancel
 
     sum : poly m (reduced m p .a) ≡ A ⊞ factor ⊠ B
     unfolding A B factor y c
@@ -188,7 +193,9 @@ module _ (m : ℕ) (W : Width m) (g : List ℕ) where
       };
       side-b = k .side-b;
       top = inr (record { some = h; nonzero = n });
-      ideal = subst (λ x. Ideal x (poly m (p .b))) (sym sum) (ideal-change factor (y + 1, below-shift L y 1 (C c) (below-C L c)) (k .ideal));
+      ideal =
+          subst (λ x. Ideal x (poly m (p .b))) (sym sum)
+          (ideal-change factor (y + 1, below-shift L y 1 (C c) (below-C L c)) (k .ideal));
     }
 
   pub kept-step : (p : Pair) → Kept p → 0 < p .db → Kept (euclid m p)
@@ -230,6 +237,7 @@ module _ (m : ℕ) (W : Width m) (g : List ℕ) where
     unfolding common lead degree-last
     common-monic = monic-scaled (gf m W) degree-last
 
+    -- a constant is left
     separable : p .da < 2 → Separable L (length g) G
     unfolding common last
     separable h =
@@ -285,12 +293,13 @@ module _ (m : ℕ) (W : Width m) (g : List ℕ) where
         none : rest ≡ O
         none = monic-multiple L rest common-monic poly-rest (subst (Below L (p .da - 1)) unit (λ i l. below-C L 𝟙 i (omega arith)))
 
+    -- two coefficients or more are left exactly where a square divides g
     pub finished : Elements m g → leb 2 (p .da) ≡ hasSquare m g
     finished e = elim (decLt (p .da) 2) [
-      | yes h ↦ lt-leb 2 (p .da) h ∙ sym (none-separable m W g e (separable h))
+      | yes h ↦ lt-leb 2 (p .da) h ∙ sym (separable-hasSquare m W g e (separable h))
       | no h ↦ (let l : 2 ≤ p .da = omega arith in le-leb 2 (p .da) l ∙ sym (found l (hasSquare m g) refl))
     ]
       where
         found : 2 ≤ p .da → (b : Bool) → hasSquare m g ≡ b → hasSquare m g ≡ true
         found l true f = f
-        found l false f = absurd (not-separable l (separable-none m W g e f))
+        found l false f = absurd (not-separable l (hasSquare-separable m W g e f))

@@ -11,7 +11,6 @@ use lib.ListN.{length, getD, length-append, List·getD-append, List·getD-eq-def
 use lib.Seq.{getD-append-seam}
 use Rattle.bits.specs.Bits.{from}
 use Rattle.bits.proofs.Xor.{xor-lt}
-use Rattle.bits.proofs.Lists.{length-map-from, map-from-at}
 use Rattle.algebra.proofs.Series.{Series, Operations, operations}
 use Rattle.algebra.proofs.Poly.{Monic, below-mul}
 use Rattle.algebra.proofs.Sum as A
@@ -22,7 +21,6 @@ use Rattle.field.proofs.Laws.{mul-lt, one-lt}
 use Rattle.field.proofs.Gf.{Elem, val, val-elem, val-zero, val-xor, val-mul, val-one, plus, laws}
 use Rattle.field.proofs.Arrays.{Elements, poly, array, length-array, array-at, poly-below}
 use Rattle.poly.specs.Polynomials.{sum, monic, product}
-
 use Rattle.poly.proofs.Laws.{coefficient, length-product, product-at}
 
 pub length-monic : (g : List ℕ) → length (monic g) ≡ suc (length g)

@@ -1,17 +1,14 @@
 -- 'A square divides g', a search over lists, is `Square` of g's polynomial, so it fails where g is separable. Assumes nothing.
 use mathlib.Core.Path.{_≡_, refl, sym, ap, ap₂, _∙_, subst}
 use mathlib.Core.Logic.{inl, inr}
-use mathlib.Core.Bool.{Bool, true, false, _&&_, _||_, false≢true}
+use mathlib.Core.Bool.{Bool, true, false, _||_, false≢true}
 use mathlib.Core.List.{List, [], _∷_}
 use Prim.Native.Nat.{ℕ, zero, suc, _+_, _-_, _*_, _^_, _<_}
 use native.Mathlib.Numerals.{add-one}
 use native.Mathlib.Omega.{arith}
 use native.Mathlib.Decide.{decLt}
-use borrow.Author.Tests.{eqb-true, eq-eqb}
-use lib.Dec.{eqb}
 use lib.Pow.{pow-pos}
 use lib.ListN.{length, getD}
-use Rattle.bits.proofs.Lists.{cons-eq, and-left, and-right}
 use Rattle.algebra.proofs.Ring.{one-mul, mul-zero}
 use Rattle.algebra.proofs.Field.{Field}
 use Rattle.algebra.proofs.Series as S
@@ -169,11 +166,11 @@ module _ (m : ℕ) (W : Width m) (g : List ℕ) (E : Elements m g) where
       (list-some (2 ^ m) _ r (array-elements m (R .deg) (s .rest)) (ap (λ l. same l (monic g)) all ∙ eq-same (monic g) (monic g) refl)))))
 
   -- the square-free criterion
-  pub separable-none : hasSquare m g ≡ false → Separable (laws m W) (length g) (poly m (monic g))
-  separable-none e = gf-separable m W (length g) _ (poly-monic m W g) (λ s. false≢true (sym e ∙ square-hasSquare s))
+  pub hasSquare-separable : hasSquare m g ≡ false → Separable (laws m W) (length g) (poly m (monic g))
+  hasSquare-separable e = gf-separable m W (length g) _ (poly-monic m W g) (λ s. false≢true (sym e ∙ square-hasSquare s))
 
-  pub none-separable : Separable (laws m W) (length g) (poly m (monic g)) → hasSquare m g ≡ false
-  none-separable s = go (hasSquare m g) refl
+  pub separable-hasSquare : Separable (laws m W) (length g) (poly m (monic g)) → hasSquare m g ≡ false
+  separable-hasSquare s = go (hasSquare m g) refl
     where
       go : (b : Bool) → hasSquare m g ≡ b → hasSquare m g ≡ false
       go true e = absurd (squarefree (gf m W) (length g) _ s (hasSquare-square e))

@@ -4,4 +4,5 @@ pub mod LedgerLaws
 pub mod Demand1
 pub mod Agreement
 pub mod Patterns
-pub mod Theorem
+pub mod Demand3
+pub mod Demand2

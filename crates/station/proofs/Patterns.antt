@@ -1,16 +1,26 @@
--- What reading and opening find: a pattern as the demands ask for it, and none only where there is none. Assumes nothing.
+-- What reading and opening find: the only pattern as the demands ask for it, and none only where there is none. Assumes nothing.
 use mathlib.Core.Path.{_≡_}
 use mathlib.Core.List.{List}
 use mathlib.Core.Option.{none, some}
 use Prim.Native.Nat.{ℕ}
 use Rattle.bits.specs.Bits.{unpack}
-use Rattle.key.specs.Keys.{Key}
+use Rattle.bits.proofs.Pack.{row-unpack}
+use Rattle.key.specs.Keys.{Key, keyNumber}
+use Rattle.key.proofs.Accepted.{accepted}
 use Rattle.code.specs.PublicKey.{Matrix, publicKey}
 use Rattle.decoder.specs.Reading.{reading, opening}
 use Rattle.decoder.proofs.Sanity.{Corrects, Opens}
 use Rattle.decoder.proofs.Sanity as decoder
+use Rattle.decoder.proofs.Uniqueness as unique
 use Rattle.station.specs.Station.{capsuleBits}
 use Rattle.station.specs.Demands.{Locks, Differs}
+
+-- the demands' patterns are those of the decoder
+pub corrects : (k : Key) (word e : List ℕ) → Differs k word e → Corrects k (unpack (k .n) word) e
+corrects k word e d = record { bits = d .row; few = d .weight; code = d .code }
+
+pub opens : (k : Key) (rows : Matrix) (capsule e : List ℕ) → Locks k rows capsule e → Opens k rows (unpack (capsuleBits k) capsule) e
+opens k rows capsule e d = record { bits = d .row; count = d .weight; locks = d .same }
 
 -- reading finds a pattern in whose places the word and a code word differ
 module _ (k : Key) (word : List ℕ) where
@@ -20,7 +30,7 @@ module _ (k : Key) (word : List ℕ) where
       record { row = c .bits; weight = c .few; code = c .code }
 
   pub reading-complete : reading k (unpack (k .n) word) ≡ none → (e : List ℕ) → Differs k word e → ⊥
-  reading-complete h e d = decoder.reading-complete k (unpack (k .n) word) h e (record { bits = d .row; few = d .weight; code = d .code })
+  reading-complete h e d = decoder.reading-complete k (unpack (k .n) word) h e (corrects k word e d)
 
 -- opening finds a pattern that locks to the capsule
 module _ (k : Key) (rows : Matrix) (public : publicKey k ≡ some rows) (capsule : List ℕ) where
@@ -30,4 +40,14 @@ module _ (k : Key) (rows : Matrix) (public : publicKey k ≡ some rows) (capsule
       record { row = o .bits; weight = o .count; same = o .locks }
 
   pub opening-complete : opening k (unpack (capsuleBits k) capsule) ≡ none → (e : List ℕ) → Locks k rows capsule e → ⊥
-  opening-complete h e d = decoder.opening-complete k rows (unpack (capsuleBits k) capsule) public h e (record { bits = d .row; count = d .weight; locks = d .same })
+  opening-complete h e d = decoder.opening-complete k rows (unpack (capsuleBits k) capsule) public h e (opens k rows capsule e d)
+
+-- under a key that load accepts, at most one pattern fits a word, and at most one a capsule
+module _ (k : Key) (good : keyNumber k ≡ 0) where
+  pub one-reading : (word e d : List ℕ) → Differs k word e → Differs k word d → d ≡ e
+  one-reading word e d p q =
+      unique.one-reading k (accepted k good) (unpack (k .n) word) e d (row-unpack (k .n) word) (corrects k word e p) (corrects k word d q)
+
+  pub one-opening : (rows : Matrix) → publicKey k ≡ some rows → (capsule e d : List ℕ) → Locks k rows capsule e → Locks k rows capsule d → d ≡ e
+  one-opening rows public capsule e d p q =
+      unique.one-opening k (accepted k good) rows public (unpack (capsuleBits k) capsule) e d (opens k rows capsule e p) (opens k rows capsule d q)

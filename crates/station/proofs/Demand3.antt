@@ -1,4 +1,4 @@
--- Demand 3, where no word and no capsule has two patterns under a key that load accepts. Assumes nothing else.
+-- Demand 3: after every list of calls the ledger says which key is held, and open and read decide. Assumes nothing.
 use Prim.Native.Nat.{ℕ, suc, _≤_}
 use mathlib.Core.Path.{_≡_, refl, ap, _∙_, subst}
 use mathlib.Core.Bool.{Bool, true, false, not, cond}
@@ -19,7 +19,7 @@ use Rattle.station.specs.Calls.{open-capsule, read-word, step}
 use Rattle.station.specs.Ledger.{Ledger, blank}
 use Rattle.station.specs.Demands.{Locks, Differs, Decides, AfterEveryList}
 use Rattle.station.proofs.Agreement.{stationOf, Agree, nothing, held, marked, sound-held, agree-run, agree-numbers, agree-key}
-use Rattle.station.proofs.Patterns.{reading-sound, reading-complete, opening-sound, opening-complete}
+use Rattle.station.proofs.Patterns.{reading-sound, reading-complete, opening-sound, opening-complete, one-reading, one-opening}
 
 -- 0 and 1 are different
 differ : {A : Type 0} → _≡_ {A = ℕ} 0 1 → A
@@ -75,55 +75,44 @@ Opens s k rows capsule out =
 abbrev OpensAll : Station → Key → Type 0
 OpensAll s k = (rows : Matrix) × (publicKey k ≡ some rows) × ((capsule out : List ℕ) → Opens s k rows capsule out)
 
--- under a key that load accepts, at most one pattern fits a word
-abbrev pub OneReading : Type 0
-OneReading = (k : Key) → keyNumber k ≡ 0 → (word e d : List ℕ) → Differs k word e → Differs k word d → d ≡ e
+module _ (k : Key) (good : keyNumber k ≡ 0) where
+  read-decides : (st : State) → isEmpty st ≡ false → (word out : List ℕ) → Reads (stationOf st k) k word out
+  unfolding step readOf readConditions
+  read-decides st h word out w long =
+      found-decides (Differs k word) (reading k (unpack (k .n) word)) (reading-sound k word) (reading-complete k word) (one-reading k good word)
+      13 (stationOf st k) out _ _
+      (ap (λ (x : Held). firstOf (readConditions x word out)) (sound-held st k good)
+      ∙ read-first _ (eqb (length word) (bytesFor (k .n))) (fillerClear (k .n) word) (ltb (length out) (bytesFor (k .n))) _
+      h (well-length (k .n) word w) (well-filler (k .n) word w) (le-ltb _ _ long))
+      refl
 
--- and at most one fits a capsule
-abbrev pub OneOpening : Type 0
-OneOpening =
-    (k : Key) → keyNumber k ≡ 0 → (rows : Matrix) → publicKey k ≡ some rows
-    → (capsule e d : List ℕ) → Locks k rows capsule e → Locks k rows capsule d → d ≡ e
+  pub open-decides : (rows : Matrix) → publicKey k ≡ some rows → (capsule out : List ℕ) → Opens (stationOf published k) k rows capsule out
+  unfolding step openOf openConditions isEmpty isUnpublished
+  open-decides rows public capsule out w long =
+      let s : List ℕ = unpack (capsuleBits k) capsule in
+      found-decides (Locks k rows capsule) (opening k s) (opening-sound k rows public capsule) (opening-complete k rows public capsule)
+      (one-opening k good rows public capsule) 12 (stationOf published k) out _ _
+      (ap (λ (x : Held). firstOf (openConditions x capsule out)) (sound-held published k good)
+      ∙ open-first (eqb (length capsule) (bytesFor (capsuleBits k))) (fillerClear (capsuleBits k) capsule) (ltb (length out) (bytesFor (k .n))) _
+      (well-length (capsuleBits k) capsule w) (well-filler (capsuleBits k) capsule w) (le-ltb _ _ long))
+      refl
 
-module _ (one-reading : OneReading) (one-opening : OneOpening) where
-  module _ (k : Key) (good : keyNumber k ≡ 0) where
-    read-decides : (st : State) → isEmpty st ≡ false → (word out : List ℕ) → Reads (stationOf st k) k word out
-    unfolding step readOf readConditions
-    read-decides st h word out w long =
-        found-decides (Differs k word) (reading k (unpack (k .n) word)) (reading-sound k word) (reading-complete k word) (one-reading k good word)
-        13 (stationOf st k) out _ _
-        (ap (λ (x : Held). firstOf (readConditions x word out)) (sound-held st k good)
-        ∙ read-first _ (eqb (length word) (bytesFor (k .n))) (fillerClear (k .n) word) (ltb (length out) (bytesFor (k .n))) _
-        h (well-length (k .n) word w) (well-filler (k .n) word w) (le-ltb _ _ long))
-        refl
+reading-after : {s : Station} {l : Ledger} → Agree s l → (k : Key) (word out : List ℕ) → l .key ≡ some k → Reads s k word out
+unfolding blank isEmpty
+reading-after nothing k word out e = differ (cc)
+reading-after (held {k = j} h) k word out e =
+    let q : j ≡ k = cc in subst (λ (x : Key). Reads (stationOf loaded j) x word out) q (read-decides j h loaded refl word out)
+reading-after (marked {k = j} h p) k word out e =
+    let q : j ≡ k = cc in subst (λ (x : Key). Reads (stationOf published j) x word out) q (read-decides j h published refl word out)
 
-    open-decides : (rows : Matrix) → publicKey k ≡ some rows → (capsule out : List ℕ) → Opens (stationOf published k) k rows capsule out
-    unfolding step openOf openConditions isEmpty isUnpublished
-    open-decides rows public capsule out w long =
-        let s : List ℕ = unpack (capsuleBits k) capsule in
-        found-decides (Locks k rows capsule) (opening k s) (opening-sound k rows public capsule) (opening-complete k rows public capsule)
-        (one-opening k good rows public capsule) 12 (stationOf published k) out _ _
-        (ap (λ (x : Held). firstOf (openConditions x capsule out)) (sound-held published k good)
-        ∙ open-first (eqb (length capsule) (bytesFor (capsuleBits k))) (fillerClear (capsuleBits k) capsule) (ltb (length out) (bytesFor (k .n))) _
-        (well-length (capsuleBits k) capsule w) (well-filler (capsuleBits k) capsule w) (le-ltb _ _ long))
-        refl
+opening-after : {s : Station} {l : Ledger} → Agree s l → (k : Key) → l .key ≡ some k → l .mark ≡ true → OpensAll s k
+unfolding blank
+opening-after nothing k e m = differ (cc)
+opening-after (held h) k e m = differ (cc)
+opening-after (marked {k = j} {rows = rows} h p) k e m =
+    let q : j ≡ k = cc in subst (λ (x : Key). OpensAll (stationOf published j) x) q (rows, p, open-decides j h rows p)
 
-  reading-after : {s : Station} {l : Ledger} → Agree s l → (k : Key) (word out : List ℕ) → l .key ≡ some k → Reads s k word out
-  unfolding blank isEmpty
-  reading-after nothing k word out e = differ (cc)
-  reading-after (held {k = j} h) k word out e =
-      let q : j ≡ k = cc in subst (λ (x : Key). Reads (stationOf loaded j) x word out) q (read-decides j h loaded refl word out)
-  reading-after (marked {k = j} h p) k word out e =
-      let q : j ≡ k = cc in subst (λ (x : Key). Reads (stationOf published j) x word out) q (read-decides j h published refl word out)
-
-  opening-after : {s : Station} {l : Ledger} → Agree s l → (k : Key) → l .key ≡ some k → l .mark ≡ true → OpensAll s k
-  unfolding blank
-  opening-after nothing k e m = differ (cc)
-  opening-after (held h) k e m = differ (cc)
-  opening-after (marked {k = j} {rows = rows} h p) k e m =
-      let q : j ≡ k = cc in subst (λ (x : Key). OpensAll (stationOf published j) x) q (rows, p, open-decides j h rows p)
-
-  pub after-every-list-from : AfterEveryList
-  after-every-list-from calls =
-      let a = agree-run nothing calls in
-      record { key = agree-key a; numbers = agree-numbers nothing calls; opening = opening-after a; reading = reading-after a }
+pub after-every-list : AfterEveryList
+after-every-list calls =
+    let a = agree-run nothing calls in
+    record { key = agree-key a; numbers = agree-numbers nothing calls; opening = opening-after a; reading = reading-after a }

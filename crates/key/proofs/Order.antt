@@ -1,0 +1,70 @@
+-- The numbers of a key, in the order of their conditions. Assumes nothing.
+use mathlib.Core.Path.{_≡_, sym, _∙_}
+use mathlib.Core.Bool.{Bool, true, false, not}
+use mathlib.Core.List.{List}
+use Prim.Native.Nat.{ℕ, _^_, _≤_, _<_}
+use native.Mathlib.Nat.{zero-lt-suc, le-of-suc-le-suc}
+use native.Mathlib.Omega.{arith}
+use native.Mathlib.Decide.{decLt}
+use lib.ListN.{length, getD, List·getD-eq-default}
+use lib.Pow.{pow-mono}
+use borrow.Author.Tests.{le-leb, ltb-true, not-true, not-false}
+use Rattle.bits.specs.Bits.{every}
+use Rattle.bits.proofs.Lists.{every-at}
+use Rattle.field.specs.Numbers.{firstOf}
+use Rattle.field.specs.Field.{isElement}
+use Rattle.field.proofs.Table.{Width, width-narrow}
+use Rattle.poly.specs.Polynomials.{hasSquare}
+use Rattle.poly.specs.SquareTest.{squareTest}
+use Rattle.key.specs.Keys.{distinct}
+use Rattle.key.specs.Parts.{noRoot, faults}
+use Rattle.key.proofs.Scan.{every-append}
+
+-- the code's test of an answer r, for the value q
+pub failed : {r q : Bool} → r ≡ q → not r ≡ true → q ≡ false
+failed {r} e h = sym e ∙ not-true r h
+
+pub passed : {r q : Bool} → r ≡ q → not r ≡ false → q ≡ true
+passed {r} e h = sym e ∙ not-false r h
+
+-- elements have 13 digits
+pub elements-lt : (m : ℕ) (s : List ℕ) → Width m → every (isElement m) s ≡ true → (k : ℕ) → getD s k 0 < 8192
+unfolding isElement
+elements-lt m s w e k = elim (decLt k (length s)) [
+  | yes h ↦ omega (arith, ltb-true (getD s k 0) (2 ^ m) (every-at (isElement m) s e k 0 h), pow-mono (le-of-suc-le-suc (width-narrow m w)))
+  | no h ↦ rw (List·getD-eq-default s 0 {n = k} (omega arith)) (zero-lt-suc 8191)
+]
+
+-- the test answers where a square divides g
+pub square-right : (m : ℕ) (g : List ℕ) → Width m → length g ≤ 128 → every (isElement m) g ≡ true → squareTest m g ≡ hasSquare m g
+unfolding squareTest
+square-right m g w l e = rw (w, le-leb (length g) 128 l, e)
+
+module _ (m : ℕ) (s g : List ℕ) where
+  pub fault-support : every (isElement m) s ≡ false → 4 ≡ firstOf (faults m s g)
+  unfolding faults firstOf
+  fault-support e = rw (every-append (isElement m) s g, e)
+
+  module _ (a : every (isElement m) s ≡ true) where
+    pub fault-coefficient : every (isElement m) g ≡ false → 4 ≡ firstOf (faults m s g)
+    unfolding faults firstOf
+    fault-coefficient e = rw (every-append (isElement m) s g, a, e)
+
+    module _ (b : every (isElement m) g ≡ true) where
+      pub fault-twice : distinct s ≡ false → 5 ≡ firstOf (faults m s g)
+      unfolding faults firstOf
+      fault-twice e = rw (every-append (isElement m) s g, a, b, e)
+
+      module _ (d : distinct s ≡ true) where
+        pub fault-square : hasSquare m g ≡ true → 6 ≡ firstOf (faults m s g)
+        unfolding faults firstOf
+        fault-square e = rw (every-append (isElement m) s g, a, b, d, e)
+
+        module _ (q : hasSquare m g ≡ false) where
+          pub fault-root : noRoot m g s ≡ false → 7 ≡ firstOf (faults m s g)
+          unfolding faults firstOf
+          fault-root e = rw (every-append (isElement m) s g, a, b, d, q, e)
+
+          pub fault-none : noRoot m g s ≡ true → 0 ≡ firstOf (faults m s g)
+          unfolding faults firstOf
+          fault-none e = rw (every-append (isElement m) s g, a, b, d, q, e)

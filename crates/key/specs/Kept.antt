@@ -1,0 +1,38 @@
+-- The key that is kept: arrays whose first n and t numbers are the key's. Assumes nothing.
+use Prim.Native.Nat.{ℕ, _-_}
+use mathlib.Core.Bool.{cond}
+use mathlib.Core.List.{List, _++_}
+use lib.Dec.{eqb}
+use lib.ListN.{length, take, replicate}
+use Rattle.field.specs.Numbers.{firstOf}
+use Rattle.key.specs.Keys.{parse, fileConditions}
+use Rattle.key.specs.Keys as Keys
+use Rattle.key.specs.declared.shape.Sizes.{Sizes}
+use Rattle.key.specs.declared.kept.Key.{Key}
+use Rattle.key.specs.declared.file.Loaded.{Loaded}
+
+-- the key of a kept one
+unfoldable pub kept : Key → Keys.Key
+kept k = record { m = k .m; n = k .n; t = k .t; support = take (k .n) (k .support); g = take (k .t) (k .g) }
+
+-- the list with zeros behind it, n numbers in all
+unfoldable pub padded : ℕ → List ℕ → List ℕ
+padded n l = l ++ replicate (n - length l) 0
+
+-- the kept key of a key, with zeros past n and past t
+unfoldable pub keep : Keys.Key → Key
+keep k = record { m = k .m; n = k .n; t = k .t; support = padded 8192 (k .support); g = padded 128 (k .g) }
+
+-- zeros only
+unfoldable pub noKey : Key
+noKey = record { m = 0; n = 0; t = 0; support = replicate 8192 0; g = replicate 128 0 }
+
+-- the shape of a key
+unfoldable pub sizesOf : Keys.Key → Sizes
+sizesOf k = record { m = k .m; n = k .n; t = k .t }
+
+-- the number of the file, and its key where that is 0
+unfoldable pub loadedOf : List ℕ → Loaded
+loadedOf file =
+    let x : ℕ = firstOf (fileConditions file) in
+    record { refused = x; key = cond (eqb x 0) (keep (parse file)) noKey }

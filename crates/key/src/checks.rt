@@ -1,0 +1,131 @@
+// The check of a kept key.
+use super::kept::Key;
+use super::shape::in_limits;
+ghost use mathlib.Core.Path.{_≡_};
+ghost use mathlib.Core.Bool.{true, not};
+ghost use lib.Dec.{eqb};
+ghost use lib.ListN.{length, take, getD};
+ghost use Prim.Native.Nat.{ℕ, _≤_, _<_};
+ghost use Rattle.bits.specs.Bits.{every};
+ghost use Rattle.field.specs.Field.{isWidth, isElement};
+ghost use Rattle.field.specs.Numbers.{firstOf};
+ghost use Rattle.key.specs.Keys.{distinct as allDistinct, keyNumber};
+ghost use Rattle.key.specs.Parts.{noRoot, faults as faultsOf};
+ghost use Rattle.key.specs.Kept.{kept};
+
+// Every number is below 2^m.
+fn elements(m: u8, s: &[u16]) -> bool
+    requires { ⌜ isWidth m ≡ true ⌝ }
+    ensures { λ r. ⌜ r ≡ every (isElement m) (now (s .entry)) ⌝ }
+{
+    let top: u16 = 1 << m;
+    let mut i = 0;
+    while i < s.len() {
+        if top <= s[i] {
+            return false;
+        }
+        i += 1;
+    }
+    true
+}
+
+// No number stands twice: seen[x] is 1 for each x passed.
+fn distinct(s: &[u16]) -> bool
+    requires { ⌜ ((k : ℕ) → getD (now s) k 0 < 8192) ⌝ }
+    ensures { λ r. ⌜ r ≡ allDistinct (now (s .entry)) ⌝ }
+{
+    let mut seen = [0u8; 8192];
+    let mut i = 0;
+    while i < s.len() {
+        let x = s[i] as usize;
+        if seen[x] != 0 {
+            return false;
+        }
+        seen[x] = 1;
+        i += 1;
+    }
+    true
+}
+
+// No number is 0.
+fn no_zero(s: &[u16]) -> bool
+    ensures { λ r. ⌜ r ≡ every (λ x. not (eqb x 0)) (now (s .entry)) ⌝ }
+{
+    let mut i = 0;
+    while i < s.len() {
+        if s[i] == 0 {
+            return false;
+        }
+        i += 1;
+    }
+    true
+}
+
+// No g(a) is 0, by Horner's rule at all places a of s; past them the values stay 1.
+fn no_root(m: u8, g: &[u16], s: &[u16]) -> bool
+    requires { ⌜ (isWidth m ≡ true) × (length (now s) ≤ 8192) ⌝ }
+    ensures { λ r. ⌜ r ≡ noRoot m (now (g .entry)) (now (s .entry)) ⌝ }
+{
+    let mut values = [1u16; 8192];
+    let mut k = g.len();
+    while 0 < k {
+        k -= 1;
+        field::horner_each(m, &mut values, s, g[k]);
+    }
+    no_zero(&values)
+}
+
+// The first of the numbers 4 to 7, and 0 where there is none.
+fn faults(m: u8, s: &[u16], g: &[u16]) -> u8
+    requires { ⌜ (isWidth m ≡ true) × (length (now s) ≤ 8192) × (length (now g) ≤ 128) ⌝ }
+    ensures { λ r. ⌜ r ≡ firstOf (faultsOf m (now (s .entry)) (now (g .entry))) ⌝ }
+{
+    if !elements(m, s) {
+        return 4;
+    }
+    if !elements(m, g) {
+        return 4;
+    }
+    if !distinct(s) {
+        return 5;
+    }
+    if poly::has_square(m, g) {
+        return 6;
+    }
+    if !no_root(m, g, s) {
+        return 7;
+    }
+    0
+}
+
+// The same of the first n and t numbers of a kept key.
+fn kept_faults<'a>(m: u8, n: usize, t: usize, support: &'a [u16; 8192], g: &'a [u16; 128]) -> u8
+    requires { ⌜ (isWidth m ≡ true) × (n ≤ 8192) × (t ≤ 128) ⌝ }
+    ensures { λ r. ⌜ r ≡ firstOf (faultsOf m (take n (now (support .entry))) (take t (now (g .entry)))) ⌝ }
+{
+    let s = &support[..];
+    let h = &g[..];
+    faults(m, &s[..n], &h[..t])
+}
+
+// The number of a kept key, 1 to 7, and 0 for one that load accepts.
+pub fn check(key: Key) -> u8
+    ensures { λ r. ⌜ r ≡ keyNumber (kept key) ⌝ }
+{
+    let m = key.m;
+    let n = key.n;
+    let t = key.t;
+    if field::modulus(m) == 0 {
+        return 1;
+    }
+    if 8192 < n {
+        return 2;
+    }
+    if 128 < t {
+        return 2;
+    }
+    if !in_limits(m, n, t) {
+        return 3;
+    }
+    kept_faults(m, n as usize, t as usize, &key.support, &key.g)
+}
