@@ -1,0 +1,159 @@
+// Runs data/keyfiles.txt and the five standard keys through load and counts agreements and differences.
+// A line is `NUMBER FILE`: load's number, 0 where it accepts, and the file in hexadecimal, `-` where it is empty.
+ghost use Prim.Native.Nat.{_+_, _*_, _≤_, _<_};
+ghost use lib.ListN.{length};
+use key::file::load;
+use key::shape::ShapeAnswer;
+use key::shape::shape;
+use libc::STDOUT_FILENO;
+
+// The bytes of keyfiles.txt at most, and those of a key file.
+const TEXT: usize = 100000;
+
+const FILE: usize = 20000;
+
+// The value of a hexadecimal digit: 0 is 48 and a is 97.
+fn digit(b: u8) -> u8
+    ensures { λ r. ⌜ r < 16 ⌝ }
+{
+    if b < b'a' {
+        return b % 16;
+    }
+    (b - b'a' + 10) % 16
+}
+
+// The first n bytes of out become those that the line's digits from 2 on say.
+fn unhex(out: &mut [u8], line: &[u8], n: usize)
+    requires { ⌜ (n ≤ length (now out)) × (2 * n + 2 ≤ length (now line)) × (n < 100000) ⌝ }
+{
+    let mut i = 0;
+    while i < n {
+        out[i] = 16 * digit(line[2 * i + 2]) + digit(line[2 * i + 3]);
+        i += 1;
+    }
+}
+
+// Load gives the file's first n bytes that number.
+fn gives(file: &[u8], n: usize, number: u8) -> bool {
+    if file.len() < n {
+        return false;
+    }
+    let r = load(&file[..n]);
+    r.refused == number
+}
+
+// Load answers what the line says.
+fn agrees(line: &[u8]) -> bool {
+    let e = line.len();
+    if e < 3 {
+        return false;
+    }
+    if FILE < e {
+        return false;
+    }
+    let n = (e - 2) / 2;
+    let mut file = [0u8; FILE];
+    unhex(&mut file, line, n);
+    gives(&file, n, digit(line[0]))
+}
+
+// The place of the next newline, or of the end.
+fn line_end(text: &[u8], from: usize) -> usize
+    requires { ⌜ from ≤ length (now text) ⌝ }
+    ensures { λ r. ⌜ (from ≤ r) × (r ≤ length (now (text .entry))) ⌝ }
+{
+    let mut i = from;
+    while i < text.len() {
+        if text[i] == b'\n' {
+            return i;
+        }
+        i += 1;
+    }
+    i
+}
+
+struct Tally {
+    agree: u64,
+    differ: u64,
+}
+
+fn counted(r: Tally, agree: bool) -> Tally {
+    if agree {
+        return Tally {
+            agree: r.agree % 1000000 + 1,
+            differ: r.differ,
+        };
+    }
+    Tally {
+        agree: r.agree,
+        differ: r.differ % 1000000 + 1,
+    }
+}
+
+fn tally_of(text: &[u8]) -> Tally {
+    let mut r = Tally {
+        agree: 0,
+        differ: 0,
+    };
+    let mut i = 0;
+    while i < text.len() {
+        let e = line_end(text, i);
+        r = counted(r, agrees(&text[i..e]));
+        i = e + 1;
+    }
+    r
+}
+
+// Load accepts the key and it has the shape at the position.
+fn has_shape(file: &[u8], position: u8) -> bool {
+    let r = load(file);
+    let k = r.key;
+    match shape(position) {
+        ShapeAnswer::Sizes(s) => r.refused == 0 && k.m == s.m && k.n == s.n && k.t == s.t,
+        ShapeAnswer::Refused(x) => false,
+    }
+}
+
+// The same of the file with that name.
+fn standard(name: &[u8], position: u8) -> bool {
+    let fd = os::open_read(name);
+    if fd < 0 {
+        os::fail(name);
+        return false;
+    }
+    let mut file = [0u8; FILE];
+    let n = io::read_full(fd, &mut file);
+    libc::close(fd);
+    has_shape(&file[..n], position)
+}
+
+fn print(r: Tally, of: &[u8]) {
+    io::write_all(STDOUT_FILENO, of);
+    io::print_decimal(STDOUT_FILENO, r.agree);
+    io::write_all(STDOUT_FILENO, b" agreements, ");
+    io::print_decimal(STDOUT_FILENO, r.differ);
+    io::write_all(STDOUT_FILENO, b" differences\n");
+}
+
+fn main() {
+    let name = b"keyfiles.txt";
+    let fd = os::open_read(name);
+    if fd < 0 {
+        os::fail(name);
+        return;
+    }
+    let mut text = [0u8; TEXT];
+    let n = io::read_full(fd, &mut text);
+    libc::close(fd);
+    print(tally_of(&text[..n]), b"key files: ");
+    let mut s = Tally {
+        agree: 0,
+        differ: 0,
+    };
+    s = counted(s, standard(b"mceliece348864.key", 1));
+    s = counted(s, standard(b"mceliece460896.key", 2));
+    s = counted(s, standard(b"mceliece6688128.key", 3));
+    s = counted(s, standard(b"mceliece6960119.key", 4));
+    s = counted(s, standard(b"mceliece8192128.key", 5));
+    print(s, b"standard keys: ");
+}
