@@ -5,9 +5,9 @@ use native.Mathlib.Nat.{not-suc-le-zero}
 use native.Mathlib.Omega.{arith}
 use borrow.Author.Needs.{needs}
 use Rattle.field.specs.Field.{mul}
-use Rattle.field_bench.specs.Chain.{chain}
-use Rattle.field_bench.proofs.bench_chain.Statement.{statement}
-use Rattle.field_bench.proofs.bench_chain.Tie as tie
+use Rattle.bench_calls.specs.Chain.{chain}
+use Rattle.bench_calls.proofs.bench_chain.Statement.{statement}
+use Rattle.bench_calls.proofs.bench_chain.Tie as tie
 
 module _ (m a : ℕ) where
   turn : (k r : ℕ) → 0 < k → chain (k - 1) m a (mul m r a) ≡ chain k m a r

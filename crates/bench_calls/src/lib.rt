@@ -1,7 +1,9 @@
-// The field's products under C names, for the benchmark.
+// Calls under C names, for the benchmarks.
 ghost use mathlib.Core.Path.{_≡_};
 ghost use Rattle.field.specs.Poly.{hornerEach};
-ghost use Rattle.field_bench.specs.Chain.{chain};
+ghost use Rattle.poly.specs.SquareTest.{squareTest};
+ghost use Rattle.key.specs.Kept.{loadedOf};
+ghost use Rattle.bench_calls.specs.Chain.{chain};
 
 // b·a^n: n products, each of which waits for the one before.
 #[no_mangle]
@@ -23,4 +25,21 @@ pub extern "C" fn bench_horner(m: u8, r: &mut [u16], a: &[u16], c: u16)
     ensures { λ _. ⌜ now (r .exit) ≡ hornerEach m c (now (r .entry)) (now (a .entry)) ⌝ }
 {
     field::horner_each(m, r, a, c);
+}
+
+// The square test.
+#[no_mangle]
+pub extern "C" fn bench_square(m: u8, g: &[u16]) -> bool
+    ensures { λ r. ⌜ r ≡ squareTest m (now (g .entry)) ⌝ }
+{
+    poly::has_square(m, g)
+}
+
+// Load's number of a key file.
+#[no_mangle]
+pub extern "C" fn bench_load(file: &[u8]) -> u8
+    ensures { λ r. ⌜ r ≡ loadedOf (now (file .entry)) .refused ⌝ }
+{
+    let r = key::file::load(file);
+    r.refused
 }
