@@ -3,7 +3,7 @@
 use mathlib.Core.Path.{_≡_, refl, sym, ap, ap₂, _∙_, fun-ext}
 use mathlib.Core.Logic.{_≢_}
 use mathlib.Core.List.{List, [], _∷_, _++_, map}
-use Prim.Native.Nat.{ℕ, zero, suc, _+_, _-_, _*_, _^_, _≤_, _<_}
+use Prim.Native.Nat.{ℕ, zero, suc, _+_, _-_, _^_, _≤_, _<_}
 use native.Mathlib.Nat.{add-zero as nat-add-zero, zero-add as nat-zero-add}
 use native.Mathlib.Numerals.{add-one}
 use native.Mathlib.Omega.{arith}
@@ -29,15 +29,15 @@ use Rattle.field.proofs.Gf.{Elem, val, val-inj, val-zero, val-one, val-xor, val
 use Rattle.field.proofs.Arrays.{Elements, poly, poly-inj, poly-below, poly-scale, poly-shift}
 use Rattle.poly.specs.Polynomials.{sum}
 use Rattle.poly.specs.Register.{Register, longest, start, discrepancy, corrected, turn, turns, register}
-use Rattle.poly.proofs.Steps.{term, sum-nil, sum-cons, turn-skip, turn-fix, turn-grow}
+use Rattle.poly.proofs.Steps.{term, sum-nil, sum-cons, turn-cases}
+
+zeros-at : (n k : ℕ) → getD {A = ℕ} (replicate n 0) k 0 ≡ 0
+zeros-at zero k = refl
+zeros-at (suc n) zero = refl
+zeros-at (suc n) (suc k) = zeros-at n k
 
 -- lists of elements
 module _ (m : ℕ) where
-  zeros-at : (n k : ℕ) → getD {A = ℕ} (replicate n 0) k 0 ≡ 0
-  zeros-at zero k = refl
-  zeros-at (suc n) zero = refl
-  zeros-at (suc n) (suc k) = zeros-at n k
-
   elements-one : (n : ℕ) → 1 < 2 ^ m → Elements m (1 ∷ replicate n 0)
   elements-one n h zero = h
   elements-one n h (suc k) = rw (zeros-at n k) (pow-pos m)
@@ -72,7 +72,7 @@ module _ (m : ℕ) where
   unfolding corrected
   elements-corrected r d e = elements-xor _ _ e (elements-shifted _ (r .y) (r .b))
 
--- the lists have 257 elements each
+-- C(x) and B(x) have 257 coefficients each, and these are elements
 pub record Formed (m : ℕ) (r : Register) : Type 0 where
   pub length-c : length (r .c) ≡ 257
   pub length-b : length (r .b) ≡ 257
@@ -85,17 +85,11 @@ module _ (m : ℕ) where
   formed-start h = record { length-c = refl; length-b = refl; elements-c = elements-one m 256 h; elements-b = elements-one m 256 h }
 
   formed-turn : (d n : ℕ) (r : Register) → Formed m r → Formed m (turn m d n r)
-  formed-turn d n r f = elim (decLt 0 d) [
-    | no a ↦ rw (turn-skip m d n r (omega arith)) record { length-c = f .length-c; length-b = f .length-b; elements-c = f .elements-c; elements-b = f .elements-b }
-    | yes a ↦ elim (decLt n (2 * r .l)) [
-      | yes q ↦
-          rw (turn-fix m d n r refl (λ z. omega arith) q)
-          record { length-c = same; length-b = f .length-b; elements-c = elements; elements-b = f .elements-b }
-      | no q ↦
-          rw (turn-grow m d n r refl (λ z. omega arith) (omega arith))
-          record { length-c = same; length-b = f .length-c; elements-c = elements; elements-b = f .elements-c }
-    ]
-  ]
+  formed-turn d n r f =
+      turn-cases m d n r (Formed m)
+      (λ z. record { length-c = f .length-c; length-b = f .length-b; elements-c = f .elements-c; elements-b = f .elements-b })
+      (λ e q. record { length-c = same; length-b = f .length-b; elements-c = elements; elements-b = f .elements-b })
+      (λ e q. record { length-c = same; length-b = f .length-c; elements-c = elements; elements-b = f .elements-c })
     where
       same : length (corrected m r d) ≡ 257
       same = length-corrected m r d ∙ f .length-c
@@ -104,9 +98,8 @@ module _ (m : ℕ) where
       elements = elements-corrected m r d (f .elements-c)
 
 module _ (m : ℕ) (W : Width m) where
-  open Operations (operations (laws m W)) using (_⊞_, _⊠_, C, series)
+  open Operations (operations (laws m W)) using (_⊠_, C, series)
 
-  infixl 65 _⊞_
   infixl 70 _⊠_
   -- the register's lists as series
   abbrev pub image : Register → State (gf m W)
@@ -118,7 +111,7 @@ module _ (m : ℕ) (W : Width m) where
     where
       at : (k : ℕ) → poly m (1 ∷ replicate 256 0) k ≡ C (one-elem m W) k
       at zero = val-one m W
-      at (suc k) = ap (val m) (zeros-at m 256 k) ∙ val-zero m
+      at (suc k) = ap (val m) (zeros-at 256 k) ∙ val-zero m
 
   -- line 3
   val-sum : (f : ℕ → ℕ) (k n : ℕ) → val m (sum (map f (from k n))) ≡ Sum.sum (laws m W) n (λ j. val m (f (k + j)))
@@ -173,24 +166,20 @@ module _ (m : ℕ) (W : Width m) where
               ∙ sym (mend-below (gf m W) i (val m d) 256 (omega (arith, fits (gf m W) i)) (omega arith) k (omega arith))
         ]
 
-    -- a turn, and its lists
+    -- lines 4 to 16
     image-turn : Formed m r → Elements m s → n < 256 → image (turn m (discrepancy m s r n) n r) ≡ step (gf m W) (poly m s) n (image r)
-    image-turn f e h = elim (decLt 0 d) [
-      | no a ↦
-          ap image (turn-skip m d n r (omega arith)) ∙ ap (λ (y : ℕ). at (poly m (r .c)) (r .l) (poly m (r .b)) (val m (r .d)) y) (add-one (r .y))
-          ∙ sym (step-skip (gf m W) (poly m s) n (image r) (zero-of (omega arith)))
-      | yes a ↦ elim (decLt n (2 * r .l)) [
-        | yes q ↦
-            ap image (turn-fix m d n r refl (λ z. omega arith) q)
-            ∙ ap₂ (λ (p : Series (Elem m)) (y : ℕ). at p (r .l) (poly m (r .b)) (val m (r .d)) y) mended (add-one (r .y))
-            ∙ sym (step-fix (gf m W) (poly m s) n (image r) (some a) (omega arith))
-        | no q ↦
-            ap image (turn-grow m d n r refl (λ z. omega arith) (omega arith))
-            ∙ ap₂ (λ (p : Series (Elem m)) (l : ℕ). at p (l - r .l) (poly m (r .c)) (val m d) 1) mended (add-one n)
-            ∙ ap (λ (x : Elem m). at (mend (gf m W) (image r) ((poly m (r .c) ⊠ poly m s) n)) (suc n - r .l) (poly m (r .c)) x 1) discrepancy-at
-            ∙ sym (step-grow (gf m W) (poly m s) n (image r) (some a) (omega arith))
-      ]
-    ]
+    image-turn f e h =
+        turn-cases m d n r (λ t. image t ≡ step (gf m W) (poly m s) n (image r))
+        (λ z.
+        ap (λ (y : ℕ). at (poly m (r .c)) (r .l) (poly m (r .b)) (val m (r .d)) y) (add-one (r .y))
+        ∙ sym (step-skip (gf m W) (poly m s) n (image r) (zero-of z)))
+        (λ a q.
+        ap₂ (λ (p : Series (Elem m)) (y : ℕ). at p (r .l) (poly m (r .b)) (val m (r .d)) y) mended (add-one (r .y))
+        ∙ sym (step-fix (gf m W) (poly m s) n (image r) (some a) (omega arith)))
+        (λ a q.
+        ap₂ (λ (p : Series (Elem m)) (l : ℕ). at p (l - r .l) (poly m (r .c)) (val m d) 1) mended (add-one n)
+        ∙ ap (λ (x : Elem m). at (mend (gf m W) (image r) ((poly m (r .c) ⊠ poly m s) n)) (suc n - r .l) (poly m (r .c)) x 1) discrepancy-at
+        ∙ sym (step-grow (gf m W) (poly m s) n (image r) (some a) (omega arith)))
       where
         d : ℕ
         d = discrepancy m s r n

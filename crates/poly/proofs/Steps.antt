@@ -1,5 +1,5 @@
 -- What the register's loops compute, a step at a time. Assumes nothing.
-use mathlib.Core.Path.{_≡_, refl, sym, ap, _∙_}
+use mathlib.Core.Path.{_≡_, refl, sym, ap, ap₂, _∙_}
 use mathlib.Core.Bool.{true, false, _&&_}
 use mathlib.Core.List.{List, [], _∷_, _++_, map}
 use Prim.Native.Nat.{ℕ, zero, suc, _+_, _-_, _*_, _^_, _≤_, _<_}
@@ -10,18 +10,19 @@ use native.Mathlib.Numerals.{add-one}
 use borrow.Author.Tests.{eq-eqb, ne-eqb, lt-ltb, le-ltb}
 use lib.Dec.{ltb}
 use lib.ListN.{length, getD, take, drop, set, replicate, length-replicate, length-append, drop-of-length-le}
-use lib.Seq.{drop-cons, take-at, getD-append-add}
+use lib.Seq.{drop-cons, take-at, getD-append-add, getD-set-same, getD-set-other, getD-take, length-take-le}
 use Rattle.bits.specs.Xor.{_⊕_}
 use Rattle.bits.specs.Bits.{from, every, eachWith, xorRow}
 use Rattle.bits.proofs.Xor.{xor-zero, xor-assoc}
-use Rattle.bits.proofs.Lists.{cons-eq}
+use Rattle.bits.proofs.Lists.{cons-eq, map-from}
 use Rattle.bits.proofs.Rows.{xorRow-suc, xorRow-take}
 use Rattle.field.specs.Field.{isElement, mul, inv}
 use Rattle.field.specs.Poly.{hornerEach}
 use Rattle.field.proofs.Table.{Width}
 use Rattle.field.proofs.Laws.{mul-comm}
-use Rattle.field.proofs.Places.{hornerEach-width}
+use Rattle.field.proofs.Places.{hornerEach-width, hornerEach-at}
 use Rattle.poly.specs.Polynomials.{sum}
+use Rattle.poly.specs.Registered.{Earlier}
 use Rattle.poly.specs.Register.{Register, start, discrepancy, corrected, turn, turns, register}
 
 -- the test of the elements from the place i on
@@ -52,24 +53,45 @@ pub sum-cons : (x : ℕ) (xs : List ℕ) → sum (x ∷ xs) ≡ x ⊕ sum xs
 unfolding sum
 sum-cons x xs = refl
 
--- d, with the terms from i to l
-module _ (m : ℕ) (s : List ℕ) (r : Register) (n : ℕ) where
+-- d, with the places of p from i to l
+module _ (p : List ℕ) (l : ℕ) where
   unfoldable pub rest : ℕ → ℕ → ℕ
-  rest d i = d ⊕ sum (map (term m s r n) (from i (r .l + 1 - i)))
+  rest d i = d ⊕ sum (map (λ k. getD p k 0) (from i (l + 1 - i)))
 
-  pub rest-start : rest (getD s n 0) 1 ≡ discrepancy m s r n
-  unfolding rest discrepancy
-  rest-start = let e : r .l + 1 - 1 ≡ r .l = omega arith in rw e
+  pub rest-start : (d : ℕ) → rest d 1 ≡ d ⊕ sum (map (λ k. getD p k 0) (from 1 l))
+  unfolding rest
+  rest-start d = let e : l + 1 - 1 ≡ l = omega arith in rw e
 
-  pub rest-step : (d i : ℕ) → i ≤ r .l → rest (d ⊕ term m s r n i) (i + 1) ≡ rest d i
+  pub rest-step : (d i : ℕ) → i ≤ l → rest (d ⊕ getD p i 0) (i + 1) ≡ rest d i
   unfolding rest from
   rest-step d i h =
-      let e : r .l + 1 - i ≡ suc (r .l + 1 - (i + 1)) = omega arith in
+      let e : l + 1 - i ≡ suc (l + 1 - (i + 1)) = omega arith in
       rw (e, add-one i, sum-cons) (xor-assoc d _ _)
 
-  pub rest-none : (d i : ℕ) → r .l < i → rest d i ≡ d
+  pub rest-none : (d i : ℕ) → l < i → rest d i ≡ d
   unfolding rest from
-  rest-none d i h = let e : r .l + 1 - i ≡ 0 = omega arith in rw (e, sum-nil) (xor-zero d)
+  rest-none d i h = let e : l + 1 - i ≡ 0 = omega arith in rw (e, sum-nil) (xor-zero d)
+
+-- one element more
+pub earlier-step : (s : List ℕ) (n i : ℕ) (w : List ℕ) → i < length w → Earlier s n i w → Earlier s n (i + 1) (set w i (getD s (n - i) 0))
+earlier-step s n i w h e k a b = elim (decLt k i) [
+  | yes c ↦ getD-set-other w i k _ 0 (λ z. omega arith) ∙ e k a c
+  | no c ↦ (let z : k ≡ i = omega arith in rw z (getD-set-same w i _ 0 h))
+]
+
+-- the terms of the discrepancy, over all places at once
+pub discrepancy-by : (m : ℕ) (s : List ℕ) (r : Register) (n : ℕ) (w p : List ℕ) → Width m → Earlier s n (r .l + 1) w
+    → p ≡ hornerEach m 0 w (take (r .l + 1) (r .c)) → r .l < length w → r .l < length (r .c)
+    → getD s n 0 ⊕ sum (map (λ k. getD p k 0) (from 1 (r .l))) ≡ discrepancy m s r n
+unfolding discrepancy
+discrepancy-by m s r n w p v e f a b = ap (λ (l : List ℕ). getD s n 0 ⊕ sum l) (map-from (λ k. getD p k 0) (term m s r n) 1 1 (r .l) at)
+  where
+    at : (i : ℕ) → i < r .l → getD p (1 + i) 0 ≡ term m s r n (1 + i)
+    at i h =
+        let q : length (take (r .l + 1) (r .c)) ≡ r .l + 1 = length-take-le (r .l + 1) (r .c) (omega arith) in
+        ap (λ (l : List ℕ). getD l (1 + i) 0) f
+        ∙ hornerEach-at m 0 w (take (r .l + 1) (r .c)) v (1 + i) (omega arith) (omega arith) ∙ xor-zero _
+        ∙ ap₂ (mul m) (e (1 + i) (omega arith) (omega arith)) (getD-take (r .l + 1) (r .c) (1 + i) 0 (omega arith)) ∙ mul-comm m _ _
 
 -- c + x^y·p, with the first places done
 zeros-same : (c : List ℕ) (y : ℕ) → xorRow c (replicate y 0) ≡ c
@@ -131,15 +153,25 @@ module _ (m d n : ℕ) (r : Register) where
   unfolding turn
   turn-grow f e h = rw (f, turn, ne-eqb d 0 e, le-ltb n (2 * r .l) h)
 
+  -- what holds in each case holds of a turn
+  pub turn-cases : (P : Register → Type 0) → (d ≡ 0 → P record { c = r .c; l = r .l; b = r .b; d = r .d; y = r .y + 1 })
+      → (0 < d → n < 2 * r .l → P record { c = corrected m r d; l = r .l; b = r .b; d = r .d; y = r .y + 1 })
+      → (0 < d → 2 * r .l ≤ n → P record { c = corrected m r d; l = n + 1 - r .l; b = r .c; d = d; y = 1 })
+      → P (turn m d n r)
+  turn-cases P skip fix grow = elim (decLt 0 d) [
+    | no e ↦ (let z : d ≡ 0 = omega arith in rw (turn-skip z) (skip z))
+    | yes e ↦ elim (decLt n (2 * r .l)) [
+      | yes q ↦ rw (turn-fix refl (λ z. omega arith) q) (fix e q)
+      | no q ↦ (let h : 2 * r .l ≤ n = omega arith in rw (turn-grow refl (λ z. omega arith) h) (grow e h))
+    ]
+  ]
+
   -- l and y stay small
   pub turn-small : (t : Register) → t ≡ turn m d n r → r .l ≤ n → r .y ≤ n + 1 → (t .l ≤ n + 1) × (t .y ≤ n + 1 + 1)
-  turn-small t f h k = rw f (elim (decLt 0 d) [
-    | no e ↦ rw (turn-skip (omega arith)) (omega arith, omega arith)
-    | yes e ↦ elim (decLt n (2 * r .l)) [
-      | yes q ↦ rw (turn-fix refl (λ z. omega arith) q) (omega arith, omega arith)
-      | no q ↦ rw (turn-grow refl (λ z. omega arith) (omega arith)) (omega arith, omega arith)
-    ]
-  ])
+  turn-small t f h k =
+      rw f
+      (turn-cases (λ t. (t .l ≤ n + 1) × (t .y ≤ n + 1 + 1)) (λ z. (omega arith, omega arith)) (λ e q. (omega arith, omega arith))
+      (λ e q. (omega arith, omega arith)))
 
 pub start-small : (r : Register) → r ≡ start → (r .l ≤ 0) × (r .y ≤ 1)
 unfolding start

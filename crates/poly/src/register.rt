@@ -1,11 +1,13 @@
 // The shortest register for a list of elements: document 004's Figure 1.
 ghost use mathlib.Core.Path.{_≡_};
 ghost use mathlib.Core.Bool.{true};
-ghost use mathlib.Core.List.{_++_};
+ghost use mathlib.Core.List.{_++_, map};
 ghost use Prim.Native.Nat.{_+_, _≤_, _<_};
-ghost use lib.ListN.{length, replicate};
-ghost use Rattle.bits.specs.Bits.{every, xorRow};
+ghost use lib.ListN.{length, getD, replicate};
+ghost use Rattle.bits.specs.Xor.{_⊕_};
+ghost use Rattle.bits.specs.Bits.{from, every, xorRow};
 ghost use Rattle.field.specs.Field.{isWidth, isElement};
+ghost use Rattle.poly.specs.Polynomials.{sum};
 ghost use Rattle.poly.specs.Register.{
   start as startOf,
   discrepancy as discrepancyOf,
@@ -14,7 +16,7 @@ ghost use Rattle.poly.specs.Register.{
   register as registerOf,
   registerNumber,
 };
-ghost use Rattle.poly.specs.Registered.{figure, registeredOf};
+ghost use Rattle.poly.specs.Registered.{figure, Earlier, registeredOf};
 
 // A register: its length and its connection polynomial's coefficients 0 to 256, with 0 past the length; or the number of
 // a refusal, with length 0 and coefficients 0.
@@ -34,9 +36,10 @@ struct State {
 }
 
 impl Registered {
-    // The longest list, and the number of coefficients.
+    // The longest list.
     pub const LONGEST: usize = 256;
 
+    // The number of coefficients.
     pub const COEFFICIENTS: usize = 257;
 
     // The shortest register that generates s, or a refusal: 1, no width; 2, s too long; 4, an element 2^m or more.
@@ -123,16 +126,42 @@ fn start() -> State
     }
 }
 
-// Line 3: s_n + the sum of c_i·s_{n-i}, i from 1 to l.
+// Line 3: s_n + the sum of c_i·s_{n-i}, i from 1 to l, the products over all places at once.
 fn discrepancy(m: u8, s: &[u16], r: State, n: usize) -> u16
-    requires { ⌜ (r .l ≤ n) × (n < length (now s)) × (n < 256) ⌝ }
+    requires { ⌜ (isWidth m ≡ true) × (r .l ≤ n) × (n < length (now s)) × (n < 256) ⌝ }
     ensures { λ d. ⌜ d ≡ discrepancyOf m (now (s .entry)) (figure r) n ⌝ }
 {
     let l = r.l;
-    let mut d = s[n];
+    let e = l + 1;
+    let c = r.c;
+    let mut p = earlier(s, n, l);
+    field::horner_each(m, &mut p, &c[..e], 0);
+    total(s[n], p, l)
+}
+
+// s_{n-i} at the places i from 1 to l.
+fn earlier(s: &[u16], n: usize, l: usize) -> [u16; 257]
+    requires { ⌜ (l ≤ n) × (n < length (now s)) × (n < 256) ⌝ }
+    ensures { λ w. ⌜ Earlier (now (s .entry)) n (l + 1) w ⌝ }
+{
+    let mut w = [0u16; Registered::COEFFICIENTS];
     let mut i = 1;
     while i <= l {
-        d ^= field::times(m, r.c[i], s[n - i]);
+        w[i] = s[n - i];
+        i += 1;
+    }
+    w
+}
+
+// x + the sum of p's places 1 to l.
+fn total(x: u16, p: [u16; 257], l: usize) -> u16
+    requires { ⌜ l ≤ 256 ⌝ }
+    ensures { λ d. ⌜ d ≡ x ⊕ sum (map (λ i. getD p i 0) (from 1 l)) ⌝ }
+{
+    let mut d = x;
+    let mut i = 1;
+    while i <= l {
+        d ^= p[i];
         i += 1;
     }
     d
