@@ -81,6 +81,10 @@ module _ (k : Key) (rows : Matrix) (good : keyNumber k ≡ 0) (public : publicKe
   written-rows : Rows (k .n - k .m * k .t) rows
   written-rows = public-rows k rows public (accepted k good .support-length)
 
+  -- the bytes of the public key
+  pub public-size : length (flatMap pack rows) ≡ k .m * k .t * bytesFor (k .n - k .m * k .t)
+  public-size = length-written written-rows ∙ ap (λ (i : ℕ). i * bytesFor (k .n - k .m * k .t)) (public-length k rows public)
+
   pub lock-written : (pattern : List ℕ) → lock (k .m) (k .n) (k .t) (flatMap pack rows) pattern ≡ pack (locked rows (unpack (k .n) pattern))
   unfolding lock
   lock-written pattern =
@@ -94,12 +98,11 @@ module _ (k : Key) (rows : Matrix) (good : keyNumber k ≡ 0) (public : publicKe
   lock-accepts pattern out formed count long =
       let w : ℕ = k .n - k .m * k .t in
       let a = accepted k good in
-      let size = length-written written-rows ∙ ap (λ (i : ℕ). i * bytesFor w) (public-length k rows public) in
       let width : isWidth (k .m) ≡ true = a .width in
       let limits : inLimits (k .m) (k .n) (k .t) ≡ true = limits-test (k .m) (k .n) (k .t) (a .limits) in
       let fillers = ap (λ (i : ℕ). every (λ r. fillerClear w (rowOf w (flatMap pack rows) r)) (from 0 i)) (sym (public-length k rows public)) ∙ fillers-written written-rows in
       accepts (isWidth (k .m)) (inLimits (k .m) (k .n) (k .t)) _ _ _ _ _ _
       width limits
-      (eq-eqb (length (flatMap pack rows)) (k .m * k .t * bytesFor w) size)
+      (eq-eqb (length (flatMap pack rows)) (k .m * k .t * bytesFor w) public-size)
       (eq-eqb (length pattern) (bytesFor (k .n)) (well-formed-length (k .n) pattern formed))
       fillers (well-formed-clear (k .n) pattern formed) (eq-eqb (weight (k .n) pattern) (k .t) count) (le-ltb (length out) (bytesFor (k .m * k .t)) long)

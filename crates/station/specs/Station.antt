@@ -53,6 +53,13 @@ heldBy s =
 unfoldable pub capsuleBits : Key → ℕ
 capsuleBits k = k .m * k .t
 
+-- the bytes of the public key, and of the workspace in which it is made
+abbrev pub publicBytes : Key → ℕ
+publicBytes k = capsuleBits k * bytesFor (k .n - capsuleBits k)
+
+abbrev pub workBytes : Key → ℕ
+workBytes k = capsuleBits k * bytesFor (k .n)
+
 -- the pattern that is found, and whether none is
 unfoldable pub found : Option (List ℕ) → List ℕ
 found none = []
@@ -71,8 +78,8 @@ unfoldable pub publishChecks : Held → List ℕ → List ℕ → List (Bool × 
 publishChecks h out work =
     (h .missing, 21) ∷
     (h .unsound, 25) ∷
-    (ltb (length out) (capsuleBits (h .key) * bytesFor (h .key .n - capsuleBits (h .key))), 10) ∷
-    (ltb (length work) (capsuleBits (h .key) * bytesFor (h .key .n)), 11) ∷ []
+    (ltb (length out) (publicBytes (h .key)), 10) ∷
+    (ltb (length work) (workBytes (h .key)), 11) ∷ []
 
 -- and 23
 unfoldable pub publishConditions : Held → List ℕ → List ℕ → List (Bool × ℕ)
