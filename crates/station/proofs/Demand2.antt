@@ -22,8 +22,8 @@ use Rattle.code.proofs.PublicKey.{row-capsule}
 use Rattle.code.proofs.LockLaws.{public-size, lock-written, lock-accepts}
 use Rattle.station.specs.Station.{State, published, Held, isEmpty, heldBy, capsuleBits, publicBytes, workBytes, publishChecks, publishConditions, openConditions, over, Result, publishOf}
 use Rattle.station.specs.Calls.{publish, open-capsule, conditionsOf, step}
-use Rattle.station.specs.Demands.{at, publishing, opening, patternOf, capsuleOf, locking, Demand2, Locks, Decides}
-use Rattle.station.proofs.StepLaws.{unless-accepted, step-number}
+use Rattle.station.specs.Demands.{at, publishResult, openResult, patternOf, capsuleOf, lockAnswer, Demand2, Locks, Decides}
+use Rattle.station.proofs.StepLaws.{unless-accepted, step-number, publish-station}
 use Rattle.station.proofs.Agreement.{sound-held}
 use Rattle.station.proofs.Demand3.{open-decides}
 
@@ -65,7 +65,7 @@ module _ (k : Key) (rows : Matrix) (good : keyNumber k ≡ 0) (public : publicKe
   opens = open-decides k good rows public
 
   publish-accepted : (state : State) (out work : List ℕ) → isEmpty state ≡ false → publicBytes k ≤ length out → workBytes k ≤ length work
-      → publishing state k out work .number ≡ 0
+      → publishResult state k out work .number ≡ 0
   unfolding at conditionsOf publishConditions publishChecks
   publish-accepted state out work h long room =
       step-number (at state k) (publish out work)
@@ -73,22 +73,24 @@ module _ (k : Key) (rows : Matrix) (good : keyNumber k ≡ 0) (public : publicKe
       ∙ publish-first (isEmpty state) (ltb (length out) (publicBytes k)) (ltb (length work) (workBytes k)) (dependent k)
       h (le-ltb _ _ long) (le-ltb _ _ room) (independent k public)
 
-  publish-output : (state : State) (out work : List ℕ) → publishing state k out work .number ≡ 0
-      → publishing state k out work .output ≡ over (flatMap pack rows) out
+  publish-output : (state : State) (out work : List ℕ) → publishResult state k out work .number ≡ 0
+      → publishResult state k out work .output ≡ over (flatMap pack rows) out
   unfolding at step publishOf written conditionsOf
   publish-output state out work e =
       ap (λ (r : Result). r .output) (unless-accepted (at state k) out _ _ (sym (step-number (at state k) (publish out work)) ∙ e))
       ∙ ap (λ (o : Option Matrix). over (written o) out) public
 
   publishes : (state : State) (out work : List ℕ) → isEmpty state ≡ false → publicBytes k ≤ length out → workBytes k ≤ length work
-      → (publishing state k out work .number ≡ 0) × (publishing state k out work .output ≡ over (flatMap pack rows) out)
+      → (publishResult state k out work .number ≡ 0) × (publishResult state k out work .station ≡ at published k)
+      × (publishResult state k out work .output ≡ over (flatMap pack rows) out)
+  unfolding at
   publishes state out work h long room =
       let zero = publish-accepted state out work h long room in
-      (zero, publish-output state out work zero)
+      (zero, publish-station (at state k) out work zero, publish-output state out work zero)
 
   -- the public key begins what publish wrote
-  public-begins : (state : State) (out work : List ℕ) → publishing state k out work .number ≡ 0
-      → take (publicBytes k) (publishing state k out work .output) ≡ flatMap pack rows
+  public-begins : (state : State) (out work : List ℕ) → publishResult state k out work .number ≡ 0
+      → take (publicBytes k) (publishResult state k out work .output) ≡ flatMap pack rows
   unfolding over capsuleBits
   public-begins state out work e =
       let l : length (flatMap pack rows) ≡ publicBytes k = public-size k rows good public in
@@ -101,13 +103,13 @@ module _ (k : Key) (rows : Matrix) (good : keyNumber k ≡ 0) (public : publicKe
   capsule-row r = let a : Accepted k = accepted k good in row-capsule k rows public (a .support-length) (le-of-lt (a .limits .over)) r
 
   locks : (pattern buffer : List ℕ) → wellFormed (k .n) pattern ≡ true → weight (k .n) pattern ≡ k .t
-      → bytesFor (capsuleBits k) ≤ length buffer → locking k rows pattern buffer ≡ 0
+      → bytesFor (capsuleBits k) ≤ length buffer → lockAnswer k rows pattern buffer ≡ 0
   unfolding capsuleBits
   locks pattern buffer formed count room = lock-accepts k rows good public pattern buffer formed count room
 
   locked-opened : (pattern out : List ℕ) → Bytes pattern → wellFormed (k .n) pattern ≡ true → weight (k .n) pattern ≡ k .t
       → bytesFor (k .n) ≤ length out
-      → (opening k (capsuleOf k rows pattern) out .number ≡ 0) × (opening k (capsuleOf k rows pattern) out .output ≡ over pattern out)
+      → (openResult k (capsuleOf k rows pattern) out .number ≡ 0) × (openResult k (capsuleOf k rows pattern) out .output ≡ over pattern out)
   unfolding weight
   locked-opened pattern out bytes formed count long =
       let e : List ℕ = unpack (k .n) pattern in
@@ -126,22 +128,22 @@ module _ (k : Key) (rows : Matrix) (good : keyNumber k ≡ 0) (public : publicKe
     locks : Locks k rows capsule e
     wrote : patternOf k capsule out ≡ pack e
 
-  finds : (capsule out : List ℕ) → opening k capsule out .number ≡ 0 → Found capsule out
+  finds : (capsule out : List ℕ) → openResult k capsule out .number ≡ 0 → Found capsule out
   finds capsule out zero =
       let o = opened k capsule out zero in
       let w = opens capsule out (o .0) (o .1) .writes zero in
       let l : Locks k rows capsule (w .0) = w .1 in
       record { e = w .0; locks = l; wrote = ap (take (bytesFor (k .n))) (w .2) ∙ begins (l .row) out }
 
-  opened-locks : (capsule out buffer : List ℕ) → opening k capsule out .number ≡ 0
-      → bytesFor (capsuleBits k) ≤ length buffer → locking k rows (patternOf k capsule out) buffer ≡ 0
+  opened-locks : (capsule out buffer : List ℕ) → openResult k capsule out .number ≡ 0
+      → bytesFor (capsuleBits k) ≤ length buffer → lockAnswer k rows (patternOf k capsule out) buffer ≡ 0
   opened-locks capsule out buffer zero room =
       let f = finds capsule out zero in
       let r : Row (k .n) (f .e) = f .locks .row in
-      ap (λ (b : List ℕ). locking k rows b buffer) (f .wrote)
+      ap (λ (b : List ℕ). lockAnswer k rows b buffer) (f .wrote)
       ∙ locks (pack (f .e)) buffer (well-formed-pack r) (weight-pack r ∙ f .locks .weight) room
 
-  opened-locked : (capsule out : List ℕ) → Bytes capsule → opening k capsule out .number ≡ 0
+  opened-locked : (capsule out : List ℕ) → Bytes capsule → openResult k capsule out .number ≡ 0
       → capsuleOf k rows (patternOf k capsule out) ≡ capsule
   opened-locked capsule out bytes zero =
       let f = finds capsule out zero in

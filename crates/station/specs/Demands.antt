@@ -42,38 +42,39 @@ unfoldable pub at : State → Key → Station
 at state k = record { state = state; key = k }
 
 -- what publish and open hand back, and the pattern that open wrote
-abbrev pub publishing : State → Key → List ℕ → List ℕ → Result
-publishing state k out work = step (at state k) (publish out work)
+abbrev pub publishResult : State → Key → List ℕ → List ℕ → Result
+publishResult state k out work = step (at state k) (publish out work)
 
-abbrev pub opening : Key → List ℕ → List ℕ → Result
-opening k capsule out = step (at published k) (open-capsule capsule out)
+abbrev pub openResult : Key → List ℕ → List ℕ → Result
+openResult k capsule out = step (at published k) (open-capsule capsule out)
 
 abbrev pub patternOf : Key → List ℕ → List ℕ → List ℕ
-patternOf k capsule out = take (bytesFor (k .n)) (opening k capsule out .output)
+patternOf k capsule out = take (bytesFor (k .n)) (openResult k capsule out .output)
 
 -- lock under a key's shape and public key: the capsule, and the number with a buffer for it
 abbrev pub capsuleOf : Key → Matrix → List ℕ → List ℕ
 capsuleOf k rows pattern = lock (k .m) (k .n) (k .t) (flatMap pack rows) pattern
 
-abbrev pub locking : Key → Matrix → List ℕ → List ℕ → ℕ
-locking k rows pattern buffer = lockNumber (k .m) (k .n) (k .t) (flatMap pack rows) pattern buffer
+abbrev pub lockAnswer : Key → Matrix → List ℕ → List ℕ → ℕ
+lockAnswer k rows pattern buffer = lockNumber (k .m) (k .n) (k .t) (flatMap pack rows) pattern buffer
 
--- Demand 2, under an accepted key and its public key T: publish writes T, and lock reads what it wrote; lock then open gives
--- the pattern back, and open then lock the capsule, byte for byte, and none of them refuses.
+-- Demand 2, under an accepted key and its public key T: publish with room writes T, loaded or published; lock then open gives
+-- the pattern back, and open then lock the capsule, byte for byte; lock accepts each such pattern.
 pub record RoundTrips (k : Key) (rows : Matrix) : Type 0 where
   pub publishes : (state : State) (out work : List ℕ) → isEmpty state ≡ false → publicBytes k ≤ length out → workBytes k ≤ length work
-      → (publishing state k out work .number ≡ 0) × (publishing state k out work .output ≡ over (flatMap pack rows) out)
-  -- the first bytes that publish wrote are the public key of lock
-  pub public : (state : State) (out work : List ℕ) → publishing state k out work .number ≡ 0
-      → take (publicBytes k) (publishing state k out work .output) ≡ flatMap pack rows
+      → (publishResult state k out work .number ≡ 0) × (publishResult state k out work .station ≡ at published k)
+      × (publishResult state k out work .output ≡ over (flatMap pack rows) out)
+  -- the bytes that publish wrote are the public key that lock takes
+  pub public : (state : State) (out work : List ℕ) → publishResult state k out work .number ≡ 0
+      → take (publicBytes k) (publishResult state k out work .output) ≡ flatMap pack rows
   pub locks : (pattern buffer : List ℕ) → wellFormed (k .n) pattern ≡ true → weight (k .n) pattern ≡ k .t
-      → bytesFor (capsuleBits k) ≤ length buffer → locking k rows pattern buffer ≡ 0
+      → bytesFor (capsuleBits k) ≤ length buffer → lockAnswer k rows pattern buffer ≡ 0
   pub locked-opened : (pattern out : List ℕ) → Bytes pattern → wellFormed (k .n) pattern ≡ true → weight (k .n) pattern ≡ k .t
       → bytesFor (k .n) ≤ length out
-      → (opening k (capsuleOf k rows pattern) out .number ≡ 0) × (opening k (capsuleOf k rows pattern) out .output ≡ over pattern out)
-  pub opened-locks : (capsule out buffer : List ℕ) → opening k capsule out .number ≡ 0
-      → bytesFor (capsuleBits k) ≤ length buffer → locking k rows (patternOf k capsule out) buffer ≡ 0
-  pub opened-locked : (capsule out : List ℕ) → Bytes capsule → opening k capsule out .number ≡ 0
+      → (openResult k (capsuleOf k rows pattern) out .number ≡ 0) × (openResult k (capsuleOf k rows pattern) out .output ≡ over pattern out)
+  pub opened-locks : (capsule out buffer : List ℕ) → openResult k capsule out .number ≡ 0
+      → bytesFor (capsuleBits k) ≤ length buffer → lockAnswer k rows (patternOf k capsule out) buffer ≡ 0
+  pub opened-locked : (capsule out : List ℕ) → Bytes capsule → openResult k capsule out .number ≡ 0
       → capsuleOf k rows (patternOf k capsule out) ≡ capsule
 
 abbrev pub Demand2 : Type 0
