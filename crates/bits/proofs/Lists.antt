@@ -4,9 +4,10 @@ use mathlib.Core.Bool.{Bool, true, false, _&&_, false≢true}
 use mathlib.Core.List.{List, [], _∷_, _++_, map}
 use Prim.Native.Nat.{ℕ, zero, suc, _+_, _≤_, _<_, suc-le-suc, zero-le}
 use native.Mathlib.Nat.{add-zero, zero-add, suc-add, zero-lt-suc, le-of-suc-le-suc, not-suc-le-zero, lt-of-le-of-lt, min-le-left}
+use native.Mathlib.Numerals.{add-one}
 use native.Mathlib.Omega.{arith}
-use lib.ListN.{length, getD, take, drop, length-map, length-take, length-drop, List·getD-eq-default}
-use lib.Seq.{ext-getD, getD-take, getD-drop}
+use lib.ListN.{length, getD, take, drop, length-map, length-take, length-drop, drop-of-length-le, List·getD-eq-default}
+use lib.Seq.{ext-getD, getD-take, getD-drop, drop-cons}
 use Rattle.bits.specs.Bits.{from, every}
 
 pub cons-eq : {x y : ℕ} {l r : List ℕ} → x ≡ y → l ≡ r → x ∷ l ≡ y ∷ r
@@ -76,6 +77,21 @@ pub every-all : (p : ℕ → Bool) (l : List ℕ) (d : ℕ) → ((i : ℕ) → i
 unfolding every
 every-all p [] d h = refl
 every-all p (x ∷ l) d h = ap₂ _&&_ (h 0 (zero-lt-suc (length l))) (every-all p l d (λ i k. h (suc i) (suc-le-suc k)))
+
+-- the same as a loop over the places makes it: those from i on decide
+module _ (p : ℕ → Bool) (s : List ℕ) where
+  module _ (i : ℕ) (h : i < length s) where
+    pub every-next : p (getD s i 0) ≡ true → every p (drop (i + 1) s) ≡ every p (drop i s)
+    unfolding every
+    every-next e = rw (add-one, drop-cons s i 0, e)
+
+    pub every-stop : p (getD s i 0) ≡ false → false ≡ every p (drop i s)
+    unfolding every
+    every-stop e = rw (drop-cons s i 0, e)
+
+  pub every-end : (i : ℕ) → length s ≤ i → true ≡ every p (drop i s)
+  unfolding every
+  every-end i h = rw (drop-of-length-le s h)
 
 pub every-from-at : (p : ℕ → Bool) (k n : ℕ) → every p (from k n) ≡ true → (i : ℕ) → i < n → p (k + i) ≡ true
 every-from-at p k n e i h = ap p (sym (from-at k n i 0 h)) ∙ every-at p (from k n) e i 0 (rw length-from h)

@@ -13,10 +13,13 @@ use Rattle.field.proofs.Horner.{xtime}
 pub masked-lt : (x : ℕ) {v n : ℕ} → v < n → bitAnd x 1 * v < n
 masked-lt x h = rw (and-mask x 1) (digit-lt (low x) h)
 
+-- `1 << m` of 16 digits
+pub one-shl-16 : (m : ℕ) → m < 16 → 1 * 2 ^ m % 65536 ≡ 2 ^ m
+one-shl-16 m s = ap (λ (x : ℕ). x % 65536) (one-mul (2 ^ m)) ∙ mod-eq-of-lt (omega (arith, pow-mono (le-of-suc-le-suc s)))
+
 module _ (m : ℕ) (s : m < 14) where
-  -- `1 << m`
   pub one-shl : 1 * 2 ^ m % 65536 ≡ 2 ^ m
-  one-shl = ap (λ (x : ℕ). x % 65536) (one-mul (2 ^ m)) ∙ mod-eq-of-lt (omega (arith, pow-mono (le-of-suc-le-suc s)))
+  one-shl = one-shl-16 m (omega arith)
 
   -- `a & ((1 << m) - 1)`
   pub low-digits : (a : ℕ) → bitAnd a (1 * 2 ^ m % 65536 - 1) ≡ a % 2 ^ m

@@ -3,9 +3,10 @@ ghost use mathlib.Core.Path.{_≡_};
 ghost use mathlib.Core.List.{[], _∷_};
 ghost use Prim.Native.Nat.{_^_, _<_, _≤_};
 ghost use mathlib.Core.Bool.{true};
+ghost use lib.Dec.{ltb};
 ghost use Rattle.bits.specs.Xor.{_⊕_};
-ghost use Rattle.bits.specs.Bits.{eachWith};
-ghost use Rattle.field.specs.Field.{isWidth, modulusOf, mul, inv};
+ghost use Rattle.bits.specs.Bits.{every, eachWith};
+ghost use Rattle.field.specs.Field.{isWidth, isElement, modulusOf, mul, inv};
 ghost use Rattle.field.specs.Poly.{hornerEach};
 ghost use Rattle.field.specs.Answers.{elementsNumber, addOf, multiplyOf, invertOf};
 
@@ -103,6 +104,30 @@ fn horner_places(m: u8, f: u16, r: &mut [u16], a: &[u16], c: u16)
         r[i] = product(m, f, r[i] & mask, a[i] & mask, 13) ^ c;
         i += 1;
     }
+}
+
+// Every number is below 2^m.
+pub fn elements(m: u8, s: &[u16]) -> bool
+    ensures { λ r. ⌜ r ≡ every (isElement m) (now (s .entry)) ⌝ }
+{
+    if 16 <= m {
+        return true;
+    }
+    below(1 << m, s)
+}
+
+// Every number is below top.
+fn below(top: u16, s: &[u16]) -> bool
+    ensures { λ r. ⌜ r ≡ every (λ x. ltb x top) (now (s .entry)) ⌝ }
+{
+    let mut i = 0;
+    while i < s.len() {
+        if top <= s[i] {
+            return false;
+        }
+        i += 1;
+    }
+    true
 }
 
 // The number of the refusal of an element a of width m, and 0 where there is none.

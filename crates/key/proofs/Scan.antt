@@ -1,26 +1,10 @@
--- A test of every number of a list, as a loop over its places makes it. Assumes nothing.
+-- A test of every number of a list. Assumes nothing.
 use mathlib.Core.Path.{_≡_, refl, sym, ap, ap₂, _∙_}
 use mathlib.Core.Bool.{Bool, true, false, _&&_, and-assoc}
 use mathlib.Core.List.{List, [], _∷_, _++_}
-use Prim.Native.Nat.{ℕ, zero, suc, _+_, _≤_, _<_}
-use native.Mathlib.Numerals.{add-one}
-use lib.ListN.{length, getD, drop, replicate, drop-of-length-le}
-use lib.Seq.{drop-cons}
+use Prim.Native.Nat.{ℕ, zero, suc}
+use lib.ListN.{replicate}
 use Rattle.bits.specs.Bits.{every}
-
-module _ (p : ℕ → Bool) (s : List ℕ) where
-  module _ (i : ℕ) (h : i < length s) where
-    pub every-next : p (getD s i 0) ≡ true → every p (drop (i + 1) s) ≡ every p (drop i s)
-    unfolding every
-    every-next e = rw (add-one, drop-cons s i 0, e)
-
-    pub every-stop : p (getD s i 0) ≡ false → false ≡ every p (drop i s)
-    unfolding every
-    every-stop e = rw (drop-cons s i 0, e)
-
-  pub every-end : (i : ℕ) → length s ≤ i → true ≡ every p (drop i s)
-  unfolding every
-  every-end i h = rw (drop-of-length-le s h)
 
 pub every-append : (p : ℕ → Bool) (l r : List ℕ) → every p (l ++ r) ≡ every p l && every p r
 unfolding every

@@ -7,27 +7,11 @@ ghost use lib.Dec.{eqb};
 ghost use lib.ListN.{length, take, getD};
 ghost use Prim.Native.Nat.{ℕ, _≤_, _<_};
 ghost use Rattle.bits.specs.Bits.{every};
-ghost use Rattle.field.specs.Field.{isWidth, isElement};
+ghost use Rattle.field.specs.Field.{isWidth};
 ghost use Rattle.field.specs.Numbers.{firstOf};
 ghost use Rattle.key.specs.Keys.{distinct as allDistinct, keyNumber};
 ghost use Rattle.key.specs.Parts.{noRoot, faults as faultsOf};
 ghost use Rattle.key.specs.Kept.{kept};
-
-// Every number is below 2^m.
-fn elements(m: u8, s: &[u16]) -> bool
-    requires { ⌜ isWidth m ≡ true ⌝ }
-    ensures { λ r. ⌜ r ≡ every (isElement m) (now (s .entry)) ⌝ }
-{
-    let top: u16 = 1 << m;
-    let mut i = 0;
-    while i < s.len() {
-        if top <= s[i] {
-            return false;
-        }
-        i += 1;
-    }
-    true
-}
 
 // No number stands twice: seen[x] is 1 for each x passed.
 fn distinct(s: &[u16]) -> bool
@@ -80,10 +64,10 @@ fn faults(m: u8, s: &[u16], g: &[u16]) -> u8
     requires { ⌜ (isWidth m ≡ true) × (length (now s) ≤ 8192) × (length (now g) ≤ 128) ⌝ }
     ensures { λ r. ⌜ r ≡ firstOf (faultsOf m (now (s .entry)) (now (g .entry))) ⌝ }
 {
-    if !elements(m, s) {
+    if !field::elements(m, s) {
         return 4;
     }
-    if !elements(m, g) {
+    if !field::elements(m, g) {
         return 4;
     }
     if !distinct(s) {

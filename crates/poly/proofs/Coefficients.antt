@@ -1,6 +1,6 @@
 -- Arrays of 129 coefficients: what the loops of the square-free test store, and the polynomials of that. Assumes nothing.
 use mathlib.Core.Path.{_≡_, refl, sym, ap, ap₂, _∙_, fun-ext}
-use mathlib.Core.Bool.{Bool, true, false, false≢true, cond}
+use mathlib.Core.Bool.{Bool, true, false, cond}
 use mathlib.Core.List.{List, [], _∷_, _++_, map, append-assoc}
 use Prim.Native.Nat.{ℕ, zero, suc, _+_, _-_, _%_, _^_, _≤_, _<_}
 use native.Mathlib.Nat.{zero-add, suc-inj, min-le-left}
@@ -110,14 +110,6 @@ horner-multiple m c w n b e = hornerEach-width m 0 b (replicate n c) w ∙ go n 
     go zero (x ∷ b) e = absurd (omega arith)
     go (suc n) [] e = refl
     go (suc n) (x ∷ b) e = cons-eq (xor-zero _ ∙ mul-comm m x c) (go n b (suc-inj e))
-
--- one entry that fails
-pub not-every : (p : ℕ → Bool) (l : List ℕ) (i : ℕ) → i < length l → p (getD l i 0) ≡ false → every p l ≡ false
-not-every p l i h f = go (every p l) refl
-  where
-    go : (b : Bool) → every p l ≡ b → every p l ≡ false
-    go true e = absurd (false≢true (sym f ∙ every-at p l e i 0 h))
-    go false e = e
 
 pub every-element : (m : ℕ) (l : List ℕ) → every (isElement m) l ≡ true → Elements m l
 unfolding isElement

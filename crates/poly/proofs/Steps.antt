@@ -1,22 +1,20 @@
 -- What the register's loops compute, a step at a time. Assumes nothing.
 use mathlib.Core.Path.{_≡_, refl, sym, ap, ap₂, _∙_}
-use mathlib.Core.Bool.{true, false, _&&_}
 use mathlib.Core.List.{List, [], _∷_, _++_, map}
-use Prim.Native.Nat.{ℕ, zero, suc, _+_, _-_, _*_, _^_, _≤_, _<_}
+use Prim.Native.Nat.{ℕ, zero, suc, _+_, _-_, _*_, _≤_, _<_}
 use native.Mathlib.Nat.{sub-zero}
 use native.Mathlib.Omega.{arith}
 use native.Mathlib.Decide.{decLt}
 use native.Mathlib.Numerals.{add-one}
 use borrow.Author.Tests.{eq-eqb, ne-eqb, lt-ltb, le-ltb}
-use lib.Dec.{ltb}
-use lib.ListN.{length, getD, take, drop, set, replicate, length-replicate, length-append, drop-of-length-le}
-use lib.Seq.{drop-cons, take-at, getD-append-add, getD-set-same, getD-set-other, getD-take, length-take-le}
+use lib.ListN.{length, getD, take, set, replicate, length-replicate, length-append}
+use lib.Seq.{take-at, getD-append-add, getD-set-same, getD-set-other, getD-take, length-take-le}
 use Rattle.bits.specs.Xor.{_⊕_}
-use Rattle.bits.specs.Bits.{from, every, eachWith, xorRow}
+use Rattle.bits.specs.Bits.{from, eachWith, xorRow}
 use Rattle.bits.proofs.Xor.{xor-zero, xor-assoc}
 use Rattle.bits.proofs.Lists.{cons-eq, map-from}
 use Rattle.bits.proofs.Rows.{xorRow-suc, xorRow-take}
-use Rattle.field.specs.Field.{isElement, mul, inv}
+use Rattle.field.specs.Field.{mul, inv}
 use Rattle.field.specs.Poly.{hornerEach}
 use Rattle.field.proofs.Table.{Width}
 use Rattle.field.proofs.Laws.{mul-comm}
@@ -24,22 +22,6 @@ use Rattle.field.proofs.Places.{hornerEach-width, hornerEach-at}
 use Rattle.poly.specs.Polynomials.{sum}
 use Rattle.poly.specs.Registered.{Earlier}
 use Rattle.poly.specs.Register.{Register, start, discrepancy, corrected, turn, turns, register}
-
--- the test of the elements from the place i on
-module _ (m : ℕ) (s : List ℕ) (i : ℕ) where
-  at-place : i < length s → every (isElement m) (drop i s) ≡ ltb (getD s i 0) (2 ^ m) && every (isElement m) (drop (i + 1) s)
-  unfolding every isElement
-  at-place h = rw (add-one, drop-cons s i 0 h)
-
-  pub element-passed : i < length s → getD s i 0 < 2 ^ m → every (isElement m) (drop (i + 1) s) ≡ every (isElement m) (drop i s)
-  element-passed h e = sym (at-place h ∙ ap (λ b. b && every (isElement m) (drop (i + 1) s)) (lt-ltb _ _ e))
-
-  pub element-refused : i < length s → 2 ^ m ≤ getD s i 0 → every (isElement m) (drop i s) ≡ false
-  element-refused h e = at-place h ∙ ap (λ b. b && every (isElement m) (drop (i + 1) s)) (le-ltb _ _ e)
-
-  pub elements-end : length s ≤ i → every (isElement m) (drop i s) ≡ true
-  unfolding every
-  elements-end h = rw (drop-of-length-le s h)
 
 -- the term of the place k in the discrepancy
 abbrev pub term : ℕ → List ℕ → Register → ℕ → ℕ → ℕ

@@ -5,8 +5,8 @@ ghost use mathlib.Core.List.{_++_, map};
 ghost use Prim.Native.Nat.{_+_, _≤_, _<_};
 ghost use lib.ListN.{length, getD, replicate};
 ghost use Rattle.bits.specs.Xor.{_⊕_};
-ghost use Rattle.bits.specs.Bits.{from, every, xorRow};
-ghost use Rattle.field.specs.Field.{isWidth, isElement};
+ghost use Rattle.bits.specs.Bits.{from, xorRow};
+ghost use Rattle.field.specs.Field.{isWidth};
 ghost use Rattle.poly.specs.Polynomials.{sum};
 ghost use Rattle.poly.specs.Register.{
   start as startOf,
@@ -74,26 +74,10 @@ fn refusal(m: u8, s: &[u16]) -> u8
     if Registered::LONGEST < s.len() {
         return 2;
     }
-    if !elements(m, s) {
+    if !field::elements(m, s) {
         return 4;
     }
     0
-}
-
-// Every number of the list is below 2^m.
-fn elements(m: u8, s: &[u16]) -> bool
-    requires { ⌜ isWidth m ≡ true ⌝ }
-    ensures { λ r. ⌜ r ≡ every (isElement m) (now (s .entry)) ⌝ }
-{
-    let top: u16 = 1 << m;
-    let mut i = 0;
-    while i < s.len() {
-        if top <= s[i] {
-            return false;
-        }
-        i += 1;
-    }
-    true
 }
 
 // Figure 1 over the whole list.

@@ -144,22 +144,6 @@ fn common_divisor(m: u8, g: &[u16]) -> bool
     2 <= p.da
 }
 
-// Whether every entry of g is an element.
-fn all_elements(m: u8, g: &[u16]) -> bool
-    requires { ⌜ isWidth m ≡ true ⌝ }
-    ensures { λ r. ⌜ r ≡ every (isElement m) (now (g .entry)) ⌝ }
-{
-    let top: u16 = 1 << m;
-    let mut i = 0;
-    while i < g.len() {
-        if top <= g[i] {
-            return false;
-        }
-        i += 1;
-    }
-    true
-}
-
 // Whether a square divides the monic polynomial with the lower coefficients g; false where m is no width, g has over 128
 // coefficients or one of them is no element.
 pub fn has_square(m: u8, g: &[u16]) -> bool
@@ -171,7 +155,7 @@ pub fn has_square(m: u8, g: &[u16]) -> bool
     if 128 < g.len() {
         return false;
     }
-    if all_elements(m, g) {
+    if field::elements(m, g) {
         common_divisor(m, g)
     } else {
         false

@@ -5,13 +5,13 @@ use Rattle.key.proofs.checks.faults.Statement.{statement}
 use Rattle.key.proofs.checks.faults.Tie as tie
 
 elements-requires : tie.Need-elements-requires
-elements-requires c κs = c .before .before .pre .0
+elements-requires c κs = tt
 
 returns : tie.Need-returns
 returns c = fault-support _ _ _ (failed (c .before .elements .ensures) (c .if1 .taken))
 
 elements-requires-2 : tie.Need-elements-requires-2
-elements-requires-2 c κs = c .before .before .before .before .pre .0
+elements-requires-2 c κs = tt
 
 returns-2 : tie.Need-returns-2
 returns-2 c =

@@ -8,7 +8,7 @@ use borrow.Author.Tests.{eq-eqb, ne-eqb}
 use lib.Dec.{eqb}
 use lib.ListN.{length, drop}
 use Rattle.bits.specs.Bits.{every}
-use Rattle.key.proofs.Scan.{every-next, every-stop, every-end}
+use Rattle.bits.proofs.Lists.{every-next, every-stop, every-end}
 use Rattle.key.proofs.checks.no_zero.Statement.{statement}
 use Rattle.key.proofs.checks.no_zero.Tie as tie
 

@@ -17,7 +17,7 @@ returns-2 : tie.Need-returns-2
 returns-2 c = sym (number-long _ _ (modulus-some _ (c .before .before .modulus .ensures) (c .before .if1 .left)) (c .if2 .taken))
 
 elements-requires : tie.Need-elements-requires
-elements-requires c κs = modulus-some _ (c .before .before .modulus .ensures) (c .before .if1 .left)
+elements-requires c κs = tt
 
 returns-3 : tie.Need-returns-3
 returns-3 c =

@@ -44,27 +44,27 @@ returns-2 : tie.Need-returns-2
 returns-2 c =
     let b = c .before in sym (too-long _ _ (modulus-some _ (b .before .modulus .ensures) (b .if1 .left)) (omega arith))
 
-all-elements-requires : tie.Need-all-elements-requires
-all-elements-requires c κs = let b = c .before in modulus-some _ (b .before .modulus .ensures) (b .if1 .left)
+elements-requires : tie.Need-elements-requires
+elements-requires c κs = tt
 
 common-divisor-requires : tie.Need-common-divisor-requires
 common-divisor-requires c κs =
     let b = c .before .before in
-    (modulus-some _ (b .before .before .modulus .ensures) (b .before .if1 .left), omega arith, sym (c .before .all-elements .ensures) ∙ c .if3 .taken)
+    (modulus-some _ (b .before .before .modulus .ensures) (b .before .if1 .left), omega arith, sym (c .before .elements .ensures) ∙ c .if3 .taken)
 
 returns-3 : tie.Need-returns-3
 returns-3 c =
     let t = c .before in
     let b = t .before .before in
     c .common-divisor .ensures
-    ∙ sym (all-in-bounds _ _ (modulus-some _ (b .before .before .modulus .ensures) (b .before .if1 .left)) (b .if2 .left) (sym (t .before .all-elements .ensures) ∙ t .if3 .taken))
+    ∙ sym (all-in-bounds _ _ (modulus-some _ (b .before .before .modulus .ensures) (b .before .if1 .left)) (b .if2 .left) (sym (t .before .elements .ensures) ∙ t .if3 .taken))
 
 returns-4 : tie.Need-returns-4
 returns-4 c =
     let b = c .before .before in
-    sym (no-element _ _ (modulus-some _ (b .before .before .modulus .ensures) (b .before .if1 .left)) (b .if2 .left) (sym (c .before .all-elements .ensures) ∙ c .if3 .left))
+    sym (no-element _ _ (modulus-some _ (b .before .before .modulus .ensures) (b .before .if1 .left)) (b .if2 .left) (sym (c .before .elements .ensures) ∙ c .if3 .left))
 
 pub has-square-spec : {M : Type 1} → statement M
 has-square-spec =
     tie.close
-    (tie.spec modulus-requires returns returns-2 all-elements-requires common-divisor-requires returns-3 returns-4)
+    (tie.spec modulus-requires returns returns-2 elements-requires common-divisor-requires returns-3 returns-4)
