@@ -109,3 +109,8 @@ module _ (k : Key) where
   pub right-length : k .n ≤ length (k .support) → k .t ≤ length (k .g) → wrongLength k ≡ false
   unfolding wrongLength
   right-length n t = rw (take-right (k .n) (k .support) n, take-right (k .t) (k .g) t)
+
+  pub kept-faults-number : {r : ℕ} → Width (k .m) → wrongLength k ≡ false → inLimits (k .m) (k .n) (k .t) ≡ true
+      → r ≡ firstOf (faults (k .m) (take (k .n) (k .support)) (take (k .t) (k .g))) → r ≡ keyNumber (kept k)
+  unfolding kept
+  kept-faults-number w l e q = q ∙ number-faults (wrongLength k) (kept k) w l e ∙ kept-number

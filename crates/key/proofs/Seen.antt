@@ -26,16 +26,17 @@ pub fresh-start : (n : ℕ) (s : List ℕ) → fresh (replicate n 0) s ≡ disti
 unfolding fresh
 fresh-start n s = ap (λ (b : Bool). b && distinct s) (every-true (λ x. eqb (getD (replicate n 0) x 0) 0) (λ x. eq-eqb (getD (replicate n 0) x 0) 0 (zeros-at n x)) s)
 
+-- not seen and other than x: not seen once x is marked
+marked : (seen : List ℕ) (x : ℕ) → x < length seen → (y : ℕ) → eqb (getD seen y 0) 0 && not (eqb x y) ≡ eqb (getD (set seen x 1) y 0) 0
+marked seen x l y = elim (ℕ-discrete x y) [
+  | yes e ↦ rw (sym e, eq-eqb x x refl, getD-set-same seen x 1 0 l) (and-false (eqb (getD seen x 0) 0))
+  | no n ↦ rw (ne-eqb x y n, getD-set-other seen x y 1 0 (λ e. n (sym e))) (and-true (eqb (getD seen y 0) 0))
+]
+
 module _ (seen s : List ℕ) (i : ℕ) (h : i < length s) where
   pub fresh-stop : (getD seen (getD s i 0) 0 ≡ 0 → ⊥) → false ≡ fresh seen (drop i s)
   unfolding fresh every
   fresh-stop n = rw (drop-cons s i 0 h, ne-eqb (getD seen (getD s i 0) 0) 0 n)
-
-  marked : (x : ℕ) → x < length seen → (y : ℕ) → eqb (getD seen y 0) 0 && not (eqb x y) ≡ eqb (getD (set seen x 1) y 0) 0
-  marked x l y = elim (ℕ-discrete x y) [
-    | yes e ↦ rw (sym e, eq-eqb x x refl, getD-set-same seen x 1 0 l) (and-false (eqb (getD seen x 0) 0))
-    | no n ↦ rw (ne-eqb x y n, getD-set-other seen x y 1 0 (λ e. n (sym e))) (and-true (eqb (getD seen y 0) 0))
-  ]
 
   pub fresh-next : getD s i 0 < length seen → getD seen (getD s i 0) 0 ≡ 0 → fresh (set seen (getD s i 0) 1) (drop (i + 1) s) ≡ fresh seen (drop i s)
   unfolding fresh every distinct
@@ -46,7 +47,7 @@ module _ (seen s : List ℕ) (i : ℕ) (h : i < length s) where
       let other : ℕ → Bool = λ y. not (eqb x y) in
       let new : ℕ → Bool = λ y. eqb (getD (set seen x 1) y 0) 0 in
       rw (add-one, drop-cons s i 0 h, eq-eqb (getD seen x 0) 0 e)
-      (ap (λ (b : Bool). b && distinct rest) (sym (every-both old other new (marked x l) rest))
+      (ap (λ (b : Bool). b && distinct rest) (sym (every-both old other new (marked seen x l) rest))
       ∙ and-assoc (every old rest) (every other rest) (distinct rest))
 
 pub fresh-end : (seen s : List ℕ) (i : ℕ) → length s ≤ i → true ≡ fresh seen (drop i s)

@@ -6,7 +6,7 @@ use lib.ListN.{length}
 use Rattle.field.proofs.Table.{modulus-none, modulus-some}
 use Rattle.key.specs.Kept.{kept}
 use Rattle.key.proofs.Order.{failed, passed}
-use Rattle.key.proofs.Conditions.{wrongLength, kept-number, wrong-n, wrong-t, right-length, head-width, head-length, head-limits, first-from, number-faults}
+use Rattle.key.proofs.Conditions.{wrongLength, kept-number, wrong-n, wrong-t, right-length, head-width, head-length, head-limits, first-from, kept-faults-number}
 use Rattle.key.proofs.checks.check.Statement.{statement}
 use Rattle.key.proofs.checks.check.Tie as tie
 
@@ -58,17 +58,13 @@ kept-faults-requires : tie.Need-kept-faults-requires
 kept-faults-requires c κs = (modulus-some _ (c .before .before .before .before .before .before .before .before .modulus .ensures) (c .before .before .before .before .before .before .before .if1 .left), c .before .before .before .before .before .before .if2 .left, c .before .before .before .before .before .if3 .left)
 
 returns-5 : tie.Need-returns-5
-unfolding kept
 returns-5 c =
     let k = c .before .before .before .before .before .before .before .before .before .before .args .t1 in
     let s : length (k .support) ≡ 8192 = search needs in
     let g : length (k .g) ≡ 128 = search needs in
-    c .kept-faults .ensures
-    ∙ number-faults (wrongLength k) (kept k)
-    (modulus-some _ (c .before .before .before .before .before .before .before .before .before .modulus .ensures) (c .before .before .before .before .before .before .before .before .if1 .left))
-    (right-length k (omega arith) (omega arith))
-    (passed (c .before .before .before .before .before .in-limits .ensures) (c .before .before .before .before .if4 .left))
-    ∙ kept-number k
+    let w = modulus-some _ (c .before .before .before .before .before .before .before .before .before .modulus .ensures) (c .before .before .before .before .before .before .before .before .if1 .left) in
+    let l = right-length k (omega arith) (omega arith) in
+    kept-faults-number k w l (passed (c .before .before .before .before .before .in-limits .ensures) (c .before .before .before .before .if4 .left)) (c .kept-faults .ensures)
 
 pub check-spec : {M : Type 1} → statement M
 check-spec =

@@ -50,7 +50,7 @@ loop-again c =
     let l = c .before .before .before .loop in
     let b = c .before .before .before .before in
     let h = b .pre (l .i) in (
-      length-set (l .seen) _ 1 ∙ l .inv .0,
+      length-set (l .seen) _ _ ∙ l .inv .0,
       fresh-next (l .seen) (b .args .s .now) (l .i) (omega arith) (omega arith) (c .if1 .left) ∙ l .inv .1,
     )
 

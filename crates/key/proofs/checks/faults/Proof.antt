@@ -1,5 +1,6 @@
 -- The tests in order. Assumes nothing.
 use mathlib.Core.Path.{sym, _∙_}
+use native.Mathlib.Omega.{arith}
 use Rattle.key.proofs.Order.{failed, passed, elements-lt, square-right, fault-support, fault-coefficient, fault-twice, fault-square, fault-root, fault-none}
 use Rattle.key.proofs.checks.faults.Statement.{statement}
 use Rattle.key.proofs.checks.faults.Tie as tie
@@ -42,7 +43,7 @@ returns-4 c =
     (sym (square-right _ _ (pre .0) (pre .2) g) ∙ sym (c .before .has-square .ensures) ∙ c .if4 .taken)
 
 no-root-requires : tie.Need-no-root-requires
-no-root-requires c κs = (c .before .before .before .before .before .before .before .before .before .before .pre .0, c .before .before .before .before .before .before .before .before .before .before .pre .1)
+no-root-requires c κs = (c .before .before .before .before .before .before .before .before .before .before .pre .0, omega arith)
 
 returns-5 : tie.Need-returns-5
 returns-5 c =
