@@ -2,15 +2,14 @@
 use mathlib.Core.Path.{_≡_, refl, ap, _∙_}
 use mathlib.Core.Bool.{Bool, true, false, not, cond, _&&_, and-false}
 use mathlib.Core.List.{List, [], _∷_}
-use Prim.Native.Nat.{ℕ, zero, suc, min, _*_, _^_, _≤_, _<_}
+use Prim.Native.Nat.{ℕ, zero, suc, min, _≤_, _<_}
 use native.Mathlib.Nat.{min-le-right, le-of-suc-le-suc}
 use native.Mathlib.Omega.{arith}
-use lib.Dec.{eqb, leb, ltb}
+use lib.Dec.{eqb}
 use lib.ListN.{length, take, length-take}
 use lib.Seq.{length-take-le}
 use lib.Pow.{pow-mono}
-use borrow.Author.Tests.{eq-eqb, ne-eqb, leb-true}
-use Rattle.bits.proofs.Lists.{and-left, and-right}
+use borrow.Author.Tests.{eq-eqb, ne-eqb}
 use Rattle.field.specs.Numbers.{firstOf}
 use Rattle.field.specs.Field.{isWidth}
 use Rattle.field.proofs.Table.{Width, width-narrow}
@@ -20,6 +19,7 @@ use Rattle.key.specs.Keys as Keys
 use Rattle.key.specs.Parts.{noRoot, faults}
 use Rattle.key.specs.Kept.{kept}
 use Rattle.key.specs.declared.kept.Key.{Key}
+use Rattle.key.proofs.Shapes.{Limits, limits}
 
 -- the last four, where the first three pass
 pub number-faults : (b : Bool) (k : Keys.Key) → Width (k .m) → b ≡ false → inLimits (k .m) (k .n) (k .t) ≡ true
@@ -73,13 +73,8 @@ first-from n cs e = e ∙ first-take n cs (λ z. omega arith)
 
 -- shapes in limits fit the arrays
 pub limits-fit : (m n t : ℕ) → Width m → inLimits m n t ≡ true → (n ≤ 8192) × (t ≤ 128)
-unfolding inLimits
 limits-fit m n t w e =
-    let a : leb 1 t && leb t 128 && ltb (m * t) n ≡ true = and-left (leb 1 t && leb t 128 && ltb (m * t) n) (leb n (2 ^ m)) e in
-    let h : n ≤ 2 ^ m = leb-true n (2 ^ m) (and-right (leb 1 t && leb t 128 && ltb (m * t) n) (leb n (2 ^ m)) e) in (
-      omega (arith, pow-mono (le-of-suc-le-suc (width-narrow m w))),
-      leb-true t 128 (and-right (leb 1 t) (leb t 128) (and-left (leb 1 t && leb t 128) (ltb (m * t) n) a)),
-    )
+    let l : Limits m n t = limits m n t e in (omega (arith, l .fits, pow-mono (le-of-suc-le-suc (width-narrow m w))), l .few)
 
 -- the first n numbers of a list are n, where it has so many
 take-right : (n : ℕ) (l : List ℕ) → n ≤ length l → eqb (length (take n l)) n ≡ true
