@@ -4,6 +4,7 @@ use mathlib.Core.Bool.{Bool, cond}
 use mathlib.Core.List.{List, _∷_}
 use mathlib.Core.Option.{Option, none, some}
 
+-- the first, or the second where it is none
 unfoldable pub orElse : Option (List ℕ) → Option (List ℕ) → Option (List ℕ)
 orElse none o = o
 orElse (some x) o = some x

@@ -1,6 +1,7 @@
 -- Lists of naturals, as programs hold them, as polynomials over GF(2^m) and as lists of points. Assumes nothing.
 use mathlib.Core.Path.{_≡_, refl, sym, ap, ap₂, _∙_, fun-ext}
 use mathlib.Core.Logic.{_≢_}
+use mathlib.Core.Bool.{true}
 use mathlib.Core.List.{List, [], _∷_, _++_, map}
 use Prim.Native.Nat.{ℕ, zero, suc, _^_, _≤_, _<_}
 use native.Mathlib.Omega.{arith}
@@ -8,7 +9,9 @@ use native.Mathlib.Decide.{decLt}
 use lib.ListN.{length, getD, set, replicate, List·getD-eq-default}
 use lib.Seq.{ext-getD, getD-set-same, getD-set-other}
 use lib.Pow.{pow-pos}
-use Rattle.bits.specs.Bits.{xorRow}
+use borrow.Author.Tests.{ltb-true}
+use Rattle.bits.specs.Bits.{every, xorRow}
+use Rattle.bits.proofs.Lists.{every-at}
 use Rattle.bits.proofs.Rows.{getD-xorRow}
 use Rattle.algebra.proofs.Ring.{zero-add}
 use Rattle.algebra.proofs.Points.{All, Distinct}
@@ -16,7 +19,7 @@ use Rattle.algebra.proofs.Series as S
 use Rattle.algebra.proofs.Series.{Series, Operations, operations, C-at, C-zero, split, shift}
 use Rattle.algebra.proofs.Poly.{Below, below-zero}
 use Rattle.algebra.proofs.Eval.{eval}
-use Rattle.field.specs.Field.{mul}
+use Rattle.field.specs.Field.{isElement, mul}
 use Rattle.field.specs.Poly.{value}
 use Rattle.field.proofs.Table.{Width}
 use Rattle.field.proofs.Laws.{mul-zero}
@@ -25,6 +28,13 @@ use Rattle.field.proofs.Gf.{Elem, val, val-elem, val-inj, val-zero, val
 -- every entry is an element
 abbrev pub Elements : ℕ → List ℕ → Type 0
 Elements m xs = (k : ℕ) → getD xs k 0 < 2 ^ m
+
+pub every-elements : (m : ℕ) (xs : List ℕ) → every (isElement m) xs ≡ true → Elements m xs
+unfolding isElement
+every-elements m xs e k = elim (decLt k (length xs)) [
+  | yes h ↦ ltb-true (getD xs k 0) (2 ^ m) (every-at (isElement m) xs e k 0 h)
+  | no h ↦ rw (List·getD-eq-default xs 0 {n = k} (omega arith)) (pow-pos m)
+]
 
 -- the polynomial with these coefficients
 abbrev pub poly : (m : ℕ) → List ℕ → Series (Elem m)

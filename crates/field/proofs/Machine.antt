@@ -3,7 +3,7 @@ use mathlib.Core.Path.{_≡_, ap, ap₂, _∙_}
 use Prim.Native.Nat.{ℕ, _-_, _*_, _/_, _%_, _^_, _<_}
 use native.Mathlib.Nat.{mod-lt, mod-eq-of-lt, le-of-suc-le-suc, one-mul}
 use native.Mathlib.Omega.{arith}
-use lib.Pow.{pow-pos, pow-mono}
+use lib.Pow.{pow-pos, pow-mono, pow-lt}
 use lib.Bits.{bitXor, bitAnd, and-mask}
 use Rattle.bits.specs.Xor.{_⊕_}
 use Rattle.bits.proofs.Xor.{low, digit-lt}
@@ -13,13 +13,13 @@ use Rattle.field.proofs.Horner.{xtime}
 pub masked-lt : (x : ℕ) {v n : ℕ} → v < n → bitAnd x 1 * v < n
 masked-lt x h = rw (and-mask x 1) (digit-lt (low x) h)
 
--- `1 << m` of 16 digits
-pub one-shl-16 : (m : ℕ) → m < 16 → 1 * 2 ^ m % 65536 ≡ 2 ^ m
-one-shl-16 m s = ap (λ (x : ℕ). x % 65536) (one-mul (2 ^ m)) ∙ mod-eq-of-lt (omega (arith, pow-mono (le-of-suc-le-suc s)))
+-- `1 << m` of w digits
+pub one-shl-digits : (m w : ℕ) → m < w → 1 * 2 ^ m % 2 ^ w ≡ 2 ^ m
+one-shl-digits m w h = ap (λ (x : ℕ). x % 2 ^ w) (one-mul (2 ^ m)) ∙ mod-eq-of-lt (pow-lt h)
 
 module _ (m : ℕ) (s : m < 14) where
   pub one-shl : 1 * 2 ^ m % 65536 ≡ 2 ^ m
-  one-shl = one-shl-16 m (omega arith)
+  one-shl = one-shl-digits m 16 (omega arith)
 
   -- `a & ((1 << m) - 1)`
   pub low-digits : (a : ℕ) → bitAnd a (1 * 2 ^ m % 65536 - 1) ≡ a % 2 ^ m

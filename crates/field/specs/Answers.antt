@@ -18,11 +18,14 @@ unfoldable pub answer : ℕ → ℕ → Answer
 answer zero v = Value v
 answer (suc n) v = Refused (suc n)
 
+-- the sum
 unfoldable pub addOf : ℕ → ℕ → ℕ → Answer
 addOf m a b = answer (elementsNumber m (a ∷ b ∷ [])) (a ⊕ b)
 
+-- the product
 unfoldable pub multiplyOf : ℕ → ℕ → ℕ → Answer
 multiplyOf m a b = answer (elementsNumber m (a ∷ b ∷ [])) (mul m a b)
 
+-- the inverse, 0 for 0
 unfoldable pub invertOf : ℕ → ℕ → Answer
 invertOf m a = answer (elementsNumber m (a ∷ [])) (inv m a)

@@ -7,24 +7,17 @@ use native.Mathlib.Omega.{arith}
 use native.Mathlib.Nat.{le-of-suc-le-suc, not-suc-le-zero}
 use lib.Dec.{eqb}
 use lib.ListN.{length, getD}
-use lib.Pow.{pow-pos}
-use borrow.Author.Tests.{ltb-true, eqb-true, eqb-false, not-true, not-false}
+use borrow.Author.Tests.{eqb-true, eqb-false, not-true, not-false}
 use Rattle.bits.specs.Bits.{every}
 use Rattle.bits.proofs.Lists.{and-left, and-right, every-at}
 use Rattle.field.specs.Field.{isWidth, isElement}
 use Rattle.field.proofs.Table.{Width}
+use Rattle.field.proofs.Arrays.{every-elements}
 use Rattle.poly.specs.Polynomials.{hasSquare}
 use Rattle.key.specs.Shapes.{inLimits}
 use Rattle.key.specs.Keys.{Key, distinct, goppaAt, conditions, keyNumber}
 use Rattle.field.proofs.Numbers.{first-clear}
 use Rattle.key.proofs.Shapes.{Limits, limits}
-
--- elements of a list, and 0 past its end, are below 2^m
-pub below : (m : ℕ) (l : List ℕ) → every (isElement m) l ≡ true → (i : ℕ) → getD l i 0 < 2 ^ m
-unfolding every isElement
-below m [] e i = pow-pos m
-below m (x ∷ l) e zero = ltb-true x (2 ^ m) (and-left (isElement m x) (every (isElement m) l) e)
-below m (x ∷ l) e (suc i) = below m l (and-right (isElement m x) (every (isElement m) l) e) i
 
 every-parts : (p : ℕ → Bool) (l r : List ℕ) → every p (l ++ r) ≡ true → (every p l ≡ true) × (every p r ≡ true)
 unfolding every
@@ -73,8 +66,8 @@ accepted k e =
       support-length = size;
       g-length = eqb-true _ _ (and-right (eqb (length (k .support)) (k .n)) _ sizes);
       limits = limits (k .m) (k .n) (k .t) (not-false _ (c3 .0));
-      support-below = below (k .m) (k .support) (parts .0);
-      g-below = below (k .m) (k .g) (parts .1);
+      support-below = every-elements (k .m) (k .support) (parts .0);
+      g-below = every-elements (k .m) (k .g) (parts .1);
       different = λ i j h b. distinct-at (k .support) (not-false _ (c5 .0)) i j h (omega arith);
       square-free = c6 .0;
       no-root = λ i b. eqb-false (goppaAt k (getD (k .support) i 0)) 0 (not-true _ (every-at (λ a. not (eqb (goppaAt k a) 0)) (k .support) (not-false _ (c7 .0)) i 0 (omega arith)));

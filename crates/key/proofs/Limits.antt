@@ -1,8 +1,7 @@
 -- The tests of a shape's limits, in the order of the code. Assumes nothing.
-use mathlib.Core.Path.{_≡_, ap, _∙_}
+use mathlib.Core.Path.{_≡_}
 use mathlib.Core.Bool.{true, false}
-use Prim.Native.Nat.{ℕ, _*_, _%_, _^_, _≤_, _<_}
-use native.Mathlib.Nat.{one-mul, mod-eq-of-lt}
+use Prim.Native.Nat.{ℕ, _*_, _^_, _≤_, _<_}
 use native.Mathlib.Omega.{arith}
 use lib.Dec.{leb}
 use lib.Pow.{pow-mono}
@@ -32,9 +31,3 @@ module _ (m n t : ℕ) where
         pub n-narrow : 16 ≤ m → n < 65536 → true ≡ inLimits m n t
         unfolding inLimits
         n-narrow w h = rw (le-leb 1 t a, le-leb t 128 b, lt-ltb (m * t) n d, le-leb n (2 ^ m) (omega (arith, pow-mono w)))
-
--- `1 << m` of 32 digits
-pub one-shl-32 : (m : ℕ) → m < 16 → 1 * 2 ^ m % 4294967296 ≡ 2 ^ m
-one-shl-32 m h =
-    let w : m ≤ 15 = omega arith in
-    ap (λ (x : ℕ). x % 4294967296) (one-mul (2 ^ m)) ∙ mod-eq-of-lt (omega (arith, pow-mono w))

@@ -2,7 +2,7 @@
 use mathlib.Core.Path.{_≡_, refl, sym, ap, _∙_}
 use mathlib.Core.Bool.{Bool, true, false, not, _&&_, and-true, and-false, and-assoc}
 use mathlib.Core.List.{List}
-use Prim.Native.Nat.{ℕ, zero, suc, _+_, _≤_, _<_}
+use Prim.Native.Nat.{ℕ, suc, _+_, _≤_, _<_}
 use native.Mathlib.Numerals.{add-one}
 use native.Mathlib.Decide.{ℕ-discrete}
 use lib.Dec.{eqb}
@@ -11,16 +11,12 @@ use lib.Seq.{drop-cons, getD-set-same, getD-set-other}
 use borrow.Author.Tests.{eq-eqb, ne-eqb}
 use Rattle.bits.specs.Bits.{every}
 use Rattle.key.specs.Keys.{distinct}
+use Rattle.bits.proofs.Bits.{zeros-at}
 use Rattle.key.proofs.Scan.{every-both, every-true}
 
 -- none of the list is seen, and none stands twice
 unfoldable pub fresh : List ℕ → List ℕ → Bool
 fresh seen s = every (λ x. eqb (getD seen x 0) 0) s && distinct s
-
-zeros-at : (n x : ℕ) → _≡_ {A = ℕ} (getD (replicate n 0) x 0) 0
-zeros-at zero x = refl
-zeros-at (suc n) zero = refl
-zeros-at (suc n) (suc x) = zeros-at n x
 
 pub fresh-start : (n : ℕ) (s : List ℕ) → fresh (replicate n 0) s ≡ distinct s
 unfolding fresh

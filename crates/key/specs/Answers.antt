@@ -14,5 +14,6 @@ unfoldable pub shapeAnswer : ℕ → (ℕ × ℕ × ℕ) → ShapeAnswer
 shapeAnswer zero s = variants.Sizes (sizes s)
 shapeAnswer (suc x) s = variants.Refused (suc x)
 
+-- what the call for a position answers
 unfoldable pub shapeOf : ℕ → ShapeAnswer
 shapeOf p = shapeAnswer (shapeNumber p) (shapeAt p)

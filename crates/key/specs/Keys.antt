@@ -25,6 +25,7 @@ pub record Key : Type 0 where
 unfoldable pub pair : List ℕ → ℕ → ℕ
 pair file i = getD file i 0 + 256 * getD file (i + 1) 0
 
+-- k elements of two bytes, from `at` on
 unfoldable pub elements : List ℕ → ℕ → ℕ → List ℕ
 elements file at k = map (λ j. pair file (at + 2 * j)) (from 0 k)
 
@@ -35,9 +36,11 @@ parse file =
     let t : ℕ = pair file (3 + 2 * n) in
     record { m = getD file 0 0; n = n; t = t; support = elements file 3 n; g = elements file (5 + 2 * n) t }
 
+-- a number in two bytes, low byte first
 unfoldable pub twoBytes : ℕ → List ℕ
 twoBytes x = x % 256 ∷ x / 256 ∷ []
 
+-- the key file of a key
 unfoldable pub fileOf : Key → List ℕ
 fileOf k = k .m ∷ (twoBytes (k .n) ++ (flatMap twoBytes (k .support) ++ (twoBytes (k .t) ++ flatMap twoBytes (k .g))))
 

@@ -2,19 +2,15 @@
 use mathlib.Core.Path.{_≡_, refl, sym, ap, _∙_}
 use mathlib.Core.Bool.{Bool, true, false, not, cond}
 use mathlib.Core.List.{List}
-use Prim.Native.Nat.{ℕ, zero, suc, _≤_, _<_, _^_}
+use Prim.Native.Nat.{ℕ, zero, suc, _≤_, _<_}
 use native.Mathlib.Omega.{arith}
-use native.Mathlib.Decide.{decLt}
-use borrow.Author.Tests.{lt-ltb, le-ltb, ltb-true, ltb-false}
+use borrow.Author.Tests.{lt-ltb, le-ltb, ltb-false}
 use lib.Dec.{ltb}
-use lib.ListN.{length, getD, replicate, List·getD-eq-default}
-use lib.Pow.{pow-pos}
+use lib.ListN.{length, replicate}
 use Rattle.bits.specs.Bits.{every}
-use Rattle.bits.proofs.Lists.{every-at}
 use Rattle.field.specs.Numbers.{firstOf}
 use Rattle.field.specs.Field.{isWidth, isElement}
 use Rattle.field.proofs.Table.{Width}
-use Rattle.field.proofs.Arrays.{Elements}
 use Rattle.poly.specs.Register.{Register, longest, register, registerNumber}
 use Rattle.poly.specs.Registered.{registered, registeredOf}
 use Rattle.poly.specs.declared.register.Registered.{Registered}
@@ -47,13 +43,6 @@ module _ (m : ℕ) (s : List ℕ) where
       go true true e p q r z = absurd (omega arith)
       go true false false p q r z = absurd (omega arith)
       go true false true p q r z = (p, ltb-false 256 (length s) q, r)
-
-  pub every-elements : every (isElement m) s ≡ true → Elements m s
-  unfolding isElement
-  every-elements e k = elim (decLt k (length s)) [
-    | yes h ↦ ltb-true (getD s k 0) (2 ^ m) (every-at (isElement m) s e k 0 h)
-    | no h ↦ rw (List·getD-eq-default s 0 {n = k} (omega arith)) (pow-pos m)
-  ]
 
   -- the answers
   pub refused : (n : ℕ) → n ≡ registerNumber m s → (n ≡ 0 → ⊥)

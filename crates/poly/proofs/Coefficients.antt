@@ -7,21 +7,22 @@ use native.Mathlib.Nat.{zero-add, suc-inj, min-le-left}
 use native.Mathlib.Numerals.{add-one}
 use native.Mathlib.Omega.{arith}
 use native.Mathlib.Decide.{decLt}
-use borrow.Author.Tests.{ltb-true, eq-eqb, ne-eqb}
+use borrow.Author.Tests.{eq-eqb, ne-eqb}
 use lib.Dec.{eqb}
 use lib.Pow.{pow-pos}
 use lib.ListN.{length, getD, take, set, replicate, length-append, length-replicate, List·getD-eq-default, length-take}
 use lib.Seq.{length-take-le, take-suc, take-length, take-at, set-at, getD-append-add, getD-take}
 use Rattle.bits.specs.Xor.{_⊕_}
-use Rattle.bits.specs.Bits.{from, every, eachWith, xorRow}
+use Rattle.bits.specs.Bits.{from, eachWith, xorRow}
 use Rattle.bits.proofs.Xor.{xor-zero, xor-lt}
-use Rattle.bits.proofs.Lists.{cons-eq, length-map-from, from-add, map-append, every-at, take-below, map-from-at, map-from-past}
-use Rattle.bits.proofs.Rows.{xorRow-nil, xorRow-suc, length-xorRow, getD-xorRow}
+use Rattle.bits.proofs.Lists.{cons-eq, length-map-from, from-add, map-append, take-below, map-from-at, map-from-past}
+use Rattle.bits.proofs.Rows.{xorRow-zeros, xorRow-suc, length-xorRow, getD-xorRow}
 use Rattle.algebra.proofs.Ring.{add-pair}
 use Rattle.algebra.proofs.Series.{Operations, operations, shift, shift-mul}
 use Rattle.algebra.proofs.Derivative.{D}
 use Rattle.algebra.proofs.Poly.{Below}
-use Rattle.field.specs.Field.{isElement, mul}
+use Rattle.bits.proofs.Bits.{zeros-at}
+use Rattle.field.specs.Field.{mul}
 use Rattle.field.specs.Poly.{hornerEach}
 use Rattle.field.proofs.Table.{Width}
 use Rattle.field.proofs.Laws.{mul-comm, mul-lt}
@@ -69,12 +70,6 @@ derivative-step a k h =
     put 129 k (derivativeAt a k) (map (derivativeAt a) (from 0 k)) (length-map-from (derivativeAt a) 0 k) h
     ∙ ap (λ (l : List ℕ). l ++ replicate (129 - (k + 1)) 0) (map-suc (derivativeAt a) k)
 
-xorRow-zeros : (d : List ℕ) (n : ℕ) → xorRow d (replicate n 0) ≡ d
-unfolding xorRow eachWith
-xorRow-zeros d zero = xorRow-nil d
-xorRow-zeros [] (suc n) = refl
-xorRow-zeros (x ∷ d) (suc n) = ap₂ (λ (z : ℕ) (t : List ℕ). z ∷ t) (xor-zero x) (xorRow-zeros d n)
-
 -- adding x^y·b, place by place
 module _ (y : ℕ) (a b : List ℕ) where
   pub added-none : added y y a b ≡ a
@@ -111,19 +106,7 @@ horner-multiple m c w n b e = hornerEach-width m 0 b (replicate n c) w ∙ go n 
     go (suc n) [] e = refl
     go (suc n) (x ∷ b) e = cons-eq (xor-zero _ ∙ mul-comm m x c) (go n b (suc-inj e))
 
-pub every-element : (m : ℕ) (l : List ℕ) → every (isElement m) l ≡ true → Elements m l
-unfolding isElement
-every-element m l e k = elim (decLt k (length l)) [
-  | yes h ↦ ltb-true (getD l k 0) (2 ^ m) (every-at (isElement m) l e k 0 h)
-  | no h ↦ rw (List·getD-eq-default l 0 {n = k} (omega arith)) (pow-pos m)
-]
-
 -- lists with zeros behind them
-zeros-at : (n k : ℕ) → _≡_ {A = ℕ} (getD (replicate n 0) k 0) 0
-zeros-at zero k = refl
-zeros-at (suc n) zero = refl
-zeros-at (suc n) (suc k) = zeros-at n k
-
 pub padded-at : (l : List ℕ) (n k : ℕ) → getD (l ++ replicate n 0) k 0 ≡ getD l k 0
 padded-at [] n k = zeros-at n k
 padded-at (x ∷ l) n zero = refl

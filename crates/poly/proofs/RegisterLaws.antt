@@ -27,14 +27,10 @@ use Rattle.field.proofs.Table.{Width}
 use Rattle.field.proofs.Laws.{mul-lt, one-lt}
 use Rattle.field.proofs.Gf.{Elem, val, val-inj, val-zero, val-one, val-xor, val-mul, val-inv, plus, times, inverse, zero-elem, one-elem, laws, gf}
 use Rattle.field.proofs.Arrays.{Elements, poly, poly-inj, poly-below, poly-scale, poly-shift}
+use Rattle.bits.proofs.Bits.{zeros-at}
 use Rattle.poly.specs.Polynomials.{sum}
 use Rattle.poly.specs.Register.{Register, longest, start, discrepancy, corrected, turn, turns, register}
 use Rattle.poly.proofs.Steps.{term, sum-nil, sum-cons, turn-cases}
-
-zeros-at : (n k : ℕ) → getD {A = ℕ} (replicate n 0) k 0 ≡ 0
-zeros-at zero k = refl
-zeros-at (suc n) zero = refl
-zeros-at (suc n) (suc k) = zeros-at n k
 
 -- lists of elements
 module _ (m : ℕ) where

@@ -13,7 +13,7 @@ use Rattle.bits.specs.Xor.{_⊕_}
 use Rattle.bits.specs.Bits.{from, eachWith, xorRow}
 use Rattle.bits.proofs.Xor.{xor-zero, xor-assoc}
 use Rattle.bits.proofs.Lists.{cons-eq, map-from}
-use Rattle.bits.proofs.Rows.{xorRow-suc, xorRow-take}
+use Rattle.bits.proofs.Rows.{xorRow-suc, xorRow-take, xorRow-zeros}
 use Rattle.field.specs.Field.{mul, inv}
 use Rattle.field.specs.Poly.{hornerEach}
 use Rattle.field.proofs.Table.{Width}
@@ -76,19 +76,13 @@ discrepancy-by m s r n w p v e f a b = ap (λ (l : List ℕ). getD s n 0 ⊕ sum
         ∙ ap₂ (mul m) (e (1 + i) (omega arith) (omega arith)) (getD-take (r .l + 1) (r .c) (1 + i) 0 (omega arith)) ∙ mul-comm m _ _
 
 -- c + x^y·p, with the first places done
-zeros-same : (c : List ℕ) (y : ℕ) → xorRow c (replicate y 0) ≡ c
-unfolding xorRow eachWith
-zeros-same [] y = refl
-zeros-same (x ∷ c) zero = refl
-zeros-same (x ∷ c) (suc y) = cons-eq (xor-zero x) (zeros-same c y)
-
 module _ (c p : List ℕ) (y : ℕ) where
   unfoldable pub partly : ℕ → List ℕ
   partly i = xorRow c (take i (replicate y 0 ++ p))
 
   pub partly-start : partly y ≡ c
   unfolding partly
-  partly-start = rw (take-at (replicate y 0) p y (length-replicate y 0)) (zeros-same c y)
+  partly-start = rw (take-at (replicate y 0) p y (length-replicate y 0)) (xorRow-zeros c y)
 
   pub partly-step : (i : ℕ) → y ≤ i → i - y < length p → i < length c → set (partly i) i (getD (partly i) i 0 ⊕ getD p (i - y) 0) ≡ partly (i + 1)
   unfolding partly

@@ -22,6 +22,7 @@ pub record Register : Type 0 where
   pub d : ℕ
   pub y : ℕ
 
+-- before the first element
 unfoldable pub start : Register
 start =
     let one : List ℕ = 1 ∷ replicate longest 0 in

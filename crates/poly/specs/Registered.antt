@@ -20,5 +20,6 @@ unfoldable pub registered : ℕ → Register → Registered
 registered zero r = record { refused = 0; length = r .l; c = r .c }
 registered (suc n) r = record { refused = suc n; length = 0; c = replicate (longest + 1) 0 }
 
+-- what the call answers
 unfoldable pub registeredOf : ℕ → List ℕ → Registered
 registeredOf m s = registered (registerNumber m s) (register m s)

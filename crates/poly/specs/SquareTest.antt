@@ -21,9 +21,11 @@ loaded g = monic g ++ replicate (128 - length g) 0
 unfoldable pub derivativeAt : List ℕ → ℕ → ℕ
 derivativeAt a k = cond (eqb (k % 2) 0) (getD a (k + 1) 0) 0
 
+-- the derivative's 129 coefficients
 unfoldable pub derivative : List ℕ → List ℕ
 derivative a = map (derivativeAt a) (from 0 128) ++ replicate 1 0
 
+-- g and g'
 unfoldable pub started : List ℕ → Pair
 started g = record { a = loaded g; b = derivative (loaded g); da = length g + 1; db = length g }
 
@@ -38,6 +40,7 @@ lowered p = record { a = p .a; b = p .b; da = p .da; db = p .db - 1 }
 abbrev pub swapped : Pair → Pair
 swapped p = record { a = p .b; b = p .a; da = p .db; db = p .da }
 
+-- a's top coefficient divided by b's
 abbrev pub quotient : ℕ → Pair → ℕ
 quotient m p = mul m (getD (p .a) (p .da - 1) 0) (inv m (getD (p .b) (p .db - 1) 0))
 

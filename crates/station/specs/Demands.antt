@@ -34,6 +34,7 @@ pub record Refuses (s : Station) (c : Call) : Type 0 where
   pub output : (n : ℕ) → step s c .number ≡ suc n → step s c .output ≡ outputOf c
   pub work : (n : ℕ) → step s c .number ≡ suc n → (suc n ≡ 23 → ⊥) → step s c .free ≡ false
 
+-- for every station and call
 abbrev pub Demand1 : Type 0
 Demand1 = (s : Station) (c : Call) → Refuses s c
 
@@ -77,6 +78,7 @@ pub record RoundTrips (k : Key) (rows : Matrix) : Type 0 where
   pub opened-locked : (capsule out : List ℕ) → Bytes capsule → openResult k capsule out .number ≡ 0
       → capsuleOf k rows (patternOf k capsule out) ≡ capsule
 
+-- for every key that load accepts and that has a public key
 abbrev pub Demand2 : Type 0
 Demand2 = (k : Key) (rows : Matrix) → keyNumber k ≡ 0 → publicKey k ≡ some rows → RoundTrips k rows
 

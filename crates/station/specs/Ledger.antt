@@ -41,6 +41,7 @@ unfoldable pub fed : ℕ → Ledger → Call → Ledger
 fed zero l c = entered l c
 fed (suc n) l c = l
 
+-- the ledger after a list of calls
 unfoldable pub ledgerAfter : Ledger → List Call → Ledger
 ledgerAfter l [] = l
 ledgerAfter l (c ∷ cs) = ledgerAfter (fed (ledgerNumber l c) l c) cs

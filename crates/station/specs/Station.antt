@@ -12,6 +12,7 @@ use Rattle.key.specs.Keys.{Key, parse, fileConditions, keyNumber}
 use Rattle.code.specs.PublicKey.{publicKey, dependent, written}
 use Rattle.decoder.specs.Reading.{reading, opening}
 
+-- the three states of a station
 pub data State : Type 0 where
   empty loaded published : State
 
@@ -20,6 +21,7 @@ pub record Station : Type 0 where
   pub state : State
   pub key : Key
 
+-- the key of no size
 unfoldable pub noKey : Key
 noKey = record { m = 0; n = 0; t = 0; support = []; g = [] }
 
@@ -34,16 +36,19 @@ pub record Held : Type 0 where
   pub unpublished : Bool
   pub key : Key
 
+-- no key is loaded: 21
 unfoldable pub isEmpty : State → Bool
 isEmpty empty = true
 isEmpty loaded = false
 isEmpty published = false
 
+-- the key is not published: 24
 unfoldable pub isUnpublished : State → Bool
 isUnpublished empty = true
 isUnpublished loaded = true
 isUnpublished published = false
 
+-- of a station: 25 holds where load would not accept the kept key
 unfoldable pub heldBy : Station → Held
 heldBy s =
     let bad : Bool = not (eqb (keyNumber (s .key)) 0) in
@@ -128,11 +133,13 @@ unfoldable pub unless : ℕ → Station → List ℕ → Result → Result
 unless zero s out r = r
 unless (suc n) s out r = record { station = s; number = suc n; output = out; count = 0; free = r .free }
 
+-- load: the key of the file is kept, and is not published
 unfoldable pub loadOf : Station → List ℕ → Result
 loadOf s file =
     unless (firstOf (loadConditions (heldBy s) file)) s []
     (record { station = record { state = loaded; key = parse file }; number = 0; output = []; count = 0; free = false })
 
+-- publish: T is written, and the key is published
 unfoldable pub publishOf : Station → List ℕ → List ℕ → Result
 publishOf s out work =
     unless (firstOf (publishConditions (heldBy s) out work)) s out
@@ -148,16 +155,19 @@ publishOf s out work =
 unfoldable pub gives : Station → List ℕ → List ℕ → Result
 gives s e out = record { station = s; number = 0; output = over (pack e) out; count = ones e; free = false }
 
+-- open: the pattern for a capsule
 unfoldable pub openOf : Station → List ℕ → List ℕ → Result
 openOf s capsule out =
     unless (firstOf (openConditions (heldBy s) capsule out)) s out
     (gives s (found (opening (s .key) (unpack (capsuleBits (s .key)) capsule))) out)
 
+-- read: the pattern for a word
 unfoldable pub readOf : Station → List ℕ → List ℕ → Result
 readOf s word out =
     unless (firstOf (readConditions (heldBy s) word out)) s out
     (gives s (found (reading (s .key) (unpack (s .key .n) word))) out)
 
+-- drop: the station is fresh
 unfoldable pub dropOf : Station → Result
 dropOf s =
     unless (firstOf (dropConditions (heldBy s))) s []

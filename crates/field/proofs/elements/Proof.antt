@@ -9,7 +9,7 @@ use lib.Pow.{pow-mono}
 use Rattle.bits.specs.Bits.{every}
 use Rattle.bits.proofs.Lists.{every-all}
 use Rattle.field.specs.Field.{isElement}
-use Rattle.field.proofs.Machine.{one-shl-16}
+use Rattle.field.proofs.Machine.{one-shl-digits}
 use Rattle.field.proofs.elements.Statement.{statement}
 use Rattle.field.proofs.elements.Tie as tie
 
@@ -29,7 +29,7 @@ returns-2 : tie.Need-returns-2
 unfolding isElement
 returns-2 c =
     let a = c .before .before .before .args in
-    c .below .ensures ∙ ap (λ (top : ℕ). every (λ x. ltb x top) (a .s .now)) (one-shl-16 (a .m) (c .before .if1 .left))
+    c .below .ensures ∙ ap (λ (top : ℕ). every (λ x. ltb x top) (a .s .now)) (one-shl-digits (a .m) 16 (c .before .if1 .left))
 
 pub elements-spec : {M : Type 1} → statement M
 elements-spec = tie.close (tie.spec returns shl-below below-requires returns-2)

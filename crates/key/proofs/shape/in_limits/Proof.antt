@@ -4,7 +4,8 @@ use Prim.Native.Nat.{_≤_}
 use native.Mathlib.Nat.{mul-le-mul-left}
 use native.Mathlib.Omega.{arith}
 use lib.Dec.{leb}
-use Rattle.key.proofs.Limits.{t-small, t-large, n-small, n-decides, n-narrow, one-shl-32}
+use Rattle.field.proofs.Machine.{one-shl-digits}
+use Rattle.key.proofs.Limits.{t-small, t-large, n-small, n-decides, n-narrow}
 use Rattle.key.proofs.shape.in_limits.Statement.{statement}
 use Rattle.key.proofs.shape.in_limits.Tie as tie
 
@@ -32,7 +33,7 @@ shl-top c = omega arith
 returns-5 : tie.Need-returns-5
 returns-5 c =
     let a = c .before .before .before .before .args in
-    ap (leb (a .n)) (one-shl-32 (a .m) (omega arith)) ∙ n-decides _ _ _ (omega arith) (omega arith) (omega arith)
+    ap (leb (a .n)) (one-shl-digits (a .m) 32 (omega arith)) ∙ n-decides _ _ _ (omega arith) (omega arith) (omega arith)
 
 pub in-limits-spec : {M : Type 1} → statement M
 in-limits-spec =

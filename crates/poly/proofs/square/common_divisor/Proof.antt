@@ -3,7 +3,7 @@ use mathlib.Core.Path.{sym, subst}
 use Prim.Native.Nat.{_+_, _*_, _<_}
 use borrow.Author.Needs.{needs}
 use Rattle.field.proofs.Table.{Width}
-use Rattle.poly.proofs.Coefficients.{every-element}
+use Rattle.field.proofs.Arrays.{every-elements}
 use Rattle.poly.proofs.Euclid.{euclid-less}
 use Rattle.poly.proofs.Ideal.{Kept, kept-start, kept-step, finished}
 use Rattle.poly.proofs.square.common_divisor.Statement.{statement}
@@ -24,7 +24,7 @@ loop-holds c =
     let m = s .args .m in
     let g = s .args .g .now in
     let W = s .pre .0 in
-    (W, subst (Kept m W g) (sym (c .start .ensures)) (kept-start m W g (s .pre .1) (every-element m g (s .pre .2))))
+    (W, subst (Kept m W g) (sym (c .start .ensures)) (kept-start m W g (s .pre .1) (every-elements m g (s .pre .2))))
 
 step-requires : tie.Need-step-requires Inv-loop μ-loop
 step-requires c κs =
@@ -50,7 +50,7 @@ returns c =
     let s = c .before .before .before .before .before .before in
     let l = c .before .before .before .loop in
     let g = s .args .g .now in
-    finished (s .args .m) (l .inv .0) g (l .p) (l .inv .1) (c .before .if1 .left) (every-element _ g (s .pre .2))
+    finished (s .args .m) (l .inv .0) g (l .p) (l .inv .1) (c .before .if1 .left) (every-elements _ g (s .pre .2))
 
 pub common-divisor-spec : {M : Type 1} → statement M
 common-divisor-spec =
