@@ -29,13 +29,7 @@ use Rattle.key.proofs.Accepted.{Accepted}
 use Rattle.key.proofs.Goppa.{goppaPoly, goppa-value, goppa-lt}
 use Rattle.code.specs.Code.{entry, inCode}
 use Rattle.code.proofs.Parity.{dot-lt}
-
--- the members of l where c is 1
-unfoldable pub chosen : List ℕ → List ℕ → List ℕ
-chosen [] l = []
-chosen (b ∷ c) [] = []
-chosen (zero ∷ c) (a ∷ l) = chosen c l
-chosen (suc b ∷ c) (a ∷ l) = a ∷ chosen c l
+use Rattle.decoder.specs.Decoding.{chosen}
 
 one-more : (x : ℕ) → suc x ≡ 1 + x
 one-more x = omega arith
