@@ -86,6 +86,10 @@ xorRow d s = eachWith _⊕_ d s
 unfoldable pub onPart : ℕ → (List ℕ → List ℕ) → List ℕ → List ℕ
 onPart a f l = take a l ++ f (drop a l)
 
+-- the bytes from the output's start; bytes beyond keep their contents
+unfoldable pub over : List ℕ → List ℕ → List ℕ
+over bytes out = bytes ++ drop (length bytes) out
+
 -- two rows of n bytes, at a and at b, lie within len bytes and do not overlap
 unfoldable pub rowsApart : ℕ → ℕ → ℕ → ℕ → Bool
 rowsApart n a b len = leb (a + n) len && leb (b + n) len && (leb (a + n) b || leb (b + n) a)

@@ -1,3 +1,4 @@
 pub mod Code
 pub mod PublicKey
+pub mod Publish
 pub mod Lock

@@ -11,12 +11,10 @@ use Rattle.field.specs.Poly.{value}
 use Rattle.poly.specs.Polynomials.{same, monic}
 use Rattle.key.specs.Keys.{Key, pair, elements, parse, twoBytes, fileOf, goppaAt}
 use Rattle.key.specs.Bench.{K1, K2, K1-with, K3}
-use Rattle.code.specs.Code.{entry, inCode, parityRow, parityRows}
-use Rattle.code.specs.PublicKey.{withRow, findPivot, clear, withPivot, columns, echelon, publicKey}
-use Rattle.code.specs.Lock.{locked}
+use Rattle.code.specs.Code.{entry, inCode}
 use Rattle.code.proofs.Examples.{K9}
 use Rattle.decoder.specs.Search.{orElse, firstRow}
-use Rattle.decoder.specs.Reading.{corrects, reading, opens, opening}
+use Rattle.decoder.specs.Reading.{corrects, reading, filled, exactly, opening}
 
 -- what a row asks, with the packed word or capsule
 pub data Asked : Type 0 where
@@ -73,5 +71,5 @@ rows =
     (opens-capsule (parse K2) (0x5C ∷ []), found (0x01 ∷ 0x10 ∷ [])) ∷ []
 
 pub rows-hold : map (λ r. answer (r .0)) rows ≡ map (λ r. r .1) rows
-unfolding _⊕_ from every bytesFor bitAt unpack number pack ones eachWith xorRow dot isWidth modulusOf polyMul reduced mulMod mul power lastBelow inv value same monic pair elements parse twoBytes fileOf goppaAt K1 K2 K1-with K3 entry inCode parityRow parityRows withRow findPivot clear withPivot columns echelon publicKey locked K9 orElse firstRow corrects reading opens opening packed answer rows flatMap zipWith
+unfolding _⊕_ from every bytesFor bitAt unpack number pack ones eachWith xorRow dot isWidth modulusOf polyMul reduced mulMod mul power lastBelow inv value same monic pair elements parse twoBytes fileOf goppaAt K1 K2 K1-with K3 entry inCode K9 orElse firstRow corrects reading filled exactly opening packed answer rows flatMap zipWith
 rows-hold = refl

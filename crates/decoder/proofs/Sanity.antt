@@ -1,25 +1,22 @@
--- Reading and opening, by what they find: sound, complete, and the pattern itself where it is the only one. Assumes nothing.
-use mathlib.Core.Path.{_≡_, refl, sym, ap, ap₂, _∙_}
+-- Reading, by what it finds: sound, complete, and the pattern itself where it is the only one. Assumes nothing.
+use mathlib.Core.Path.{_≡_, refl, ap, ap₂, _∙_}
 use mathlib.Core.Bool.{true, _&&_}
-use mathlib.Core.List.{List, []}
+use mathlib.Core.List.{List}
 use mathlib.Core.Option.{none, some}
 use Prim.Native.Nat.{ℕ, zero, suc, _≤_}
 use native.Mathlib.Nat.{zero-add}
 use native.Mathlib.Omega.{arith}
-use lib.Dec.{eqb, leb}
+use lib.Dec.{leb}
 use lib.ListN.{replicate}
-use borrow.Author.Tests.{eqb-true, eq-eqb, leb-true, le-leb}
+use borrow.Author.Tests.{leb-true, le-leb}
 use Rattle.bits.specs.Bits.{Row, ones, xorRow}
 use Rattle.bits.proofs.Lists.{and-left, and-right}
 use Rattle.bits.proofs.Rows.{xorRow-zeros}
-use Rattle.poly.specs.Polynomials.{same}
-use Rattle.poly.proofs.Laws.{same-eq, eq-same}
 use Rattle.key.specs.Keys.{Key}
 use Rattle.code.specs.Code.{inCode}
-use Rattle.code.specs.PublicKey.{Matrix, publicKey}
+use Rattle.code.specs.PublicKey.{Matrix}
 use Rattle.code.specs.Lock.{locked}
-use Rattle.decoder.specs.Search.{firstRow}
-use Rattle.decoder.specs.Reading.{corrects, reading, opens, opening}
+use Rattle.decoder.specs.Reading.{corrects, reading}
 use Rattle.decoder.proofs.Search.{search-sound, search-none, search-only, search-nothing, zeros-first}
 
 ones-zeros : (n : ℕ) → ones (replicate n 0) ≡ 0
@@ -76,40 +73,3 @@ module _ (k : Key) (w : List ℕ) where
       zeros-first (corrects k w) (k .n)
       (ap₂ _&&_ (le-leb (ones (replicate (k .n) 0)) (k .t) (omega (arith, ones-zeros (k .n))))
       (ap (inCode k) (xorRow-zeros w (k .n)) ∙ c))
-
--- opening under the public key
-module _ (k : Key) (rows : Matrix) (s : List ℕ) where
-  opens-true : {e : List ℕ} → Opens k rows s e → opens (k .t) rows s e ≡ true
-  unfolding opens
-  opens-true {e} o = ap₂ _&&_ (eq-eqb (ones e) (k .t) (o .count)) (rw (o .locks) (eq-same s s refl))
-
-  true-opens : {e : List ℕ} → Row (k .n) e → opens (k .t) rows s e ≡ true → Opens k rows s e
-  unfolding opens
-  true-opens {e} r h =
-      record {
-        bits = r;
-        count = eqb-true (ones e) (k .t) (and-left (eqb (ones e) (k .t)) (same (locked rows e) s) h);
-        locks = same-eq (locked rows e) s (and-right (eqb (ones e) (k .t)) (same (locked rows e) s) h);
-      }
-
-  opening-at : publicKey k ≡ some rows → opening k s ≡ firstRow (opens (k .t) rows s) (k .n) []
-  unfolding opening
-  opening-at p = rw (p, opening)
-
-  pub opening-sound : publicKey k ≡ some rows → (e : List ℕ) → opening k s ≡ some e → Opens k rows s e
-  opening-sound p e h =
-      let f = search-sound (opens (k .t) rows s) {n = k .n} {x = e} (sym (opening-at p) ∙ h) in true-opens (f .0) (f .1)
-
-  pub opening-complete : publicKey k ≡ some rows → opening k s ≡ none → (e : List ℕ) → Opens k rows s e → ⊥
-  opening-complete p h e o = search-none (opens (k .t) rows s) (sym (opening-at p) ∙ h) e (o .bits) (opens-true o)
-
-  pub opening-only : publicKey k ≡ some rows → (e : List ℕ) → Opens k rows s e → ((d : List ℕ) → Opens k rows s d → d ≡ e) → opening k s ≡ some e
-  opening-only p e o u = opening-at p ∙ search-only (opens (k .t) rows s) e (o .bits) (opens-true o) (λ d r h. u d (true-opens r h))
-
-  pub opening-nothing : publicKey k ≡ some rows → ((e : List ℕ) → Opens k rows s e → ⊥) → opening k s ≡ none
-  opening-nothing p u = opening-at p ∙ search-nothing (opens (k .t) rows s) (λ e r h. u e (true-opens r h))
-
--- without a public key nothing opens
-pub opening-none : (k : Key) (s : List ℕ) → publicKey k ≡ none → opening k s ≡ none
-unfolding opening
-opening-none k s p = rw (p, opening)

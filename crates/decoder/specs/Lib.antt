@@ -1,3 +1,4 @@
 pub mod Search
 pub mod Reading
 pub mod Decoding
+pub mod Calls

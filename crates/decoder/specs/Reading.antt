@@ -1,14 +1,15 @@
 -- Document 01, 'Reading and opening': what they answer, as searches over all patterns. Assumes nothing.
-use Prim.Native.Nat.{ℕ}
-use mathlib.Core.Bool.{Bool, _&&_}
-use mathlib.Core.List.{List, []}
+use Prim.Native.Nat.{ℕ, _-_}
+use mathlib.Core.Bool.{Bool, cond, _&&_}
+use mathlib.Core.List.{List, [], _++_}
 use mathlib.Core.Option.{Option, none, some}
 use lib.Dec.{eqb, leb}
+use lib.ListN.{length, replicate}
 use Rattle.bits.specs.Bits.{ones, xorRow}
 use Rattle.poly.specs.Polynomials.{same}
 use Rattle.key.specs.Keys.{Key}
 use Rattle.code.specs.Code.{inCode}
-use Rattle.code.specs.PublicKey.{Matrix, publicKey}
+use Rattle.code.specs.PublicKey.{Matrix}
 use Rattle.code.specs.Lock.{locked}
 use Rattle.decoder.specs.Search.{firstRow}
 
@@ -20,10 +21,19 @@ corrects k w e = leb (ones e) (k .t) && inCode k (xorRow w e)
 unfoldable pub reading : Key → List ℕ → Option (List ℕ)
 reading k w = firstRow (corrects k w) (k .n) []
 
+-- a capsule filled up to n bits with zeros
+unfoldable pub filled : ℕ → List ℕ → List ℕ
+filled n s = s ++ replicate (n - length s) 0
+
+-- the pattern, where it has exactly t ones
+unfoldable pub exactly : ℕ → Option (List ℕ) → Option (List ℕ)
+exactly t none = none
+exactly t (some e) = cond (eqb (ones e) t) (some e) none
+
+-- opening fills a capsule up to n bits with zeros, reads that word, and accepts only if the pattern has exactly t ones
+unfoldable pub opening : Key → List ℕ → Option (List ℕ)
+opening k s = exactly (k .t) (reading k (filled (k .n) s))
+
 -- the pattern e has exactly t ones and locks to the capsule s
 unfoldable pub opens : ℕ → Matrix → List ℕ → List ℕ → Bool
 opens t rows s e = eqb (ones e) t && same (locked rows e) s
-
--- the pattern for a capsule of m·t bits, under the key's public key
-unfoldable pub opening : Key → List ℕ → Option (List ℕ)
-opening k s = elim (publicKey k) [ none ↦ none | some rows ↦ firstRow (opens (k .t) rows s) (k .n) [] ]

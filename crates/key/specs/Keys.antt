@@ -73,3 +73,7 @@ fileConditions file =
 -- of a key that is kept: 0 for one that load accepts
 unfoldable pub keyNumber : Key → ℕ
 keyNumber k = firstOf (conditions (not (eqb (length (k .support)) (k .n) && eqb (length (k .g)) (k .t))) k)
+
+-- 25: not a key that load accepts
+unfoldable pub unsound : Key → Bool
+unsound k = not (eqb (keyNumber k) 0)
