@@ -4,3 +4,4 @@ pub mod Sanity
 pub mod Words
 pub mod Distance
 pub mod Uniqueness
+pub mod Sums

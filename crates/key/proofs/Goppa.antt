@@ -17,7 +17,7 @@ use Rattle.poly.proofs.SquareSearch.{hasSquare-separable}
 use Rattle.key.specs.Keys.{Key, goppaAt}
 use Rattle.key.proofs.Accepted.{Accepted}
 
-value-lt : (m : ℕ) (g : List ℕ) → Elements m g → (a : ℕ) → value m g a < 2 ^ m
+pub value-lt : (m : ℕ) (g : List ℕ) → Elements m g → (a : ℕ) → value m g a < 2 ^ m
 unfolding value
 value-lt m [] e a = pow-pos m
 value-lt m (x ∷ g) e a = xor-lt m (e 0) (mul-lt m a (value m g a))
