@@ -5,3 +5,4 @@ pub mod Words
 pub mod Distance
 pub mod Uniqueness
 pub mod Sums
+pub mod Reversed

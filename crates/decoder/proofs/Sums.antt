@@ -7,8 +7,7 @@ use mathlib.Core.List.{List, map}
 use Prim.Native.Nat.{ℕ, _+_, _*_, _^_, _<_}
 use native.Mathlib.Nat.{zero-add}
 use native.Mathlib.Omega.{arith}
-use native.Mathlib.Decide.{decLt}
-use lib.ListN.{length, getD, List·getD-eq-default}
+use lib.ListN.{length, getD}
 use lib.Pow.{pow-pos}
 use borrow.Author.Tests.{lt-ltb}
 use Rattle.bits.specs.Xor.{_⊕_}
@@ -21,7 +20,7 @@ use Rattle.algebra.proofs.Points.{pow, powerSum}
 use Rattle.field.specs.Field.{isElement, mul, power, inv}
 use Rattle.field.proofs.Laws.{mul-lt}
 use Rattle.field.proofs.Gf.{val, val-inj, val-zero, val-mul, val-inv, val-power, times, inverse, zero-elem, laws}
-use Rattle.field.proofs.Arrays.{Elements}
+use Rattle.field.proofs.Arrays.{Elements, map-elements}
 use Rattle.poly.specs.Register.{registerNumber}
 use Rattle.poly.proofs.Answers.{number-none}
 use Rattle.key.specs.Keys.{Key, goppaAt}
@@ -53,10 +52,8 @@ module _ (k : Key) {n : ℕ} {c : List ℕ} (r : Row n c) where
   squareSum-lt s = dot-lt (k .m) r (squareEntry k s) (λ a. mul-lt (k .m) _ _) (k .support)
 
   pub squareSums-elements : Elements (k .m) (squareSums k c)
-  squareSums-elements s = elim (decLt s (2 * k .t)) [
-    | yes h ↦ rw (squareSums-at k c s h) (squareSum-lt s)
-    | no h ↦ rw (List·getD-eq-default (squareSums k c) 0 {n = s} (omega (arith, length-squareSums k c))) (pow-pos (k .m))
-  ]
+  unfolding squareSums
+  squareSums-elements = map-elements (k .m) (squareSum k c) squareSum-lt (from 0 (2 * k .t))
 
   pub squareSums-every : every (isElement (k .m)) (squareSums k c) ≡ true
   unfolding isElement
