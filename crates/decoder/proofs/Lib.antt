@@ -6,3 +6,4 @@ pub mod Distance
 pub mod Uniqueness
 pub mod Sums
 pub mod Reversed
+pub mod Decoding

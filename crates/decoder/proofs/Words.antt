@@ -88,10 +88,11 @@ module _ (k : Key) (A : Accepted k) where
   unfoldable pub goppaInverse : Elem (k .m) → Elem (k .m)
   goppaInverse x = inverse (k .m) (eval (laws (k .m) (A .width)) (suc (k .t)) (goppaPoly k) x)
 
+  pub distinct-support : Distinct (points (k .m) (k .support))
+  distinct-support = distinct-points (k .m) (k .support) (A .support-below) (λ i j h b. A .different i j h (rw (A .support-length) at b))
+
   pub distinct-word : (c : List ℕ) → Distinct (wordPoints k c)
-  distinct-word c =
-      distinct-chosen (val (k .m)) c (k .support)
-      (distinct-points (k .m) (k .support) (A .support-below) (λ i j h b. A .different i j h (rw (A .support-length) at b)))
+  distinct-word c = distinct-chosen (val (k .m)) c (k .support) distinct-support
 
   pub length-word : {c : List ℕ} → Row (k .n) c → length (wordPoints k c) ≡ ones c
   length-word {c} r = length-map (chosen c (k .support)) (val (k .m)) ∙ length-chosen r (k .support) (A .support-length)
