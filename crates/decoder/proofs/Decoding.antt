@@ -1,27 +1,26 @@
 -- The usual way of reading is the definition's search: the places that the register of a word's sums gives are the pattern that
 -- corrects the word, where there is one, and the check refuses them where there is none. Assumes nothing.
 use mathlib.Core.Path.{_≡_, refl, sym, ap, ap₂, _∙_, subst}
-use mathlib.Core.Logic.{_⊎_, inl, inr, _↔_}
+use mathlib.Core.Logic.{_↔_}
 use mathlib.Core.Bool.{Bool, true, false, cond, _&&_}
-use mathlib.Core.List.{List, [], _∷_, map, List·Memᴰ, List·Memᴰ·head, List·Memᴰ·tail, List·Memᴰ·cases-cons, Memᴰ·map}
+use mathlib.Core.List.{List, [], _∷_, map, List·Memᴰ, List·Memᴰ·head, List·Memᴰ·tail, Memᴰ·map}
 use mathlib.Core.Option.{Option, none, some}
-use Prim.Native.Nat.{ℕ, zero, suc, _+_, _*_, _≤_, _<_}
+use Prim.Native.Nat.{ℕ, _*_, _≤_}
 use native.Mathlib.Nat.{suc-inj, suc-ne-zero}
 use native.Mathlib.Omega.{arith}
 use lib.Dec.{eqb, leb}
-use lib.ListN.{length, getD}
-use borrow.Author.Tests.{eqb-true, eq-eqb, leb-true, le-leb, lt-leb}
+use lib.ListN.{length}
+use borrow.Author.Tests.{eqb-true, eq-eqb, leb-true, le-leb}
 use Rattle.bits.specs.Bits.{Row, end, off, on, ones}
 use Rattle.bits.proofs.Xor.{Digit}
 use Rattle.bits.proofs.Xor as xor
-use Rattle.bits.proofs.Lists.{cons-eq, and-left, and-right}
+use Rattle.bits.proofs.Lists.{cons-eq}
 use Rattle.bits.proofs.Pack.{row-cons}
-use Rattle.algebra.proofs.Points.{All, all-at, Distinct}
-use Rattle.algebra.proofs.Locator as Locator
+use Rattle.algebra.proofs.Points.{all-at, Distinct}
 use Rattle.algebra.proofs.Locator.{found-places}
 use Rattle.field.specs.Poly.{value}
-use Rattle.field.proofs.Gf.{val, zero-elem, gf}
-use Rattle.field.proofs.Arrays.{poly}
+use Rattle.field.proofs.Gf.{val, gf}
+use Rattle.field.proofs.Arrays.{Elements, poly}
 use Rattle.poly.specs.Polynomials.{same, monic}
 use Rattle.poly.specs.Register.{Register, register}
 use Rattle.poly.proofs.Laws.{same-eq, eq-same}
@@ -82,46 +81,40 @@ module _ (p : ℕ → Bool) where
 -- the places are n bits
 pub row-places : (k : Key) → Accepted k → (r : Register) → Row (k .n) (places k r)
 unfolding places
-row-places k A r = subst (λ (i : ℕ). Row i (places k r)) (A .support-length) (row-marks (λ a. eqb (value (k .m) (monic (reversed r)) a) 0) (k .support))
+row-places k A r =
+    subst (λ (i : ℕ). Row i (places k r)) (A .support-length)
+    (row-marks (λ a. eqb (value (k .m) (monic (reversed r)) a) 0) (k .support))
 
 pub row-located : (k : Key) → Accepted k → (w : List ℕ) → Row (k .n) (located k w)
 unfolding located
 row-located k A w = row-places k A (register (k .m) (squareSums k w))
 
 module _ (k : Key) (A : Accepted k) where
-  -- a pattern with at most t ones is what its own sums locate
+  -- the reversed polynomial for the sums of a pattern with at most t ones is 0 exactly at the pattern's points
+  pub reversed-points : {e : List ℕ} → Row (k .n) e → ones e ≤ k .t → (a : ℕ)
+      → (value (k .m) (monic (reversed (register (k .m) (squareSums k e)))) a ≡ 0) ↔ List·Memᴰ (val (k .m) a) (wordPoints k e)
+  reversed-points {e} r few a =
+      let size : length (squareSums k e) ≡ 2 * k .t = length-squareSums k e in
+      let short : length (squareSums k e) ≤ 256 = omega (arith, size, A .limits .few) in
+      let elements : Elements (k .m) (squareSums k e) = squareSums-elements k r in
+      let zero =
+      reversed-zero (k .m) (A .width) (register (k .m) (squareSums k e)) (register-lead (k .m) (A .width) (squareSums k e) elements short) a
+      (register-elements (k .m) (A .width) (squareSums k e) elements short) in
+      let member =
+      found-places (gf (k .m) (A .width)) (length (squareSums k e)) (squareInverse k A) (wordPoints k e) (poly (k .m) (squareSums k e))
+      (distinct-word k A e) (square-not-zero k A e)
+      (λ s b. ap (val (k .m)) (squareSums-at k e s (omega (arith, size))) ∙ square-sum k A r s)
+      (omega (arith, size, length-word k A r)) (register-shortest (k .m) (A .width) (squareSums k e) elements short) (val (k .m) a) in
+      (λ h. member .0 (zero .0 h), λ h. zero .1 (member .1 h))
+
+  -- such a pattern is what its own sums locate
   pub located-self : {e : List ℕ} → Row (k .n) e → ones e ≤ k .t → located k e ≡ e
   unfolding located places
-  located-self {e} r few =
-      marks-chosen _ (val (k .m)) r (k .support) (A .support-length) (distinct-support k A) (λ a _. (
-        λ h. at a .0 (zero a .0 (eqb-true _ 0 h)),
-        λ m. eq-eqb _ 0 (zero a .1 (at a .1 m)),
+  located-self r few =
+      marks-chosen _ (val (k .m)) r (k .support) (A .support-length) (distinct-support k A) (λ a m. (
+        λ h. reversed-points r few a .0 (eqb-true _ 0 h),
+        λ h. eq-eqb _ 0 (reversed-points r few a .1 h),
       ))
-    where
-      sums : List ℕ
-      sums = squareSums k e
-
-      found : Register
-      found = register (k .m) sums
-
-      size : length sums ≡ 2 * k .t
-      size = length-squareSums k e
-
-      short : length sums ≤ 256
-      short = omega (arith, size, A .limits .few)
-
-      at : (a : ℕ) → (Locator.reversed (gf (k .m) (A .width)) (found .l) (poly (k .m) (found .c)) (val (k .m) a) ≡ zero-elem (k .m)) ↔ List·Memᴰ (val (k .m) a) (wordPoints k e)
-      at a =
-          found-places (gf (k .m) (A .width)) (length sums) (squareInverse k A) (wordPoints k e) (poly (k .m) sums) (distinct-word k A e)
-          (square-not-zero k A e)
-          (λ s b. ap (val (k .m)) (squareSums-at k e s (omega (arith, size))) ∙ square-sum k A r s)
-          (omega (arith, size, length-word k A r))
-          (register-shortest (k .m) (A .width) sums (squareSums-elements k r) short) (val (k .m) a)
-
-      zero : (a : ℕ) → (value (k .m) (monic (reversed found)) a ≡ 0) ↔ (Locator.reversed (gf (k .m) (A .width)) (found .l) (poly (k .m) (found .c)) (val (k .m) a) ≡ zero-elem (k .m))
-      zero a =
-          reversed-zero (k .m) (A .width) found (register-lead (k .m) (A .width) sums (squareSums-elements k r) short) a
-          (register-elements (k .m) (A .width) sums (squareSums-elements k r) short)
 
   -- so is the pattern that corrects a word, since it has the word's sums
   pub located-corrects : {w e : List ℕ} → Row (k .n) w → Corrects k w e → located k w ≡ e
@@ -146,7 +139,8 @@ module _ (k : Key) (w : List ℕ) where
 
   pub explained-none : (ones (located k w) ≤ k .t → squareSums k (located k w) ≡ squareSums k w → ⊥) → explained k w ≡ none
   explained-none h =
-      explained-test false (not-both _ _ (λ a b. h (leb-true (ones (located k w)) (k .t) a) (same-eq (squareSums k (located k w)) (squareSums k w) b)))
+      explained-test false
+      (not-both _ _ (λ a b. h (leb-true (ones (located k w)) (k .t) a) (same-eq (squareSums k (located k w)) (squareSums k w) b)))
 
 -- the usual way is the search
 pub reading-explained : (k : Key) → Accepted k → {w : List ℕ} → Row (k .n) w → reading k w ≡ explained k w

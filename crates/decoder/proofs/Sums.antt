@@ -19,17 +19,16 @@ use Rattle.bits.proofs.Product.{dot-xorRow}
 use Rattle.algebra.proofs.Points.{pow, powerSum}
 use Rattle.field.specs.Field.{isElement, mul, power, inv}
 use Rattle.field.proofs.Laws.{mul-lt}
-use Rattle.field.proofs.Gf.{val, val-inj, val-zero, val-mul, val-inv, val-power, times, inverse, zero-elem, laws}
+use Rattle.field.proofs.Gf.{val, val-inj, val-zero, val-mul, val-power, times, laws}
 use Rattle.field.proofs.Arrays.{Elements, map-elements}
 use Rattle.poly.specs.Register.{registerNumber}
 use Rattle.poly.proofs.Answers.{number-none}
 use Rattle.key.specs.Keys.{Key, goppaAt}
 use Rattle.key.proofs.Accepted.{Accepted}
-use Rattle.key.proofs.Goppa.{goppa-value}
 use Rattle.code.specs.Code.{inCode}
 use Rattle.code.proofs.Parity.{dot-lt}
 use Rattle.decoder.specs.Decoding.{squareEntry, squareSums}
-use Rattle.decoder.proofs.Words.{wordPoints, goppaInverse, dot-total}
+use Rattle.decoder.proofs.Words.{wordPoints, dot-total, inverse-weight}
 use Rattle.decoder.proofs.Distance.{squareInverse, code-squares}
 
 module _ (k : Key) (c : List ℕ) where
@@ -65,14 +64,12 @@ module _ (k : Key) {n : ℕ} {c : List ℕ} (r : Row n c) where
 
 module _ (k : Key) (A : Accepted k) where
   square-weight : (s a : ℕ) → val (k .m) (squareEntry k s a) ≡ times (k .m) (squareInverse k A (val (k .m) a)) (pow (laws (k .m) (A .width)) (val (k .m) a) s)
-  unfolding squareEntry squareInverse goppaInverse
+  unfolding squareEntry squareInverse
   square-weight s a =
       val-mul (k .m) (power (k .m) a s) (mul (k .m) (inv (k .m) (goppaAt k a)) (inv (k .m) (goppaAt k a)))
-      ∙ ap₂ (times (k .m)) (val-power (k .m) (A .width) a s) (val-mul (k .m) (inv (k .m) (goppaAt k a)) (inv (k .m) (goppaAt k a)) ∙ ap₂ (times (k .m)) weight weight)
+      ∙ ap₂ (times (k .m)) (val-power (k .m) (A .width) a s)
+      (val-mul (k .m) (inv (k .m) (goppaAt k a)) (inv (k .m) (goppaAt k a)) ∙ ap₂ (times (k .m)) (inverse-weight k A a) (inverse-weight k A a))
       ∙ laws (k .m) (A .width) .mul-comm _ _
-    where
-      weight : val (k .m) (inv (k .m) (goppaAt k a)) ≡ goppaInverse k A (val (k .m) a)
-      weight = val-inv (k .m) (goppaAt k a) ∙ ap (inverse (k .m)) (sym (goppa-value k A a))
 
   -- the sums are power sums over the points
   pub square-sum : {c : List ℕ} → Row (k .n) c → (s : ℕ)

@@ -107,12 +107,15 @@ module _ (k : Key) (A : Accepted k) where
       (λ z. A .no-root i (rw (A .support-length) at b)
       (val-inj (k .m) (goppa-lt k A _) (pow-pos (k .m)) (sym (goppa-value k A _) ∙ z ∙ sym (val-zero (k .m)))))))
 
+  pub inverse-weight : (a : ℕ) → val (k .m) (inv (k .m) (goppaAt k a)) ≡ goppaInverse (val (k .m) a)
+  unfolding goppaInverse
+  inverse-weight a = val-inv (k .m) (goppaAt k a) ∙ ap (inverse (k .m)) (sym (goppa-value k A a))
+
   pub entry-weight : (s a : ℕ) → val (k .m) (entry k s a) ≡ times (k .m) (goppaInverse (val (k .m) a)) (pow (laws (k .m) (A .width)) (val (k .m) a) s)
-  unfolding entry goppaInverse
+  unfolding entry
   entry-weight s a =
       val-mul (k .m) (power (k .m) a s) (inv (k .m) (goppaAt k a))
-      ∙ ap₂ (times (k .m)) (val-power (k .m) (A .width) a s)
-      (val-inv (k .m) (goppaAt k a) ∙ ap (inverse (k .m)) (sym (goppa-value k A a)))
+      ∙ ap₂ (times (k .m)) (val-power (k .m) (A .width) a s) (inverse-weight a)
       ∙ laws (k .m) (A .width) .mul-comm _ _
 
   -- the sums of the definition are power sums over the points
