@@ -5,3 +5,6 @@ pub mod Words
 pub mod Distance
 pub mod Uniqueness
 pub mod Openings
+pub mod Sums
+pub mod Reversed
+pub mod Decoding
