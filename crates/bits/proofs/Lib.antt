@@ -7,3 +7,4 @@ pub mod Pack
 pub mod Ones
 pub mod Product
 pub mod PutBits
+pub mod Parts

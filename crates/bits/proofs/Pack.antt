@@ -83,6 +83,11 @@ unpack-ext n s u h = map-from (bitAt s) (bitAt u) 0 0 n (λ i l. rw zero-add (h 
 pub unpack-bits : (n : ℕ) (s u : List ℕ) → unpack n s ≡ unpack n u → (i : ℕ) → i < n → bitAt s i ≡ bitAt u i
 unpack-bits n s u e i h = sym (unpack-at n s i 0 h) ∙ ap (λ (l : List ℕ). getD l i 0) e ∙ unpack-at n u i 0 h
 
+-- the bits of the first k bytes
+pub bit-take : (k : ℕ) (s : List ℕ) (i : ℕ) → i / 8 < k → bitAt (take k s) i ≡ bitAt s i
+unfolding bitAt
+bit-take k s i h = ap (λ (x : ℕ). x / 2 ^ (i % 8) % 2) (getD-take k s (i / 8) 0 h)
+
 pub unpack-add : (n m : ℕ) (s : List ℕ) → unpack (n + m) s ≡ unpack n s ++ map (bitAt s) (from n m)
 unfolding unpack
 unpack-add n m s =
@@ -154,6 +159,15 @@ bytes-enough n = omega arith
 pub byte-below : (n i : ℕ) → i < n → i / 8 < bytesFor n
 unfolding bytesFor
 byte-below n i h = omega arith
+
+-- n bits are in the first bytesFor n bytes, and their filler too
+pub unpack-take : (n k : ℕ) (s : List ℕ) → bytesFor n ≤ k → unpack n (take k s) ≡ unpack n s
+unpack-take n k s h = unpack-ext n (take k s) s (λ i l. bit-take k s i (omega (arith, byte-below n i l)))
+
+pub filler-take : (n : ℕ) (s : List ℕ) → fillerClear n (take (bytesFor n) s) ≡ fillerClear n s
+unfolding fillerClear
+filler-take n s =
+    every-from _ _ n n (8 * bytesFor n - n) (λ i l. ap (λ (x : ℕ). eqb x 0) (bit-take (bytesFor n) s (n + i) (omega arith)))
 
 pub length-pack : (e : List ℕ) → length (pack e) ≡ bytesFor (length e)
 unfolding pack

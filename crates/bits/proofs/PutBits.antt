@@ -117,6 +117,16 @@ put-over {n} {bs} out r =
     put-append bs 0 zeros (drop (length zeros) out) (omega (arith, bytes-enough n))
     ∙ ap₂ (λ (x : List ℕ) (k : ℕ). x ++ drop k out) (put-zeros r) (e ∙ sym (length-pack bs ∙ ap bytesFor l))
 
+-- in zeros the packed row is followed by zeros
+over-zeros : (n k : ℕ) → n ≤ k → over (replicate n 0) (replicate k 0) ≡ replicate k 0
+unfolding over
+over-zeros zero k h = refl
+over-zeros (suc n) zero h = absurd (not-suc-le-zero h)
+over-zeros (suc n) (suc k) h = ap (_∷_ 0) (over-zeros n k (le-of-suc-le-suc h))
+
+pub put-fresh : {n : ℕ} {bs : List ℕ} (k : ℕ) → Row n bs → bytesFor n ≤ k → putBits bs 0 (replicate k 0) ≡ over (pack bs) (replicate k 0)
+put-fresh {n} {bs} k r h = ap (putBits bs 0) (sym (over-zeros (bytesFor n) k h)) ∙ put-over (replicate k 0) r
+
 -- a row where there is room, and where there is none
 pub written-none : (s : List ℕ) (b w : ℕ) (out : List ℕ) → length out < bytesFor w → rowWritten s b w out ≡ out
 unfolding rowWritten

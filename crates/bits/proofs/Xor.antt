@@ -116,3 +116,11 @@ digit-mul on v w = simp one-mul
 pub digit-lt : {x v n : ℕ} → Digit x → v < n → x * v < n
 digit-lt off h = omega arith
 digit-lt on h = omega arith
+
+-- the sum of two digits
+pub digit-xor : {x y : ℕ} → Digit x → Digit y → Digit (x ⊕ y)
+unfolding _⊕_
+digit-xor off off = off
+digit-xor off on = on
+digit-xor on off = on
+digit-xor on on = off

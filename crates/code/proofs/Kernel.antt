@@ -10,7 +10,7 @@ use lib.Dec.{eqb}
 use lib.ListN.{length, getD, take, drop, length-map, length-take}
 use Rattle.bits.specs.Xor.{_⊕_}
 use Rattle.bits.specs.Bits.{Row, end, off, on, from, dot}
-use Rattle.bits.proofs.Xor.{Digit, low, zero-xor, xor-zero}
+use Rattle.bits.proofs.Xor.{Digit, low, zero-xor, xor-zero, digit-xor}
 use Rattle.bits.proofs.Xor as xor
 use Rattle.bits.proofs.Lists.{length-from, take-below, drop-below}
 use Rattle.bits.proofs.Pack.{row-cons, row-digit, row-lt, row-length, row-of}
@@ -215,13 +215,6 @@ unfolding parityRows
 length-parityRows k = length-map (from 0 (k .m * k .t)) (parityRow k) ∙ length-from 0 (k .m * k .t)
 
 -- a capsule has as many bits as there are rows
-digit-xor : {x y : ℕ} → Digit x → Digit y → Digit (x ⊕ y)
-unfolding _⊕_
-digit-xor xor.off xor.off = xor.off
-digit-xor xor.off xor.on = xor.on
-digit-xor xor.on xor.off = xor.on
-digit-xor xor.on xor.on = xor.off
-
 zip-row : {n i : ℕ} {rows : Matrix} {b d : List ℕ} → Rows n rows → Row (length rows) b → Row i d
     → Row (length rows) (zipWith (λ x r. x ⊕ dot r d) b rows)
 unfolding zipWith

@@ -1,0 +1,101 @@
+-- The refusal, or the capsule's bits written as a row. Assumes nothing.
+use mathlib.Core.Path.{_≡_, sym, ap, ap₂, _∙_}
+use mathlib.Core.List.{List, map}
+use Prim.Native.Nat.{ℕ, _-_, _*_, _≤_}
+use native.Mathlib.Omega.{arith}
+use borrow.Author.Needs.{needs}
+use lib.ListN.{length, replicate}
+use Rattle.bits.specs.Bits.{from, bytesFor, bitAt, pack, over, rowWritten}
+use Rattle.bits.proofs.PutBits.{written-row}
+use Rattle.key.proofs.Shapes.{limits}
+use Rattle.key.proofs.Conditions.{limits-fit}
+use Rattle.code.specs.Lock.{lockNumber}
+use Rattle.locking.specs.Locking.{capsuleBit}
+use Rattle.locking.proofs.Numbers.{Fits, lock-fits, output-kept, output-written, refused, done}
+use Rattle.locking.proofs.Rows.{row-capsule, lock-bits, read-back}
+use Rattle.locking.proofs.lock.Statement.{statement}
+use Rattle.locking.proofs.lock.Tie as tie
+
+refusal-requires : tie.Need-refusal-requires
+refusal-requires c κs = tt
+
+same-length : tie.Need-same-length
+same-length c = search needs
+
+returns : tie.Need-returns
+returns c =
+    let a = c .before .before .before .before .before .before .args in
+    let e = c .before .refusal .ensures in
+    let z : c .before .refusal .result ≡ 0 → ⊥ = λ h. omega arith in
+    (refused _ _ e z, output-kept (a .m) (a .n) (a .t) (a .public .now) (a .pattern .now) (a .out .now) _ e z)
+
+mul-rows : tie.Need-mul-rows
+mul-rows c =
+    let a = c .before .before .before .before .before .before .args in
+    let zero : c .before .refusal .result ≡ 0 = omega arith in
+    let f = lock-fits (a .m) (a .n) (a .t) (a .public .now) (a .pattern .now) (a .out .now) (sym (c .before .refusal .ensures) ∙ zero) in
+    omega (arith, f .over)
+
+sub-capsule-of : tie.Need-sub-capsule-of
+sub-capsule-of c =
+    let a = c .before .before .before .before .before .before .args in
+    let zero : c .before .refusal .result ≡ 0 = omega arith in
+    let f = lock-fits (a .m) (a .n) (a .t) (a .public .now) (a .pattern .now) (a .out .now) (sym (c .before .refusal .ensures) ∙ zero) in
+    omega (arith, f .over)
+
+capsule-of-requires : tie.Need-capsule-of-requires
+capsule-of-requires c κs =
+    let a = c .before .before .before .before .before .before .args in
+    let zero : c .before .refusal .result ≡ 0 = omega arith in
+    let f = lock-fits (a .m) (a .n) (a .t) (a .public .now) (a .pattern .now) (a .out .now) (sym (c .before .refusal .ensures) ∙ zero) in
+    (omega (arith, f .public-size), omega (arith, f .over, f .small), omega (arith, f .small))
+
+slice-aggregate-write-row : tie.Need-slice-aggregate-write-row
+slice-aggregate-write-row c = search needs
+
+cast-write-row : tie.Need-cast-write-row
+cast-write-row c =
+    let a = c .before .before .before .before .before .before .before .before .before .args in
+    let zero : c .before .before .before .before .refusal .result ≡ 0 = omega arith in
+    let f = lock-fits (a .m) (a .n) (a .t) (a .public .now) (a .pattern .now) (a .out .now) (sym (c .before .before .before .before .refusal .ensures) ∙ zero) in
+    omega (arith, f .over, f .small)
+
+write-row-requires : tie.Need-write-row-requires
+write-row-requires c κs = tt
+
+same-length-2 : tie.Need-same-length-2
+same-length-2 c = search needs
+
+returns-2 : tie.Need-returns-2
+returns-2 c =
+    let a = c .before .before .before .before .before .before .before .before .before .before .before .before .args in
+    let zero : c .before .before .before .before .before .before .before .refusal .result ≡ 0 = omega arith in
+    let f = lock-fits (a .m) (a .n) (a .t) (a .public .now) (a .pattern .now) (a .out .now) (sym (c .before .before .before .before .before .before .before .refusal .ensures) ∙ zero) in
+    let small : a .m * a .t ≤ a .n = omega (arith, f .over) in
+    let bits : List ℕ = map (capsuleBit (a .n - a .m * a .t) (a .m * a .t) (a .public .now) (a .pattern .now)) (from 0 (a .m * a .t)) in
+    let number : lockNumber (a .m) (a .n) (a .t) (a .public .now) (a .pattern .now) (a .out .now) ≡ 0 = sym (c .before .before .before .before .before .before .before .refusal .ensures) ∙ zero in (
+      done _ number,
+      c .before .before .write-row .ensures
+          ∙ written-row _ 0 (a .m * a .t) (a .out .now) (f .room)
+          ∙ ap (λ (l : List ℕ). over (pack l) (a .out .now))
+          (ap (λ (s : List ℕ). map (bitAt s) (from 0 (a .m * a .t))) (c .before .before .before .before .before .capsule-of .ensures)
+          ∙ read-back (replicate 1024 0) (row-capsule (a .n - a .m * a .t) (a .m * a .t) (a .public .now) (a .pattern .now)))
+          ∙ ap (λ (l : List ℕ). over l (a .out .now)) (sym (lock-bits (a .m) (a .n) (a .t) (a .public .now) (a .pattern .now) small))
+          ∙ sym (output-written (a .m) (a .n) (a .t) (a .public .now) (a .pattern .now) (a .out .now) number),
+    )
+
+pub lock-spec : {M : Type 1} → statement M
+lock-spec =
+    tie.close
+    (tie.spec
+    refusal-requires
+    same-length
+    returns
+    mul-rows
+    sub-capsule-of
+    capsule-of-requires
+    slice-aggregate-write-row
+    cast-write-row
+    write-row-requires
+    same-length-2
+    returns-2)

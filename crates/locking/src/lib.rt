@@ -1,0 +1,121 @@
+// Locking a pattern under a shape and a public key (document 01, 'Code and public key').
+ghost use mathlib.Core.Path.{_≡_};
+ghost use mathlib.Core.List.{map};
+ghost use Prim.Native.Nat.{_*_, _≤_, _<_};
+ghost use lib.ListN.{length, drop, replicate};
+ghost use Rattle.bits.specs.Xor.{_⊕_};
+ghost use Rattle.bits.specs.Bits.{from, every, bytesFor, bitAt, pack, fillerClear, over, rowProduct};
+ghost use Rattle.code.specs.Lock.{rowOf, lockNumber};
+ghost use Rattle.locking.specs.Locking.{lockedOf, lockOutput, capsuleBit};
+
+// What the call answers: the capsule is written, or the number of a refusal.
+pub enum Locked {
+    Done,
+    Refused(u8),
+}
+
+// The capsule of a pattern with exactly t ones, from the start of out.
+pub fn lock(m: u8, n: u16, t: u16, public: &[u8], pattern: &[u8], out: &mut [u8]) -> Locked
+    ensures { λ r. ⌜ r ≡ lockedOf (lockNumber m n t (now (public .entry)) (now (pattern .entry)) (now (out .entry))) ⌝ }
+    ensures { λ _. ⌜ now (out .exit) ≡ lockOutput m n t (now (public .entry)) (now (pattern .entry)) (now (out .entry)) ⌝ }
+{
+    let x = refusal(m, n, t, public, pattern, &out[..]);
+    if x != 0 {
+        return Locked::Refused(x);
+    }
+    let rows = (m as usize) * (t as usize);
+    let capsule = capsule_of(public, pattern, rows, n as usize - rows);
+    bits::write_row(out, &capsule, 0, rows as u32);
+    Locked::Done
+}
+
+// The number of the refusal, and 0 where there is none.
+fn refusal(m: u8, n: u16, t: u16, public: &[u8], pattern: &[u8], out: &[u8]) -> u8
+    ensures { λ r. ⌜ r ≡ lockNumber m n t (now (public .entry)) (now (pattern .entry)) (now (out .entry)) ⌝ }
+{
+    if field::modulus(m) == 0 {
+        return 1;
+    }
+    if !key::shape::in_limits(m, n, t) {
+        return 3;
+    }
+    let rows = (m as usize) * (t as usize);
+    let w = n as usize - rows;
+    if public.len() != rows * bits::bytes_for(w) {
+        return 8;
+    }
+    if pattern.len() != bits::bytes_for(n as usize) {
+        return 8;
+    }
+    if !fillers_clear(public, rows, w) {
+        return 9;
+    }
+    if !bits::filler_clear(pattern, n as usize) {
+        return 9;
+    }
+    if bits::weight(pattern, n as usize) != t as usize {
+        return 12;
+    }
+    if out.len() < bits::bytes_for(rows) {
+        return 10;
+    }
+    0
+}
+
+// The filler of each row of w bits is 0.
+fn fillers_clear(public: &[u8], rows: usize, w: usize) -> bool
+    requires { ⌜ (rows * bytesFor w ≤ length (now public)) × (rows ≤ 8192) × (w ≤ 8192) ⌝ }
+    ensures { λ b. ⌜ b ≡ every (λ r. fillerClear w (rowOf w (now (public .entry)) r)) (from 0 rows) ⌝ }
+{
+    let size = bits::bytes_for(w);
+    let mut at = 0;
+    let mut r = 0;
+    while r < rows {
+        if !bits::filler_clear(&public[at..], w) {
+            return false;
+        }
+        at += size;
+        r += 1;
+    }
+    true
+}
+
+// [I|T]·e, bit after bit: T has rows of w bits, and the pattern e has rows + w bits.
+fn capsule_of(public: &[u8], pattern: &[u8], rows: usize, w: usize) -> [u8; 1024]
+    requires { ⌜ (rows * bytesFor w ≤ length (now public)) × (rows ≤ 8192) × (w ≤ 8192) ⌝ }
+    ensures { λ c. ⌜ c ≡ over (pack (map (capsuleBit w rows (now (public .entry)) (now (pattern .entry))) (from 0 rows))) (replicate 1024 0) ⌝ }
+{
+    let size = bits::bytes_for(w);
+    let tail = tail_of(pattern, rows, w);
+    let mut c = [0u8; 1024];
+    let mut at = 0;
+    let mut r = 0;
+    while r < rows {
+        bits::set_bit(
+            &mut c,
+            r,
+            bits::bit_at(pattern, r) ^ row_bit(public, at, &tail[..size]),
+        );
+        at += size;
+        r += 1;
+    }
+    c
+}
+
+// The pattern's bits behind the first `rows`, packed.
+fn tail_of(pattern: &[u8], rows: usize, w: usize) -> [u8; 1024]
+    requires { ⌜ (rows ≤ 8192) × (w ≤ 8192) ⌝ }
+    ensures { λ t. ⌜ t ≡ over (pack (map (bitAt (now (pattern .entry))) (from rows w))) (replicate 1024 0) ⌝ }
+{
+    let mut t = [0u8; 1024];
+    bits::write_row(&mut t, pattern, rows as u32, w as u32);
+    t
+}
+
+// The product of the tail with the row whose first byte is at `at`.
+fn row_bit(public: &[u8], at: usize, tail: &[u8]) -> u8
+    requires { ⌜ at ≤ length (now public) ⌝ }
+    ensures { λ r. ⌜ r ≡ rowProduct (drop at (now (public .entry))) (now (tail .entry)) ⌝ }
+{
+    bits::row_product(&public[at..], tail)
+}
