@@ -1,9 +1,12 @@
 // Gauss-Jordan elimination in a workspace of packed rows.
 ghost use mathlib.Core.Path.{_≡_};
-ghost use mathlib.Core.List.{_++_};
-ghost use Prim.Native.Nat.{_+_, _≤_};
+ghost use mathlib.Core.List.{_++_, map};
+ghost use Prim.Native.Nat.{_+_, _*_, _≤_, _<_};
 ghost use lib.ListN.{length, take, drop};
-ghost use Rattle.elimination.specs.Elimination.{movedUp, toFront};
+ghost use Rattle.bits.specs.Bits.{bytesFor, unpack};
+ghost use Rattle.code.specs.PublicKey.{clear};
+ghost use Rattle.code.specs.Lock.{rowsOf};
+ghost use Rattle.elimination.specs.Elimination.{movedUp, toFront, pivotRow, clearFront};
 
 // The first n bytes of src in the place of those of dst.
 fn copy(dst: &mut [u8], src: &[u8], n: usize)
@@ -38,4 +41,48 @@ fn to_front(w: &mut [u8], k: usize, b: usize)
     copy(&mut t, &w[k..], b);
     move_up(w, k, b);
     copy(w, &t, b);
+}
+
+// The number of rows before the first with a one in column j.
+fn find_pivot(w: &[u8], rows: usize, n: usize, j: usize) -> usize
+    requires { ⌜ (rows * bytesFor n ≤ length (now w)) × (j < n) ⌝ }
+    ensures { λ r. ⌜ r ≡ pivotRow j (rowsOf rows n (now (w .entry))) ⌝ }
+{
+    let b = bits::bytes_for(n);
+    let mut r = 0;
+    let mut at = 0;
+    while r < rows {
+        if bits::bit_at(&w[at..], j) == 1 {
+            return r;
+        }
+        at += b;
+        r += 1;
+    }
+    r
+}
+
+// The row at the front of w, with t added where it has a one in column j.
+fn clear_row(w: &mut [u8], t: &[u8], j: usize)
+    ensures { λ _. ⌜ now (w .exit) ≡ clearFront j (now (t .entry)) (now (w .entry)) ⌝ }
+{
+    if bits::bit_at(w, j) == 0 {
+        return;
+    }
+    bits::xor_row(w, t);
+}
+
+// The first `rows` rows, cleared in column j by the row t.
+fn clear_rows(w: &mut [u8], t: &[u8], rows: usize, n: usize, j: usize)
+    requires { ⌜ (rows * bytesFor n ≤ length (now w)) × (length (now t) ≡ bytesFor n) × (j < n) ⌝ }
+    ensures { λ _. ⌜ rowsOf rows n (now (w .exit)) ≡ map (clear j (unpack n (now (t .entry)))) (rowsOf rows n (now (w .entry))) ⌝ }
+    ensures { λ _. ⌜ drop (rows * bytesFor n) (now (w .exit)) ≡ drop (rows * bytesFor n) (now (w .entry)) ⌝ }
+{
+    let b = bits::bytes_for(n);
+    let mut r = 0;
+    let mut at = 0;
+    while r < rows {
+        clear_row(&mut w[at..], t, j);
+        at += b;
+        r += 1;
+    }
 }
