@@ -1,3 +1,4 @@
 pub mod Flat
 pub mod Pivots
 pub mod Clearing
+pub mod Stages

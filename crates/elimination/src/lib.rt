@@ -1,12 +1,13 @@
 // Gauss-Jordan elimination in a workspace of packed rows.
 ghost use mathlib.Core.Path.{_≡_};
+ghost use mathlib.Core.Bool.{true, false};
 ghost use mathlib.Core.List.{_++_, map};
-ghost use Prim.Native.Nat.{_+_, _*_, _≤_, _<_};
+ghost use Prim.Native.Nat.{_+_, _-_, _*_, _≤_, _<_};
 ghost use lib.ListN.{length, take, drop};
 ghost use Rattle.bits.specs.Bits.{bytesFor, unpack};
-ghost use Rattle.code.specs.PublicKey.{clear};
-ghost use Rattle.code.specs.Lock.{rowsOf};
-ghost use Rattle.elimination.specs.Elimination.{movedUp, toFront, pivotRow, clearFront};
+ghost use Rattle.code.specs.PublicKey.{clear, findPivot, withPivot};
+ghost use Rattle.code.specs.Lock.{rowOf, rowsOf};
+ghost use Rattle.elimination.specs.Elimination.{movedUp, toFront, pivotRow, clearFront, firstRow, stage, next};
 
 // The first n bytes of src in the place of those of dst.
 fn copy(dst: &mut [u8], src: &[u8], n: usize)
@@ -85,4 +86,31 @@ fn clear_rows(w: &mut [u8], t: &[u8], rows: usize, n: usize, j: usize)
         at += b;
         r += 1;
     }
+}
+
+// The first of the rows with a one in column j, moved to the front; false where there is none.
+fn lift(w: &mut [u8], rows: usize, n: usize, j: usize) -> bool
+    requires { ⌜ (rows * bytesFor n ≤ length (now w)) × (j < n) × (n ≤ 8192) ⌝ }
+    ensures { λ r. ⌜ findPivot j (rowsOf rows n (now (w .entry))) ≡ firstRow r rows n (now (w .exit)) ⌝ }
+    ensures { λ r. ⌜ (r ≡ false → now (w .exit) ≡ now (w .entry)) ⌝ }
+    ensures { λ _. ⌜ drop (rows * bytesFor n) (now (w .exit)) ≡ drop (rows * bytesFor n) (now (w .entry)) ⌝ }
+{
+    let p = find_pivot(w, rows, n, j);
+    if p == rows {
+        return false;
+    }
+    let b = bits::bytes_for(n);
+    to_front(w, p * b, b);
+    true
+}
+
+// Row i is t: the other rows, cleared in column i.
+fn clear_around(w: &mut [u8], t: &[u8], rows: usize, n: usize, i: usize)
+    requires { ⌜ (rows * bytesFor n ≤ length (now w)) × (i < rows) × (rows ≤ n) × (now t ≡ rowOf n (now w) i) ⌝ }
+    ensures { λ _. ⌜ stage (i + 1) rows n (now (w .exit)) ≡ withPivot i (stage i rows n (now (w .entry))) (firstRow true (rows - i) n (drop (i * bytesFor n) (now (w .entry)))) ⌝ }
+    ensures { λ _. ⌜ drop (rows * bytesFor n) (now (w .exit)) ≡ drop (rows * bytesFor n) (now (w .entry)) ⌝ }
+{
+    clear_rows(w, t, i, n, i);
+    let at = (i + 1) * bits::bytes_for(n);
+    clear_rows(&mut w[at..], t, rows - (i + 1), n, i);
 }
