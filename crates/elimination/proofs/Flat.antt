@@ -21,6 +21,9 @@ use Rattle.elimination.specs.Elimination.{movedUp, toFront}
 pub rows-in : (r rows b : ℕ) → r < rows → r * b + b ≤ rows * b
 rows-in r rows b h = le-trans (le-of-eq (sym (suc-mul r b))) (mul-le-mul-right b h)
 
+pub row-room : (r rows n b len : ℕ) → b ≡ bytesFor n → r < rows → rows * bytesFor n ≤ len → r * b + b ≤ len
+row-room r rows n b len e h l = rw e (le-trans (rows-in r rows (bytesFor n) h) l)
+
 pub next-row : (r b : ℕ) → r * b + b ≡ (r + 1) * b
 next-row r b = sym (ap (λ (x : ℕ). x * b) (add-one r) ∙ suc-mul r b)
 
@@ -167,8 +170,18 @@ pub length-rows : (k n : ℕ) (w : List ℕ) → length (rowsOf k n w) ≡ k
 unfolding rowsOf
 length-rows k n w = length-map (from 0 k) (λ r. unpack n (rowOf n w r)) ∙ length-from 0 k
 
-pub length-row : (i rows n : ℕ) (w : List ℕ) → rows * bytesFor n ≤ length w → i < rows → length (rowOf n w i) ≡ bytesFor n
-unfolding rowOf
-length-row i rows n w h l =
-    let e = rows-in i rows (bytesFor n) l in
-    length-take-le (bytesFor n) (drop (i * bytesFor n) w) (omega (arith, length-drop (i * bytesFor n) w))
+-- row i of a workspace: its length, and the row copied to the front of another list
+module _ (i rows n : ℕ) (w : List ℕ) (within : rows * bytesFor n ≤ length w) (less : i < rows) where
+  pub length-row : length (rowOf n w i) ≡ bytesFor n
+  unfolding rowOf
+  length-row =
+      let e = rows-in i rows (bytesFor n) less in
+      length-take-le (bytesFor n) (drop (i * bytesFor n) w) (omega (arith, length-drop (i * bytesFor n) w))
+
+  pub row-copied : (b : ℕ) (z : List ℕ) → b ≡ bytesFor n
+      → take b (take b (take (length w - i * b) (drop (i * b) w)) ++ z) ≡ rowOf n w i
+  unfolding rowOf
+  row-copied b z e =
+      ap (λ (l : List ℕ). take b (take b l ++ z)) (part-all (i * b) w)
+      ∙ ap (λ (k : ℕ). take k (take k (drop (i * k) w) ++ z)) e
+      ∙ take-at (rowOf n w i) z (bytesFor n) length-row

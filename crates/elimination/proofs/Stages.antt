@@ -7,12 +7,13 @@ use native.Mathlib.Nat.{add-mul}
 use native.Mathlib.Omega.{arith}
 use lib.ListN.{length, take, drop, take-append-drop}
 use lib.Seq.{length-take-le, drop-at, drop-drop}
+use borrow.Rule.Slice.PartMut.{putMid}
 use Rattle.bits.specs.Bits.{from, bytesFor, unpack}
 use Rattle.bits.proofs.Lists.{from-add}
 use Rattle.code.specs.PublicKey.{Matrix, findPivot, clear, Echelon, withPivot}
 use Rattle.code.specs.Lock.{rowOf, rowsOf}
 use Rattle.elimination.specs.Elimination.{firstRow, stage, next}
-use Rattle.elimination.proofs.Flat.{rows-in, next-row, rows-snoc, rows-front, unpack-take}
+use Rattle.elimination.proofs.Flat.{rows-in, next-row, rows-snoc, rows-front, unpack-take, part-all, part-back}
 
 -- three equal parts
 echelon-eq : {x y : Matrix} {u v : Matrix} {p q : List ℕ} → x ≡ y → u ≡ v → p ≡ q
@@ -27,7 +28,7 @@ pub rows-split : (i rows b : ℕ) → i ≤ rows → i * b + (rows - i) * b ≡ 
 rows-split i rows b h = let e : i + (rows - i) ≡ rows = omega arith in sym (add-mul i (rows - i) b) ∙ ap (λ (k : ℕ). k * b) e
 
 -- a part that starts at row i is lent and comes back as y, with what lies past the rows as it was
-pub past-rows : (i rows b : ℕ) (w y : List ℕ) → i ≤ rows → rows * b ≤ length w
+past-rows : (i rows b : ℕ) (w y : List ℕ) → i ≤ rows → rows * b ≤ length w
     → drop ((rows - i) * b) y ≡ drop ((rows - i) * b) (drop (i * b) w) → drop (rows * b) (take (i * b) w ++ y) ≡ drop (rows * b) w
 past-rows i rows b w y h l e =
     let s : i * b + (rows - i) * b ≡ rows * b = rows-split i rows b h in
@@ -78,28 +79,47 @@ module _ (i rows n : ℕ) (t w w₁ z : List ℕ) (within : rows * bytesFor n �
       ∙ ap (λ (k : ℕ). drop k w₁) (sym s) ∙ sym (drop-drop ((rows - i) * b) (i * b) w₁) ∙ ap (drop ((rows - i) * b)) kept
       ∙ drop-drop ((rows - i) * b) (i * b) w ∙ ap (λ (k : ℕ). drop k w) s
 
--- the rows from row i on after its pivot is moved to their front: w becomes w₁, and then w₂
-module _ (i rows n : ℕ) (w y : List ℕ) (within : rows * bytesFor n ≤ length w) (less : i < rows) where
-  lifted-rest : drop (i * bytesFor n) (take (i * bytesFor n) w ++ y) ≡ y
-  lifted-rest = let e = rows-in i rows (bytesFor n) less in drop-at (take (i * bytesFor n) w) y (i * bytesFor n) (length-take-le (i * bytesFor n) w (omega arith))
+-- the rows from row i on are lent, and come back as y with the pivot in their first row, or with none
+module _ (i rows n b : ℕ) (w y : List ℕ) (size : b ≡ bytesFor n) (within : rows * bytesFor n ≤ length w) (less : i < rows) where
+  abbrev lent : List ℕ
+  lent = take (length w - i * b) (drop (i * b) w)
 
-  pub stage-pivot : (w₂ : List ℕ)
-      → stage (i + 1) rows n w₂ ≡ withPivot i (stage i rows n (take (i * bytesFor n) w ++ y)) (firstRow true (rows - i) n (drop (i * bytesFor n) (take (i * bytesFor n) w ++ y)))
-      → findPivot i (rowsOf (rows - i) n (drop (i * bytesFor n) w)) ≡ firstRow true (rows - i) n y
-      → withPivot i (stage i rows n w) (findPivot i (stage i rows n w .rest)) ≡ stage (next true i) rows n w₂
+  abbrev after : List ℕ
+  after = putMid (i * b) (length w - i * b) w y
+
+  room-before : i * bytesFor n ≤ length w
+  room-before = omega (arith, rows-in i rows (bytesFor n) less)
+
+  lent-is : lent ≡ drop (i * bytesFor n) w
+  lent-is = part-all (i * b) w ∙ ap (λ (k : ℕ). drop (i * k) w) size
+
+  after-is : after ≡ take (i * bytesFor n) w ++ y
+  after-is = part-back (i * b) w y ∙ ap (λ (k : ℕ). take (i * k) w ++ y) size
+
+  after-rest : drop (i * bytesFor n) after ≡ y
+  after-rest = ap (drop (i * bytesFor n)) after-is ∙ drop-at (take (i * bytesFor n) w) y (i * bytesFor n) (length-take-le (i * bytesFor n) w room-before)
+
+  pub lift-past : drop ((rows - i) * bytesFor n) y ≡ drop ((rows - i) * bytesFor n) lent → drop (rows * bytesFor n) after ≡ drop (rows * bytesFor n) w
+  lift-past e =
+      ap (drop (rows * bytesFor n)) after-is
+      ∙ past-rows i rows (bytesFor n) w y (omega arith) within (e ∙ ap (drop ((rows - i) * bytesFor n)) lent-is)
+
+  pub lift-missing : y ≡ lent → findPivot i (rowsOf (rows - i) n lent) ≡ firstRow false (rows - i) n y
+      → withPivot i (stage i rows n w) (findPivot i (stage i rows n w .rest)) ≡ stage (next false i) rows n after
   unfolding stage withPivot firstRow next
-  stage-pivot w₂ e f =
-      let room : i * bytesFor n ≤ length w = omega (arith, rows-in i rows (bytesFor n) less) in
+  lift-missing e f =
+      ap (withPivot i (stage i rows n w)) (ap (λ (l : List ℕ). findPivot i (rowsOf (rows - i) n l)) (sym lent-is) ∙ f)
+      ∙ ap (stage i rows n) (sym (after-is ∙ ap (λ (l : List ℕ). take (i * bytesFor n) w ++ l) (e ∙ lent-is) ∙ take-append-drop (i * bytesFor n) w))
+
+  pub lift-pivot : (u : List ℕ) → findPivot i (rowsOf (rows - i) n lent) ≡ firstRow true (rows - i) n y
+      → stage (i + 1) rows n u ≡ withPivot i (stage i rows n after) (firstRow true (rows - i) n (drop (i * bytesFor n) after))
+      → withPivot i (stage i rows n w) (findPivot i (stage i rows n w .rest)) ≡ stage (next true i) rows n u
+  unfolding stage withPivot firstRow next
+  lift-pivot u f e =
       let p : List ℕ = unpack n y in
-      let front : rowsOf i n w ≡ rowsOf i n (take (i * bytesFor n) w ++ y) = sym (rows-front i n (i * bytesFor n) w y (omega arith) room) in
-      ap (withPivot i (stage i rows n w)) f
+      let front : rowsOf i n w ≡ rowsOf i n after =
+      sym (ap (rowsOf i n) after-is ∙ rows-front i n (i * bytesFor n) w y (omega arith) room-before) in
+      ap (withPivot i (stage i rows n w)) (ap (λ (l : List ℕ). findPivot i (rowsOf (rows - i) n l)) (sym lent-is) ∙ f)
       ∙ echelon-eq (ap (λ (xs : Matrix). map (clear i p) xs ++ (p ∷ [])) front) refl refl
-      ∙ ap (λ (s : List ℕ). withPivot i (stage i rows n (take (i * bytesFor n) w ++ y)) (firstRow true (rows - i) n s)) (sym lifted-rest)
+      ∙ ap (λ (l : List ℕ). withPivot i (stage i rows n after) (firstRow true (rows - i) n l)) (sym after-rest)
       ∙ sym e
-
-  pub stage-none : y ≡ drop (i * bytesFor n) w → findPivot i (rowsOf (rows - i) n (drop (i * bytesFor n) w)) ≡ firstRow false (rows - i) n y
-      → withPivot i (stage i rows n w) (findPivot i (stage i rows n w .rest)) ≡ stage (next false i) rows n (take (i * bytesFor n) w ++ y)
-  unfolding stage withPivot firstRow next
-  stage-none e f =
-      ap (withPivot i (stage i rows n w)) f
-      ∙ ap (stage i rows n) (sym (ap (λ (s : List ℕ). take (i * bytesFor n) w ++ s) e ∙ take-append-drop (i * bytesFor n) w))

@@ -114,3 +114,30 @@ fn clear_around(w: &mut [u8], t: &[u8], rows: usize, n: usize, i: usize)
     let at = (i + 1) * bits::bytes_for(n);
     clear_rows(&mut w[at..], t, rows - (i + 1), n, i);
 }
+
+// The rows other than row i, cleared in column i by row i.
+fn clear_others(w: &mut [u8], rows: usize, n: usize, i: usize)
+    requires { ⌜ (rows * bytesFor n ≤ length (now w)) × (i < rows) × (rows ≤ n) × (n ≤ 8192) ⌝ }
+    ensures { λ _. ⌜ stage (i + 1) rows n (now (w .exit)) ≡ withPivot i (stage i rows n (now (w .entry))) (firstRow true (rows - i) n (drop (i * bytesFor n) (now (w .entry)))) ⌝ }
+    ensures { λ _. ⌜ drop (rows * bytesFor n) (now (w .exit)) ≡ drop (rows * bytesFor n) (now (w .entry)) ⌝ }
+{
+    let mut t = [0u8; 1024];
+    let b = bits::bytes_for(n);
+    let at = i * b;
+    copy(&mut t, &w[at..], b);
+    clear_around(w, &t[..b], rows, n, i);
+}
+
+// Column i, with its pivot among the rows from row i on; false where there is none.
+fn column(w: &mut [u8], rows: usize, n: usize, i: usize) -> bool
+    requires { ⌜ (rows * bytesFor n ≤ length (now w)) × (i < rows) × (rows ≤ n) × (n ≤ 8192) ⌝ }
+    ensures { λ r. ⌜ withPivot i (stage i rows n (now (w .entry))) (findPivot i (stage i rows n (now (w .entry)) .rest)) ≡ stage (next r i) rows n (now (w .exit)) ⌝ }
+    ensures { λ _. ⌜ drop (rows * bytesFor n) (now (w .exit)) ≡ drop (rows * bytesFor n) (now (w .entry)) ⌝ }
+{
+    let at = i * bits::bytes_for(n);
+    if !lift(&mut w[at..], rows - i, n, i) {
+        return false;
+    }
+    clear_others(w, rows, n, i);
+    true
+}

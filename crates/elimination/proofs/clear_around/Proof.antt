@@ -20,7 +20,7 @@ clear-rows-requires c κs =
     let s = c .before .before .before in
     let a = s .args in
     let e = rows-in (a .i) (a .rows) (bytesFor (a .n)) (omega arith) in
-    (omega arith, ap length (s .pre .3) ∙ length-row (a .i) (a .rows) (a .n) (a .w .now) (omega arith) (omega arith), omega arith)
+    (omega arith, ap length (s .pre .3) ∙ length-row (a .i) (a .rows) (a .n) (a .w .now) (s .pre .0) (s .pre .1), omega arith)
 
 add-at : tie.Need-add-at
 add-at c = search needs
@@ -62,7 +62,7 @@ clear-rows-requires-2 c κs =
     let at : ℕ = (a .i + 1) * c .before .bytes-for .result in
     let e : at ≡ (a .i + 1) * bytesFor (a .n) = ap (_*_ (a .i + 1)) (c .before .bytes-for .ensures) in
     let f : length (take (length w - at) (drop at w)) ≡ length w - at = ap length (part-all at w) ∙ length-drop at w in
-    (omega (arith, rows-split (a .i + 1) (a .rows) (bytesFor (a .n)) (omega arith)), ap length (s .pre .3) ∙ length-row (a .i) (a .rows) (a .n) (a .w .now) (omega arith) (omega arith), omega arith)
+    (omega (arith, rows-split (a .i + 1) (a .rows) (bytesFor (a .n)) (omega arith)), ap length (s .pre .3) ∙ length-row (a .i) (a .rows) (a .n) (a .w .now) (s .pre .0) (s .pre .1), omega arith)
 
 same-length : tie.Need-same-length
 same-length c = search needs

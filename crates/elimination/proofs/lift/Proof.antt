@@ -4,10 +4,10 @@ use mathlib.Core.Bool.{true, false≢true}
 use Prim.Native.Nat.{ℕ, _*_, _<_}
 use native.Mathlib.Omega.{arith}
 use borrow.Author.Needs.{needs}
-use lib.ListN.{drop}
+use lib.ListN.{length, drop}
 use Rattle.bits.specs.Bits.{bytesFor}
 use Rattle.elimination.specs.Elimination.{toFront, firstRow}
-use Rattle.elimination.proofs.Flat.{rows-in, row-size, front-rest}
+use Rattle.elimination.proofs.Flat.{rows-in, row-room, row-size, front-rest}
 use Rattle.elimination.proofs.Pivots.{pivot-le, lift-none, lift-some}
 use Rattle.elimination.proofs.lift.Statement.{statement}
 use Rattle.elimination.proofs.lift.Tie as tie
@@ -32,17 +32,16 @@ mul-to-front c =
     let a = c .before .before .before .before .before .before .args in
     let p : ℕ = c .before .before .before .find-pivot .result in
     let less : p < a .rows = omega (arith, pivot-le (a .rows) (a .n) (a .j) (a .w .now)) in
-    let e : p * c .before .bytes-for .result ≡ p * bytesFor (a .n) = ap (_*_ p) (c .before .bytes-for .ensures) in
-    omega (arith, rows-in p (a .rows) (bytesFor (a .n)) less)
+    omega (arith, row-room p (a .rows) (a .n) (c .before .bytes-for .result) (length (a .w .now)) (c .before .bytes-for .ensures) less (omega arith))
 
 to-front-requires : tie.Need-to-front-requires
 to-front-requires c κs =
     let a = c .before .before .before .before .before .before .args in
     let p : ℕ = c .before .before .before .find-pivot .result in
-    let less : p < a .rows = omega (arith, pivot-le (a .rows) (a .n) (a .j) (a .w .now)) in
-    let e : p * c .before .bytes-for .result ≡ p * bytesFor (a .n) = ap (_*_ p) (c .before .bytes-for .ensures) in
-    let f = rows-in p (a .rows) (bytesFor (a .n)) less in
-    (omega arith, omega (arith, row-size (a .n) (omega arith)))
+    let less : p < a .rows = omega (arith, pivot-le (a .rows) (a .n) (a .j) (a .w .now)) in (
+      row-room p (a .rows) (a .n) (c .before .bytes-for .result) (length (a .w .now)) (c .before .bytes-for .ensures) less (omega arith),
+      omega (arith, row-size (a .n) (omega arith)),
+    )
 
 same-length-2 : tie.Need-same-length-2
 same-length-2 c = search needs
