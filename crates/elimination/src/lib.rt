@@ -4,10 +4,31 @@ ghost use mathlib.Core.Bool.{true, false};
 ghost use mathlib.Core.List.{_++_, map};
 ghost use Prim.Native.Nat.{_+_, _-_, _*_, _≤_, _<_};
 ghost use lib.ListN.{length, take, drop};
-ghost use Rattle.bits.specs.Bits.{bytesFor, unpack};
-ghost use Rattle.code.specs.PublicKey.{clear, findPivot, withPivot};
+ghost use Rattle.bits.specs.Bits.{from, bytesFor, unpack};
+ghost use Rattle.poly.specs.Polynomials.{same};
+ghost use Rattle.code.specs.PublicKey.{clear, findPivot, withPivot, echelon};
 ghost use Rattle.code.specs.Lock.{rowOf, rowsOf};
-ghost use Rattle.elimination.specs.Elimination.{movedUp, toFront, pivotRow, clearFront, firstRow, stage, next};
+ghost use Rattle.elimination.specs.Elimination.{movedUp, toFront, pivotRow, clearFront, firstRow, stage, next, fits, eliminates};
+
+// Gauss-Jordan elimination of the first `rows` rows of n bits: every row i gets a one in column i, and the others a zero there.
+// False where the first `rows` columns are dependent or the sizes do not fit.
+pub fn eliminate(work: &mut [u8], rows: usize, n: usize) -> bool
+    ensures { λ r. ⌜ r ≡ eliminates rows n (now (work .entry)) ⌝ }
+    ensures { λ r. ⌜ (r ≡ true → rowsOf rows n (now (work .exit)) ≡ echelon n (rowsOf rows n (now (work .entry))) .done) ⌝ }
+    ensures { λ _. ⌜ drop (rows * bytesFor n) (now (work .exit)) ≡ drop (rows * bytesFor n) (now (work .entry)) ⌝ }
+    ensures { λ _. ⌜ (fits rows n (now (work .entry)) ≡ false → now (work .exit) ≡ now (work .entry)) ⌝ }
+{
+    if n < rows {
+        return false;
+    }
+    if 8192 < n {
+        return false;
+    }
+    if work.len() < rows * bits::bytes_for(n) {
+        return false;
+    }
+    reduce(work, rows, n)
+}
 
 // The first n bytes of src in the place of those of dst.
 fn copy(dst: &mut [u8], src: &[u8], n: usize)
@@ -139,5 +160,22 @@ fn column(w: &mut [u8], rows: usize, n: usize, i: usize) -> bool
         return false;
     }
     clear_others(w, rows, n, i);
+    true
+}
+
+// The first `rows` columns, one after the other; false at the first without a pivot.
+fn reduce(w: &mut [u8], rows: usize, n: usize) -> bool
+    requires { ⌜ (rows * bytesFor n ≤ length (now w)) × (rows ≤ n) × (n ≤ 8192) ⌝ }
+    ensures { λ r. ⌜ r ≡ same (echelon n (rowsOf rows n (now (w .entry))) .pivots) (from 0 rows) ⌝ }
+    ensures { λ r. ⌜ (r ≡ true → rowsOf rows n (now (w .exit)) ≡ echelon n (rowsOf rows n (now (w .entry))) .done) ⌝ }
+    ensures { λ _. ⌜ drop (rows * bytesFor n) (now (w .exit)) ≡ drop (rows * bytesFor n) (now (w .entry)) ⌝ }
+{
+    let mut i = 0;
+    while i < rows {
+        if !column(w, rows, n, i) {
+            return false;
+        }
+        i += 1;
+    }
     true
 }
