@@ -1,16 +1,14 @@
--- Rows of n bits in a list of bytes: of a list in two parts, of its front, and of a row with another added. Assumes nothing.
+-- Rows of n bits in a list of bytes: one by one, in a list's front, in a part that is lent, copied and moved. Assumes nothing.
 use mathlib.Core.Path.{_≡_, refl, sym, ap, ap₂, _∙_}
 use mathlib.Core.List.{List, [], _∷_, _++_, map, map-append, append-nil, append-assoc}
 use borrow.Rule.Slice.PartMut.{putMid}
 use Prim.Native.Nat.{ℕ, zero, suc, _+_, _-_, _*_, _/_, _%_, _^_, _≤_, _<_}
-use native.Mathlib.Nat.{zero-add, zero-mul, one-mul, suc-mul, add-mul, add-zero, add-suc, add-comm, le-trans, le-of-eq, mul-le-mul-right}
+use native.Mathlib.Nat.{zero-add, zero-mul, one-mul, suc-mul, add-mul, add-suc, add-comm, le-trans, le-of-eq, mul-le-mul-right}
 use native.Mathlib.Numerals.{add-one}
 use native.Mathlib.Omega.{arith}
 use lib.ListN.{length, getD, take, drop, set, length-map, length-drop, length-append, List·getD-append, take-append-drop, drop-of-length-le}
 use lib.Seq.{getD-take, drop-drop, drop-append-le, drop-at, take-at, take-all, drop-cons, set-at, set-split, take-set-le, length-take-le, append-snoc, take-suc}
-use Rattle.bits.specs.Xor.{_⊕_}
-use Rattle.bits.specs.Bits.{from, bytesFor, bitAt, unpack, eachWith, xorRow}
-use Rattle.bits.proofs.Xor.{Digit, off, on}
+use Rattle.bits.specs.Bits.{from, bytesFor, bitAt, unpack}
 use Rattle.bits.proofs.Lists.{length-from, from-add}
 use Rattle.bits.proofs.Pack.{unpack-ext, byte-below}
 use Rattle.code.specs.PublicKey.{Matrix}
@@ -26,6 +24,9 @@ row-room r rows n b len e h l = rw e (le-trans (rows-in r rows (bytesFor n) h) l
 
 pub next-row : (r b : ℕ) → r * b + b ≡ (r + 1) * b
 next-row r b = sym (ap (λ (x : ℕ). x * b) (add-one r) ∙ suc-mul r b)
+
+pub rows-split : (i rows b : ℕ) → i ≤ rows → i * b + (rows - i) * b ≡ rows * b
+rows-split i rows b h = let e : i + (rows - i) ≡ rows = omega arith in sym (add-mul i (rows - i) b) ∙ ap (λ (k : ℕ). k * b) e
 
 -- a row of at most 8192 bits
 pub row-size : (n : ℕ) → n ≤ 8192 → bytesFor n ≤ 1024
@@ -92,6 +93,10 @@ rows-cons k n w =
 
 pub rows-snoc : (k n : ℕ) (w : List ℕ) → rowsOf (k + 1) n w ≡ rowsOf k n w ++ (unpack n (drop (k * bytesFor n) w) ∷ [])
 rows-snoc k n w = rows-add k 1 n w ∙ ap (λ (xs : Matrix). rowsOf k n w ++ xs) (rows-one n (drop (k * bytesFor n) w))
+
+pub length-rows : (k n : ℕ) (w : List ℕ) → length (rowsOf k n w) ≡ k
+unfolding rowsOf
+length-rows k n w = length-map (from 0 k) (λ r. unpack n (rowOf n w r)) ∙ length-from 0 k
 
 -- rows that lie in the front of a list
 pub rows-append : (k n : ℕ) (a c : List ℕ) → k * bytesFor n ≤ length a → rowsOf k n (a ++ c) ≡ rowsOf k n a
@@ -165,10 +170,6 @@ front-rest k b m w h l =
     ∙ ap (drop (m - (k + b))) (drop-at (x ++ y) z (k + b) f)
     ∙ drop-drop (m - (k + b)) (k + b) w
     ∙ ap (λ (i : ℕ). drop i w) e
-
-pub length-rows : (k n : ℕ) (w : List ℕ) → length (rowsOf k n w) ≡ k
-unfolding rowsOf
-length-rows k n w = length-map (from 0 k) (λ r. unpack n (rowOf n w r)) ∙ length-from 0 k
 
 -- row i of a workspace: its length, and the row copied to the front of another list
 module _ (i rows n : ℕ) (w : List ℕ) (within : rows * bytesFor n ≤ length w) (less : i < rows) where

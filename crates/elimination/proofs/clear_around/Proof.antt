@@ -10,8 +10,8 @@ use Rattle.bits.specs.Bits.{bytesFor, unpack}
 use Rattle.code.specs.PublicKey.{clear}
 use Rattle.code.specs.Lock.{rowsOf}
 use Rattle.elimination.specs.Elimination.{stage}
-use Rattle.elimination.proofs.Flat.{rows-in, next-row, length-row, part-all, part-back}
-use Rattle.elimination.proofs.Stages.{around-stage, around-past, rows-split}
+use Rattle.elimination.proofs.Flat.{rows-in, next-row, rows-split, length-row, part-all, part-back}
+use Rattle.elimination.proofs.Stages.{around-stage, around-past}
 use Rattle.elimination.proofs.clear_around.Statement.{statement}
 use Rattle.elimination.proofs.clear_around.Tie as tie
 
