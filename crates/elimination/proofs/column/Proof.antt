@@ -2,7 +2,7 @@
 use mathlib.Core.Path.{_≡_, ap, _∙_}
 use mathlib.Core.Bool.{Bool, true, false}
 use mathlib.Core.List.{List}
-use Prim.Native.Nat.{ℕ, _-_, _*_, _≤_}
+use Prim.Native.Nat.{ℕ, _-_, _*_}
 use native.Mathlib.Omega.{arith}
 use borrow.Author.Needs.{needs}
 use borrow.Author.Tests.{not-true, not-false}
@@ -28,9 +28,7 @@ sub-lift c =
     omega (arith, row-room (a .i) (a .rows) (a .n) (c .bytes-for .result) (length (a .w .now)) (c .bytes-for .ensures) (omega arith) (omega arith))
 
 part-lift-start : tie.Need-part-lift-start
-part-lift-start c =
-    let e : c .before .before .args .i * c .bytes-for .result ≤ length (c .before .before .args .w .now) = sub-lift c in
-    search needs
+part-lift-start c = let e = sub-lift c in search needs
 
 part-lift-end : tie.Need-part-lift-end
 part-lift-end c = search needs
