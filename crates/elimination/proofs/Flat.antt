@@ -15,7 +15,7 @@ use Rattle.code.specs.PublicKey.{Matrix}
 use Rattle.code.specs.Lock.{rowOf, rowsOf}
 use Rattle.elimination.specs.Elimination.{movedUp, toFront}
 
--- row r of more rows lies within them
+-- indices of rows of b bytes: row r of more rows lies within them
 pub rows-in : (r rows b : ℕ) → r < rows → r * b + b ≤ rows * b
 rows-in r rows b h = le-trans (le-of-eq (sym (suc-mul r b))) (mul-le-mul-right b h)
 
@@ -74,17 +74,6 @@ rows-one n w =
     ap (λ (r : List ℕ). r ∷ [])
     (unpack-take n (bytesFor n) (drop (0 * bytesFor n) w) (omega arith) ∙ ap (λ (k : ℕ). unpack n (drop k w)) (zero-mul (bytesFor n)))
 
--- one byte more, copied
-pub copied-next : (i : ℕ) (s d : List ℕ) → i < length s → i < length d
-    → set (take i s ++ drop i d) i (getD s i 0) ≡ take (i + 1) s ++ drop (i + 1) d
-copied-next i s d h k =
-    let rest : List ℕ = drop (suc i) d in
-    ap (λ (r : List ℕ). set (take i s ++ r) i (getD s i 0)) (drop-cons d i 0 k)
-    ∙ set-at (take i s) (getD d i 0) rest (getD s i 0) i (length-take-le i s (omega arith))
-    ∙ sym (append-snoc (take i s) (getD s i 0) rest)
-    ∙ ap (λ (r : List ℕ). r ++ rest) (sym (take-suc s i 0 h))
-    ∙ ap (λ (j : ℕ). take j s ++ drop j d) (sym (add-one i))
-
 pub rows-cons : (k n : ℕ) (w : List ℕ) → rowsOf (suc k) n w ≡ unpack n w ∷ rowsOf k n (drop (bytesFor n) w)
 rows-cons k n w =
     let e : suc k ≡ 1 + k = omega arith in
@@ -124,6 +113,17 @@ pub part-back : (at : ℕ) (l y : List ℕ) → putMid at (length l - at) l y �
 part-back at l y =
     ap (λ (t : List ℕ). take at l ++ (y ++ t)) (drop-of-length-le (drop at l) {i = length l - at} (omega (arith, length-drop at l)))
     ∙ ap (λ (t : List ℕ). take at l ++ t) (append-nil y)
+
+-- one byte more, copied
+pub copied-next : (i : ℕ) (s d : List ℕ) → i < length s → i < length d
+    → set (take i s ++ drop i d) i (getD s i 0) ≡ take (i + 1) s ++ drop (i + 1) d
+copied-next i s d h k =
+    let rest : List ℕ = drop (suc i) d in
+    ap (λ (r : List ℕ). set (take i s ++ r) i (getD s i 0)) (drop-cons d i 0 k)
+    ∙ set-at (take i s) (getD d i 0) rest (getD s i 0) i (length-take-le i s (omega arith))
+    ∙ sym (append-snoc (take i s) (getD s i 0) rest)
+    ∙ ap (λ (r : List ℕ). r ++ rest) (sym (take-suc s i 0 h))
+    ∙ ap (λ (j : ℕ). take j s ++ drop j d) (sym (add-one i))
 
 -- a byte moved up
 pub moved-next : (i b : ℕ) (w : List ℕ) → i + 1 + b ≤ length w → movedUp i b (set w (i + b) (getD w i 0)) ≡ movedUp (i + 1) b w
