@@ -6,3 +6,4 @@ pub mod Identity
 pub mod LockLaws
 pub mod Parts
 pub mod Unique
+pub mod Dependence
