@@ -8,7 +8,7 @@ use native.Mathlib.Omega.{arith}
 use lib.Arith.{lt-one}
 use lib.Count.{ones-step}
 use lib.Count as count
-use lib.ListN.{length, getD, take}
+use lib.ListN.{length, getD, take, replicate}
 use lib.Seq.{take-suc, take-length}
 use Rattle.bits.specs.Bits.{Bytes, Row, end, off, on, from, bitAt, unpack, pack, ones, weight, wellFormed}
 use Rattle.bits.proofs.Lists.{map-from, map-append}
@@ -25,6 +25,11 @@ unfolding ones
 ones-le end = le-refl 0
 ones-le (off r) = let h = ones-le r in omega arith
 ones-le (on r) = let h = ones-le r in omega arith
+
+pub ones-zeros : (n : ℕ) → ones (replicate n 0) ≡ 0
+unfolding ones
+ones-zeros zero = refl
+ones-zeros (suc n) = zero-add (ones (replicate n 0)) ∙ ones-zeros n
 
 ones-none : (l : List ℕ) → ones (map (λ i. 0) l) ≡ 0
 unfolding ones

@@ -26,7 +26,7 @@ use Rattle.code.specs.Lock.{locked}
 use Rattle.code.proofs.Kernel.{Rows, Kernel, Bits, Taken, here, there, taken, rows-taken, step-bits, echelon-kernel, rows-parityRows, length-parityRows}
 use Rattle.code.proofs.Kernel as kernel
 use Rattle.code.proofs.Parity.{code-kernel}
-use Rattle.code.proofs.PublicKey.{public-echelon, public-length, echelon-count}
+use Rattle.code.proofs.PublicKey.{public-echelon, echelon-count}
 
 -- a cleared row, by columns
 scaled-at : (x : ℕ) (p : List ℕ) (c : ℕ) → getD (map (_*_ x) p) c 0 ≡ x * getD p c 0
@@ -61,11 +61,11 @@ pivot-one j (r ∷ rs) p others h = go (eqb (getD r j 0) 1) refl (findPivot j rs
     go false e (pivot q o) f h = let a : q ≡ p = cc in subst (λ (x : List ℕ). getD x j 0 ≡ 1) a (f q o refl)
 
 -- the row has 0 in each of the columns
-data Zeros (r : List ℕ) : List ℕ → Type 0 where
+pub data Zeros (r : List ℕ) : List ℕ → Type 0 where
   none : Zeros r []
   col : {c : ℕ} {cs : List ℕ} → getD r c 0 ≡ 0 → Zeros r cs → Zeros r (c ∷ cs)
 
-zeros-end : {r cs : List ℕ} (j : ℕ) → Zeros r cs → getD r j 0 ≡ 0 → Zeros r (cs ++ (j ∷ []))
+pub zeros-end : {r cs : List ℕ} (j : ℕ) → Zeros r cs → getD r j 0 ≡ 0 → Zeros r (cs ++ (j ∷ []))
 zeros-end j none z = col z none
 zeros-end j (col y zs) z = col y (zeros-end j zs z)
 
@@ -78,7 +78,7 @@ zeros-clear : {n : ℕ} {p r cs : List ℕ} (j : ℕ) → Row n p → Row n r �
 zeros-clear j a b none none = none
 zeros-clear j a b (col y ys) (col {c = c} z zs) = col (clear-keeps j a b c y ∙ z) (zeros-clear j a b ys zs)
 
-data EachZeros (cs : List ℕ) : Matrix → Type 0 where
+pub data EachZeros (cs : List ℕ) : Matrix → Type 0 where
   none : EachZeros cs []
   each : {r : List ℕ} {rs : Matrix} → Zeros r cs → EachZeros cs rs → EachZeros cs (r ∷ rs)
 
@@ -93,7 +93,7 @@ rest-clear j a (kernel.row b m) o y (each z zs) =
     each (zeros-end j (zeros-clear j a b y z) (clear-own j a b o)) (rest-clear j a m o y zs)
 
 -- the row of each column: 0 in the columns before, 1 in its own, 0 in those behind
-data Units : List ℕ → List ℕ → Matrix → Type 0 where
+pub data Units : List ℕ → List ℕ → Matrix → Type 0 where
   none : {pre : List ℕ} → Units pre [] []
   unit : {pre cs d : List ℕ} {c : ℕ} {ds : Matrix} → Zeros d pre → getD d c 0 ≡ 1 → Zeros d cs
       → Units (pre ++ (c ∷ [])) cs ds → Units pre (c ∷ cs) (d ∷ ds)
@@ -106,12 +106,12 @@ units-step j a (kernel.row b m) o x (col {c = c} y ys) (unit z w zs us) =
     (units-step j a m o (zeros-end c x y) ys us)
 
 -- the rows with a pivot are the identity in the pivots' columns, and the others are 0 there
-record Reduced (n : ℕ) (e : Echelon) : Type 0 where
-  bits : Bits n e
-  units : Units [] (e .pivots) (e .done)
-  rest : EachZeros (e .pivots) (e .rest)
+pub record Reduced (n : ℕ) (e : Echelon) : Type 0 where
+  pub bits : Bits n e
+  pub units : Units [] (e .pivots) (e .done)
+  pub rest : EachZeros (e .pivots) (e .rest)
 
-step-reduced : {n : ℕ} (j : ℕ) (e : Echelon) (q : Pivot) → findPivot j (e .rest) ≡ q → Reduced n e → Reduced n (withPivot j e q)
+pub step-reduced : {n : ℕ} (j : ℕ) (e : Echelon) (q : Pivot) → findPivot j (e .rest) ≡ q → Reduced n e → Reduced n (withPivot j e q)
 unfolding withPivot
 step-reduced j e missing h b = b
 step-reduced j e (pivot p others) h b =
@@ -134,24 +134,26 @@ no-zeros : (rs : Matrix) → EachZeros [] rs
 no-zeros [] = none
 no-zeros (r ∷ rs) = each none (no-zeros rs)
 
+pub start-reduced : {n : ℕ} {rows : Matrix} → Rows n rows → Reduced n (record { done = []; rest = rows; pivots = [] })
+start-reduced {rows} m = record { bits = record { done = kernel.none; rest = m }; units = none; rest = no-zeros rows }
+
 echelon-reduced : {n : ℕ} {rows : Matrix} (i : ℕ) → Rows n rows → Reduced n (echelon i rows)
 unfolding echelon
-echelon-reduced {n} {rows} i m =
-    columns-reduced i 0 _ (record { bits = record { done = kernel.none; rest = m }; units = none; rest = no-zeros rows })
+echelon-reduced i m = columns-reduced i 0 _ (start-reduced m)
 
 -- the product of a row that is 0, or a unit, in its first m columns
 dot-nil : (d : List ℕ) → dot d [] ≡ 0
 unfolding dot
 dot-nil d = dot-comm d []
 
-dot-zeros : (m : ℕ) (d e : List ℕ) → ((j : ℕ) → j < m → getD d j 0 ≡ 0) → dot d e ≡ dot (drop m d) (drop m e)
+pub dot-behind : (m : ℕ) (d e : List ℕ) → ((j : ℕ) → j < m → getD d j 0 ≡ 0) → dot d e ≡ dot (drop m d) (drop m e)
 unfolding dot
-dot-zeros zero d e h = refl
-dot-zeros (suc m) [] e h = refl
-dot-zeros (suc m) (x ∷ d) [] h = sym (dot-nil (drop m d))
-dot-zeros (suc m) (x ∷ d) (y ∷ e) h =
+dot-behind zero d e h = refl
+dot-behind (suc m) [] e h = refl
+dot-behind (suc m) (x ∷ d) [] h = sym (dot-nil (drop m d))
+dot-behind (suc m) (x ∷ d) (y ∷ e) h =
     ap (λ (z : ℕ). z * y ⊕ dot d e) (h 0 (zero-lt-suc m)) ∙ ap (λ (z : ℕ). z ⊕ dot d e) (zero-mul y) ∙ zero-xor (dot d e)
-    ∙ dot-zeros m d e (λ j l. h (suc j) (suc-le-suc l))
+    ∙ dot-behind m d e (λ j l. h (suc j) (suc-le-suc l))
 
 dot-unit : (m i : ℕ) (d e : List ℕ) → i < m → getD d i 0 ≡ 1 → ((j : ℕ) → j < m → j ≢ i → getD d j 0 ≡ 0)
     → dot d e ≡ getD e i 0 ⊕ dot (drop m d) (drop m e)
@@ -160,11 +162,14 @@ dot-unit zero i d e l o h = absurd (not-suc-le-zero l)
 dot-unit (suc m) i [] e l o h = absurd (omega arith)
 dot-unit (suc m) i (x ∷ d) [] l o h = sym (zero-xor (dot (drop m d) []) ∙ dot-nil (drop m d))
 dot-unit (suc m) zero (x ∷ d) (y ∷ e) l o h =
-    ap₂ _⊕_ (ap (λ (z : ℕ). z * y) o ∙ one-mul y) (dot-zeros m d e (λ j l. h (suc j) (suc-le-suc l) (suc-ne-zero j)))
+    ap₂ _⊕_ (ap (λ (z : ℕ). z * y) o ∙ one-mul y) (dot-behind m d e (λ j l. h (suc j) (suc-le-suc l) (suc-ne-zero j)))
 dot-unit (suc m) (suc i) (x ∷ d) (y ∷ e) l o h =
     ap (λ (z : ℕ). z * y ⊕ dot d e) (h 0 (zero-lt-suc m) (λ z. suc-ne-zero i (sym z)))
     ∙ ap (λ (z : ℕ). z ⊕ dot d e) (zero-mul y) ∙ zero-xor (dot d e)
     ∙ dot-unit m i d e (le-of-suc-le-suc l) o (λ j l n. h (suc j) (suc-le-suc l) (λ z. n (suc-inj z)))
+
+pub zeros-from : {d : List ℕ} (k l : ℕ) → Zeros d (from k l) → (i : ℕ) → i < l → getD d (k + i) 0 ≡ 0
+zeros-from {d} k l z i h = ap (λ (c : ℕ). getD d c 0) (sym (from-at k l i 0 h)) ∙ zeros-at z i 0 (rw length-from h)
 
 -- the row of column i of the first m
 unit-dot : (m i l : ℕ) (d e : List ℕ) → i + suc l ≡ m → Zeros d (from 0 i) → getD d i 0 ≡ 1 → Zeros d (from (suc i) l)
@@ -172,17 +177,15 @@ unit-dot : (m i l : ℕ) (d e : List ℕ) → i + suc l ≡ m → Zeros d (from 
 unit-dot m i l d e s z o w = dot-unit m i d e (omega arith) o (λ j h n. go j h n (decLt j i))
   where
     go : (j : ℕ) → j < m → j ≢ i → Dec (j < i) → getD d j 0 ≡ 0
-    go j h n (yes b) =
-        ap (λ (c : ℕ). getD d c 0) (sym (from-at 0 i j 0 b ∙ zero-add j)) ∙ zeros-at z j 0 (rw length-from b)
+    go j h n (yes b) = ap (λ (c : ℕ). getD d c 0) (sym (zero-add j)) ∙ zeros-from 0 i z j b
     go j h n (no b) =
-        let q : j - suc i < l = omega arith in
         let r : suc i + (j - suc i) ≡ j = omega arith in
-        ap (λ (c : ℕ). getD d c 0) (sym (from-at (suc i) l (j - suc i) 0 q ∙ r)) ∙ zeros-at w (j - suc i) 0 (rw length-from q)
+        ap (λ (c : ℕ). getD d c 0) (sym r) ∙ zeros-from (suc i) l w (j - suc i) (omega arith)
 
 next : (i q : ℕ) → i + suc q ≡ suc i + q
 next i q = omega arith
 
-from-end : (i : ℕ) → from 0 i ++ (i ∷ []) ≡ from 0 (suc i)
+pub from-end : (i : ℕ) → from 0 i ++ (i ∷ []) ≡ from 0 (suc i)
 unfolding from
 from-end i =
     let e : i + 1 ≡ suc i = omega arith in
@@ -206,17 +209,31 @@ zip-units m i (suc l) (x ∷ b) e s f g (unit {pre = pre} {cs = cs} {d = d} {c =
     (zip-units m (suc i) l b e u (ap₂ (λ (r : List ℕ) (j : ℕ). r ++ (j ∷ [])) f a ∙ from-end i) t us (suc-inj h)
     (λ q n. k (suc q) (suc-le-suc n) ∙ ap (λ (j : ℕ). getD e j 0) (next i q)))
 
+-- there are as many rows as columns
+units-length : {pre cs : List ℕ} {ds : Matrix} → Units pre cs ds → length ds ≡ length cs
+units-length none = refl
+units-length (unit z o w us) = ap suc (units-length us)
+
+pub reduced-length : {n : ℕ} {f : Echelon} (m : ℕ) → Reduced n f → f .pivots ≡ from 0 m → length (f .done) ≡ m
+reduced-length m b p = units-length (b .units) ∙ ap length p ∙ length-from 0 m
+
+-- where the first m columns have the pivots, [I|T]·e, with T the columns behind them, is the product of the rows with e
+pub reduced-product : {n : ℕ} {f : Echelon} (m : ℕ) → Reduced n f → f .pivots ≡ from 0 m → (e : List ℕ) → m ≤ length e
+    → locked (map (drop m) (f .done)) e ≡ map (λ r. dot r e) (f .done)
+unfolding locked from
+reduced-product {f = f} m b p e l =
+    let rows : Matrix = map (drop m) (f .done) in
+    ap (λ (i : ℕ). zipWith (λ b r. b ⊕ dot r (drop i e)) (take i e) rows) (length-map (f .done) (drop m) ∙ reduced-length m b p)
+    ∙ zip-units m 0 m (take m e) e (zero-add m) refl p (b .units)
+    (length-take m e ∙ min-eq-left l) (λ q n. getD-take m e q 0 n ∙ ap (λ (i : ℕ). getD e i 0) (sym (zero-add q)))
+
 -- [I|T]·e is the product of the echelon form's rows with e
 pub locked-product : (k : Key) (rows : Matrix) → publicKey k ≡ some rows → length (k .support) ≡ k .n → (e : List ℕ) → k .m * k .t ≤ length e
     → locked rows e ≡ map (λ r. dot r e) (echelon (k .n) (parityRows k) .done)
-unfolding locked from
 locked-product k rows p h e l =
-    let mt : ℕ = k .m * k .t in
     let f = public-echelon k rows p in
-    ap (λ (i : ℕ). zipWith (λ b r. b ⊕ dot r (drop i e)) (take i e) rows) (public-length k rows p)
-    ∙ ap (λ (rs : Matrix). zipWith (λ b r. b ⊕ dot r (drop mt e)) (take mt e) rs) (f .columns)
-    ∙ zip-units mt 0 mt (take mt e) e (zero-add mt) refl (f .pivots) (echelon-reduced (k .n) (rows-parityRows k h) .units)
-    (length-take mt e ∙ min-eq-left l) (λ q n. getD-take mt e q 0 n ∙ ap (λ (i : ℕ). getD e i 0) (sym (zero-add q)))
+    ap (λ (rs : Matrix). locked rs e) (f .columns)
+    ∙ reduced-product (k .m * k .t) (echelon-reduced (k .n) (rows-parityRows k h)) (f .pivots) e l
 
 -- no row is lost: where the pivots are as many as the rows, none is left
 taken-length : {p : List ℕ} {rs others : Matrix} → Taken rs p others → length rs ≡ suc (length others)
@@ -226,7 +243,7 @@ taken-length (there t) = ap suc (taken-length t)
 one-more : (a b c : ℕ) → b ≡ suc c → a + 1 + c ≡ a + b
 one-more a b c h = omega arith
 
-step-total : (j : ℕ) (e : Echelon) (q : Pivot) → findPivot j (e .rest) ≡ q
+pub step-total : (j : ℕ) (e : Echelon) (q : Pivot) → findPivot j (e .rest) ≡ q
     → length (withPivot j e q .done) + length (withPivot j e q .rest) ≡ length (e .done) + length (e .rest)
 unfolding withPivot
 step-total j e missing h = refl
@@ -244,12 +261,19 @@ echelon-total : (i : ℕ) (rows : Matrix) → length (echelon i rows .done) + le
 unfolding echelon
 echelon-total i rows = columns-total i 0 _ ∙ zero-add (length rows)
 
+-- where no row is left, more columns change nothing
+pub columns-none : (k j : ℕ) (e : Echelon) → e .rest ≡ [] → columns k j e ≡ e
+unfolding columns findPivot withPivot
+columns-none zero j e h = refl
+columns-none (suc k) j e h =
+    ap (λ (r : Matrix). columns k (suc j) (withPivot j e (findPivot j r))) h ∙ columns-none k (suc j) e h
+
 -- the kernel, by the list of products
 kernel-zeros : {c : List ℕ} {rs : Matrix} → Kernel c rs → map (λ r. dot r c) rs ≡ replicate (length rs) 0
 kernel-zeros kernel.none = refl
 kernel-zeros (kernel.zero-row z k) = cons-eq z (kernel-zeros k)
 
-zeros-kernel : (c : List ℕ) (rs : Matrix) → map (λ r. dot r c) rs ≡ replicate (length rs) 0 → Kernel c rs
+pub zeros-kernel : (c : List ℕ) (rs : Matrix) → map (λ r. dot r c) rs ≡ replicate (length rs) 0 → Kernel c rs
 zeros-kernel c [] h = kernel.none
 zeros-kernel c (r ∷ rs) h =
     let z : dot r c ≡ 0 = cc in

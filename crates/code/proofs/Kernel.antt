@@ -153,7 +153,7 @@ step-forth j e (pivot p others) h b k =
       rest = clear-forth j (m .0) (m .1) (f .0) (f .1);
     }
 
-step-back : {n : ℕ} {c : List ℕ} (j : ℕ) (e : Echelon) (q : Pivot) → findPivot j (e .rest) ≡ q → Bits n e → InKernel c (withPivot j e q) → InKernel c e
+pub step-back : {n : ℕ} {c : List ℕ} (j : ℕ) (e : Echelon) (q : Pivot) → findPivot j (e .rest) ≡ q → Bits n e → InKernel c (withPivot j e q) → InKernel c e
 unfolding withPivot
 step-back j e missing h b k = k
 step-back j e (pivot p others) h b k =

@@ -4,3 +4,6 @@ pub mod Parity
 pub mod PublicKey
 pub mod Identity
 pub mod LockLaws
+pub mod Parts
+pub mod Unique
+pub mod Dependence

@@ -19,7 +19,7 @@ use Rattle.code.proofs.Kernel.{Rows, echelon-bits, rows-parityRows, row
 use Rattle.code.proofs.Kernel as kernel
 
 -- the rows without their first d bits
-rows-drop : {n : ℕ} {rs : Matrix} (d : ℕ) → Rows n rs → Rows (n - d) (map (drop d) rs)
+pub rows-drop : {n : ℕ} {rs : Matrix} (d : ℕ) → Rows n rs → Rows (n - d) (map (drop d) rs)
 rows-drop d kernel.none = kernel.none
 rows-drop {n} d (kernel.row {r = r} a m) =
     let l : length (drop d r) ≡ n - d = length-drop d r ∙ ap (λ (i : ℕ). i - d) (row-length a) in

@@ -2,22 +2,20 @@
 -- there is at most one. A capsule filled with zeros and a pattern that locks to it differ by a code word. Assumes nothing.
 use mathlib.Core.Path.{_≡_, refl, sym, ap, ap₂, _∙_, subst}
 use mathlib.Core.Bool.{Bool, true, false, cond, _&&_}
-use mathlib.Core.List.{List, [], _∷_, _++_, map, zipWith}
+use mathlib.Core.List.{List, [], _∷_, _++_, map}
 use mathlib.Core.Option.{Option, none, some}
 use Prim.Native.Nat.{ℕ, _+_, _-_, _*_, _≤_}
-use native.Mathlib.Nat.{suc-inj, suc-ne-zero}
 use native.Mathlib.Omega.{arith}
 use lib.Dec.{eqb}
 use lib.ListN.{length, drop, replicate, length-map}
-use lib.Seq.{take-at, drop-at}
 use borrow.Author.Tests.{eqb-true, eq-eqb}
 use Rattle.bits.specs.Xor.{_⊕_}
 use Rattle.bits.specs.Bits.{Row, ones, xorRow, dot}
-use Rattle.bits.proofs.Xor.{xor-self, xor-eq, xor-zero}
+use Rattle.bits.proofs.Xor.{xor-self, xor-eq}
 use Rattle.bits.proofs.Lists.{cons-eq, and-left, and-right}
 use Rattle.bits.proofs.Pack.{row-length, row-zeros, row-append}
 use Rattle.bits.proofs.Rows.{row-xorRow}
-use Rattle.bits.proofs.Product.{dot-comm, dot-zeros, dot-xorRow}
+use Rattle.bits.proofs.Product.{dot-comm, dot-xorRow}
 use Rattle.poly.specs.Polynomials.{same}
 use Rattle.poly.proofs.Laws.{same-eq, eq-same}
 use Rattle.key.specs.Keys.{Key}
@@ -27,6 +25,7 @@ use Rattle.code.specs.PublicKey.{Matrix, echelon, publicKey}
 use Rattle.code.specs.Lock.{locked}
 use Rattle.code.proofs.PublicKey.{public-echelon, public-length}
 use Rattle.code.proofs.Identity.{locked-product, locked-code}
+use Rattle.code.proofs.Parts.{locked-filled}
 use Rattle.decoder.specs.Search.{firstRow}
 use Rattle.decoder.specs.Reading.{reading, filled, exactly, opening, opens}
 use Rattle.decoder.proofs.Search.{search-only, search-nothing}
@@ -94,20 +93,6 @@ row-filled {l} {s} n r h =
     let e : l + (n - length s) ≡ n = omega (arith, row-length r) in
     subst (λ (i : ℕ). Row i (s ++ replicate (n - length s) 0)) e (row-append r (row-zeros (n - length s)))
 
--- [I|T] gives the first bits back where the others are 0
-zip-zeros : (n : ℕ) (b : List ℕ) (rows : Matrix) → length b ≡ length rows → zipWith (λ x r. x ⊕ dot r (replicate n 0)) b rows ≡ b
-unfolding zipWith
-zip-zeros n [] [] h = refl
-zip-zeros n [] (r ∷ rows) h = refl
-zip-zeros n (x ∷ b) [] h = absurd (suc-ne-zero _ h)
-zip-zeros n (x ∷ b) (r ∷ rows) h = cons-eq (ap (_⊕_ x) (dot-zeros r n) ∙ xor-zero x) (zip-zeros n b rows (suc-inj h))
-
-locked-filled : (n : ℕ) (s : List ℕ) (rows : Matrix) → length s ≡ length rows → locked rows (filled n s) ≡ s
-unfolding locked filled
-locked-filled n s rows h =
-    ap₂ (λ (x y : List ℕ). zipWith (λ b r. b ⊕ dot r y) x rows) (take-at s _ (length rows) h) (drop-at s _ (length rows) h)
-    ∙ zip-zeros (n - length s) s rows h
-
 exactly-some : (t : ℕ) (o : Option (List ℕ)) (e : List ℕ) → exactly t o ≡ some e → (o ≡ some e) × (ones e ≡ t)
 unfolding exactly
 exactly-some t none e h = let z : _≡_ {A = ℕ} 0 1 = cc in absurd (omega arith)
@@ -126,7 +111,8 @@ module _ (k : Key) (A : Accepted k) (rows : Matrix) (p : publicKey k ≡ some ro
   fits = row-filled (k .n) r (small k A rows p)
 
   filled-locks : locked rows (filled (k .n) s) ≡ s
-  filled-locks = locked-filled (k .n) s rows (row-length r ∙ sym (public-length k rows p))
+  unfolding filled
+  filled-locks = locked-filled (k .n - length s) s rows (row-length r ∙ sym (public-length k rows p))
 
   -- the patterns for the capsule are those with exactly t ones for the filled word
   opens-corrects : {e : List ℕ} → Opens k rows s e → Corrects k (filled (k .n) s) e

@@ -1,10 +1,9 @@
 -- Reading, by what it finds: sound, complete, and the pattern itself where it is the only one. Assumes nothing.
-use mathlib.Core.Path.{_≡_, refl, ap, ap₂, _∙_}
+use mathlib.Core.Path.{_≡_, ap, ap₂, _∙_}
 use mathlib.Core.Bool.{true, _&&_}
 use mathlib.Core.List.{List}
 use mathlib.Core.Option.{none, some}
-use Prim.Native.Nat.{ℕ, zero, suc, _≤_}
-use native.Mathlib.Nat.{zero-add}
+use Prim.Native.Nat.{ℕ, _≤_}
 use native.Mathlib.Omega.{arith}
 use lib.Dec.{leb}
 use lib.ListN.{replicate}
@@ -12,15 +11,11 @@ use borrow.Author.Tests.{leb-true, le-leb}
 use Rattle.bits.specs.Bits.{Row, ones, xorRow}
 use Rattle.bits.proofs.Lists.{and-left, and-right}
 use Rattle.bits.proofs.Rows.{xorRow-zeros}
+use Rattle.bits.proofs.Ones.{ones-zeros}
 use Rattle.key.specs.Keys.{Key}
 use Rattle.code.specs.Code.{inCode}
 use Rattle.decoder.specs.Reading.{corrects, reading}
 use Rattle.decoder.proofs.Search.{search-sound, search-none, search-only, search-nothing, zeros-first}
-
-ones-zeros : (n : ℕ) → ones (replicate n 0) ≡ 0
-unfolding ones
-ones-zeros zero = refl
-ones-zeros (suc n) = zero-add (ones (replicate n 0)) ∙ ones-zeros n
 
 -- a pattern of n bits with at most t ones that leads from w into the code
 pub record Corrects (k : Key) (w e : List ℕ) : Type 0 where
