@@ -1,0 +1,35 @@
+// Rows of H in a lent workspace.
+ghost use mathlib.Core.Path.{_≡_};
+ghost use mathlib.Core.List.{map};
+ghost use Prim.Native.Nat.{_*_, _/_, _%_, _^_, _≤_, _<_};
+ghost use lib.ListN.{length, take};
+ghost use Rattle.bits.specs.Bits.{from, bytesFor};
+ghost use Rattle.code.specs.Lock.{rowsOf};
+ghost use Rattle.publishing.specs.Rows.{putBits, digitRow, digitRows};
+
+// Digit k of the first n numbers of p, bit after bit from the start of row.
+fn digit_row(row: &mut [u8], p: &[u16; 8192], n: usize, k: u8)
+    requires { ⌜ (n ≤ 8192) × (k < 16) ⌝ }
+    ensures { λ _. ⌜ now (row .exit) ≡ putBits (digitRow (take n (now (p .entry))) k) 0 (now (row .entry)) ⌝ }
+{
+    let mut j = 0;
+    while j < n {
+        bits::set_bit(row, j, ((p[j] >> k) & 1) as u8);
+        j += 1;
+    }
+}
+
+// A row for each digit k below m.
+fn digit_rows(out: &mut [u8], p: &[u16; 8192], n: usize, m: u8)
+    requires { ⌜ (n ≤ 8192) × (m < 16) × (m * bytesFor n ≤ length (now out)) ⌝ }
+    ensures { λ _. ⌜ rowsOf m n (now (out .exit)) ≡ digitRows m (take n (now (p .entry))) ⌝ }
+{
+    let size = bits::bytes_for(n);
+    let mut at = 0;
+    let mut k = 0;
+    while k < m {
+        digit_row(&mut out[at..], p, n, k);
+        at += size;
+        k += 1;
+    }
+}
