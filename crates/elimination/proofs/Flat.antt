@@ -1,0 +1,75 @@
+-- Rows of n bits in a list of bytes: of a list in two parts, of its front, and of a row with another added. Assumes nothing.
+use mathlib.Core.Path.{_≡_, refl, sym, ap, ap₂, _∙_}
+use mathlib.Core.List.{List, [], _∷_, _++_, map, map-append}
+use Prim.Native.Nat.{ℕ, zero, suc, _+_, _-_, _*_, _/_, _%_, _^_, _≤_, _<_}
+use native.Mathlib.Nat.{zero-mul, one-mul, suc-mul, add-mul, add-zero, add-suc, add-comm, le-trans, le-of-eq, mul-le-mul-right}
+use native.Mathlib.Numerals.{add-one}
+use native.Mathlib.Omega.{arith}
+use lib.ListN.{length, getD, take, drop, set, length-map, length-drop, length-append, List·getD-append, take-append-drop}
+use lib.Seq.{getD-take, drop-drop, drop-append-le, drop-at, take-at, drop-cons, set-at, length-take-le, append-snoc, take-suc}
+use Rattle.bits.specs.Xor.{_⊕_}
+use Rattle.bits.specs.Bits.{from, bytesFor, bitAt, unpack, eachWith, xorRow}
+use Rattle.bits.proofs.Xor.{Digit, off, on}
+use Rattle.bits.proofs.Lists.{from-add}
+use Rattle.bits.proofs.Pack.{unpack-ext, byte-below}
+use Rattle.code.specs.PublicKey.{Matrix}
+use Rattle.code.specs.Lock.{rowOf, rowsOf}
+
+-- row r of more rows lies within them
+pub rows-in : (r rows b : ℕ) → r < rows → r * b + b ≤ rows * b
+rows-in r rows b h = le-trans (le-of-eq (sym (suc-mul r b))) (mul-le-mul-right b h)
+
+pub next-row : (r b : ℕ) → r * b + b ≡ (r + 1) * b
+next-row r b = sym (ap (λ (x : ℕ). x * b) (add-one r) ∙ suc-mul r b)
+
+-- n bits are in the first bytesFor n bytes
+pub unpack-take : (n m : ℕ) (s : List ℕ) → bytesFor n ≤ m → unpack n (take m s) ≡ unpack n s
+unfolding bitAt
+unpack-take n m s h =
+    unpack-ext n (take m s) s
+    (λ i l. let e : i / 8 < m = omega (arith, byte-below n i l) in ap (λ (x : ℕ). x / 2 ^ (i % 8) % 2) (getD-take m s (i / 8) 0 e))
+
+pub unpack-append : (n : ℕ) (s u : List ℕ) → bytesFor n ≤ length s → unpack n (s ++ u) ≡ unpack n s
+unfolding bitAt
+unpack-append n s u h =
+    unpack-ext n (s ++ u) s
+    (λ i l. let e : i / 8 < length s = omega (arith, byte-below n i l) in ap (λ (x : ℕ). x / 2 ^ (i % 8) % 2) (List·getD-append s u 0 (i / 8) e))
+
+-- row j + i is row i of the list from row j on
+row-add : (n j i : ℕ) (w : List ℕ) → rowOf n w (j + i) ≡ rowOf n (drop (j * bytesFor n) w) i
+unfolding rowOf
+row-add n j i w =
+    ap (take (bytesFor n)) (ap (λ (k : ℕ). drop k w) (add-mul j i (bytesFor n)) ∙ sym (drop-drop (i * bytesFor n) (j * bytesFor n) w))
+
+rows-from : (n j i k : ℕ) (w : List ℕ)
+    → map (λ r. unpack n (rowOf n w r)) (from (j + i) k) ≡ map (λ r. unpack n (rowOf n (drop (j * bytesFor n) w) r)) (from i k)
+unfolding from
+rows-from n j i zero w = refl
+rows-from n j i (suc k) w =
+    ap₂ (λ (x : List ℕ) (xs : Matrix). x ∷ xs) (ap (unpack n) (row-add n j i w))
+    (ap (λ (x : ℕ). map (λ r. unpack n (rowOf n w r)) (from x k)) (sym (add-suc j i)) ∙ rows-from n j (suc i) k w)
+
+pub rows-add : (j k n : ℕ) (w : List ℕ) → rowsOf (j + k) n w ≡ rowsOf j n w ++ rowsOf k n (drop (j * bytesFor n) w)
+unfolding rowsOf
+rows-add j k n w =
+    let row : ℕ → List ℕ = λ r. unpack n (rowOf n w r) in
+    ap (map row) (from-add 0 j k) ∙ map-append row (from 0 j) (from (0 + j) k)
+    ∙ ap (λ (xs : Matrix). map row (from 0 j) ++ xs)
+    (ap (λ (x : ℕ). map row (from x k)) (add-comm 0 j) ∙ rows-from n j 0 k w)
+
+pub rows-one : (n : ℕ) (w : List ℕ) → rowsOf 1 n w ≡ unpack n w ∷ []
+unfolding rowsOf rowOf from
+rows-one n w =
+    ap (λ (r : List ℕ). r ∷ [])
+    (unpack-take n (bytesFor n) (drop (0 * bytesFor n) w) (omega arith) ∙ ap (λ (k : ℕ). unpack n (drop k w)) (zero-mul (bytesFor n)))
+
+-- one byte more, copied
+pub copied-next : (i : ℕ) (s d : List ℕ) → i < length s → i < length d
+    → set (take i s ++ drop i d) i (getD s i 0) ≡ take (i + 1) s ++ drop (i + 1) d
+copied-next i s d h k =
+    let rest : List ℕ = drop (suc i) d in
+    ap (λ (r : List ℕ). set (take i s ++ r) i (getD s i 0)) (drop-cons d i 0 k)
+    ∙ set-at (take i s) (getD d i 0) rest (getD s i 0) i (length-take-le i s (omega arith))
+    ∙ sym (append-snoc (take i s) (getD s i 0) rest)
+    ∙ ap (λ (r : List ℕ). r ++ rest) (sym (take-suc s i 0 h))
+    ∙ ap (λ (j : ℕ). take j s ++ drop j d) (sym (add-one i))
