@@ -8,8 +8,8 @@ ghost use Rattle.code.specs.Lock.{rowsOf};
 ghost use Rattle.publishing.specs.Rows.{putBits, digitRow, digitRows};
 
 // Digit k of the first n numbers of p, bit after bit from the start of row.
-fn digit_row(row: &mut [u8], p: &[u16; 8192], n: usize, k: u8)
-    requires { ⌜ (n ≤ 8192) × (k < 16) ⌝ }
+fn digit_row(row: &mut [u8], p: &[u16], n: usize, k: u8)
+    requires { ⌜ (n ≤ length (now p)) × (k < 16) ⌝ }
     ensures { λ _. ⌜ now (row .exit) ≡ putBits (digitRow (take n (now (p .entry))) k) 0 (now (row .entry)) ⌝ }
 {
     let mut j = 0;
@@ -20,8 +20,8 @@ fn digit_row(row: &mut [u8], p: &[u16; 8192], n: usize, k: u8)
 }
 
 // A row for each digit k below m.
-fn digit_rows(out: &mut [u8], p: &[u16; 8192], n: usize, m: u8)
-    requires { ⌜ (n ≤ 8192) × (m < 16) × (m * bytesFor n ≤ length (now out)) ⌝ }
+fn digit_rows(out: &mut [u8], p: &[u16], n: usize, m: u8)
+    requires { ⌜ (n ≤ length (now p)) × (n ≤ 8192) × (m < 16) × (m * bytesFor n ≤ length (now out)) ⌝ }
     ensures { λ _. ⌜ rowsOf m n (now (out .exit)) ≡ digitRows m (take n (now (p .entry))) ⌝ }
 {
     let size = bits::bytes_for(n);

@@ -1,65 +1,76 @@
-use mathlib.Core.Path.{_≡_, refl, sym, ap, ap₂, _∙_, subst}
-use Prim.Native.Nat.{ℕ, zero, suc, _+_, _-_, _*_, _/_, _%_, _^_, _≤_, _<_}
+-- The loop's invariant: the digits from j on are left to write. Assumes nothing.
+use mathlib.Core.Path.{_≡_, refl, sym, ap, ap₂, _∙_}
+use mathlib.Core.List.{List}
+use Prim.Native.Nat.{ℕ, _+_, _-_, _/_, _^_, _≤_}
 use native.Mathlib.Omega.{arith}
-use native.Mathlib.Numerals.{add-one}
-use mathlib.Core.List.{List, [], _∷_, _++_}
-use lib.ListN.{length, take, drop, getD, set, length-set}
 use borrow.Author.Needs.{needs}
+use lib.Bits.{and-le-r, and-mask}
+use lib.ListN.{length, getD, take, drop}
+use lib.Seq.{length-take-le}
+use Rattle.bits.specs.Bits.{setBit}
+use Rattle.publishing.specs.Rows.{putBits, digitRow}
+use Rattle.publishing.proofs.PutBits.{put-next, put-end, length-putBits}
+use Rattle.publishing.proofs.Digits.{length-digitRow, digitRow-take}
 use Rattle.publishing.proofs.parity.digit_row.Statement.{statement}
 use Rattle.publishing.proofs.parity.digit_row.Tie as tie
-use Rattle.publishing.proofs.parity.digit_row.Reads as reads
-use Rattle.publishing.proofs.parity.digit_row.Lts as lts
-use Rattle.bits.proofs.set_bit.Reads as set-bit-reads
 
 abbrev Inv-loop : tie.InvT-loop
-Inv-loop row₀ p n k j₀ row j = ?
+Inv-loop row₀ p n k j₀ row j =
+    (j ≤ n) × (putBits (drop j (digitRow (take n p) k)) j row ≡ putBits (digitRow (take n p) k) 0 row₀)
 
 abbrev μ-loop : tie.MeasureT-loop
-μ-loop row₀ p n k j₀ row j = ?
+μ-loop row₀ p n k j₀ row j = n - j
 
--- src/parity.rt:16:5
 loop-holds : tie.Need-loop-holds Inv-loop μ-loop
-loop-holds c = search needs
+loop-holds c = (omega arith, refl)
 
--- src/parity.rt:17:33
 mul-set-bit : tie.Need-mul-set-bit Inv-loop μ-loop
 mul-set-bit c = search needs
 
--- src/parity.rt:17:33
-element-copy-out-set-bit : tie.Need-element-copy-out-set-bit Inv-loop μ-loop
-element-copy-out-set-bit c = search needs
+shared-slice-read-set-bit : tie.Need-shared-slice-read-set-bit Inv-loop μ-loop
+shared-slice-read-set-bit c = search needs
 
--- src/parity.rt:17:33
 shr-set-bit : tie.Need-shr-set-bit Inv-loop μ-loop
 shr-set-bit c = search needs
 
--- src/parity.rt:17:31
 cast-set-bit : tie.Need-cast-set-bit Inv-loop μ-loop
-cast-set-bit c = search needs
+cast-set-bit c =
+    let a = c .before .before .before .before .before .before .args in
+    omega (arith, and-le-r (getD (a .p .now) (c .before .before .before .loop .j) 0 / 2 ^ a .k) 1)
 
--- src/parity.rt:17:9
 set-bit-requires : tie.Need-set-bit-requires Inv-loop μ-loop
 set-bit-requires c κs = search needs
 
--- src/parity.rt:18:9
 add-j : tie.Need-add-j Inv-loop μ-loop
 add-j c = search needs
 
--- src/parity.rt:16:5
 loop-less : tie.Need-loop-less Inv-loop μ-loop
 loop-less c = search needs
 
--- src/parity.rt:16:5
 loop-again : tie.Need-loop-again Inv-loop μ-loop
-loop-again c = search needs
+loop-again c =
+    let l = c .before .before .before .before .before .before .loop in
+    let a = c .before .before .before .before .before .before .before .before .before .args in
+    let p : List ℕ = take (a .n) (a .p .now) in
+    let e : length (digitRow p (a .k)) ≡ a .n = length-digitRow p (a .k) ∙ length-take-le (a .n) (a .p .now) (omega arith) in (
+      omega arith,
+      ap (putBits (drop (l .j + 1) (digitRow p (a .k))) (l .j + 1))
+          (c .before .before .set-bit .ensures
+          ∙ ap (setBit (l .row) (l .j)) (and-mask _ 1 ∙ sym (digitRow-take (a .n) (a .p .now) (a .k) (l .j) (omega arith) (omega arith))))
+          ∙ put-next (digitRow p (a .k)) (l .j) (l .row) (omega arith)
+          ∙ l .inv .1,
+    )
 
--- src/parity.rt:11:1
 same-length : tie.Need-same-length Inv-loop μ-loop
-same-length c = search needs
+same-length c = let l = c .before .loop in sym (length-putBits _ (l .j) (l .row)) ∙ ap length (l .inv .1) ∙ length-putBits _ 0 _
 
--- src/parity.rt:11:1
 returns : tie.Need-returns Inv-loop μ-loop
-returns c = search needs
+returns c =
+    let l = c .before .loop in
+    let a = c .before .before .before .before .args in
+    let p : List ℕ = take (a .n) (a .p .now) in
+    let e : length (digitRow p (a .k)) ≡ a .n = length-digitRow p (a .k) ∙ length-take-le (a .n) (a .p .now) (omega arith) in
+    sym (put-end (digitRow p (a .k)) (l .j) (l .row) (omega arith)) ∙ l .inv .1
 
 pub digit-row-spec : {M : Type 1} → statement M
 digit-row-spec =
@@ -69,7 +80,7 @@ digit-row-spec =
     μ-loop
     loop-holds
     mul-set-bit
-    element-copy-out-set-bit
+    shared-slice-read-set-bit
     shr-set-bit
     cast-set-bit
     set-bit-requires

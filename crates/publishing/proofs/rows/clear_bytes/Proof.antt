@@ -1,48 +1,51 @@
-use mathlib.Core.Path.{_≡_, refl, sym, ap, ap₂, _∙_, subst}
-use Prim.Native.Nat.{ℕ, zero, suc, _+_, _-_, _*_, _/_, _%_, _^_, _≤_, _<_}
+-- The loop's invariant: the first i bytes are 0, the others as they were. Assumes nothing.
+use mathlib.Core.Path.{_≡_, refl, sym, ap, _∙_}
+use mathlib.Core.List.{List}
+use Prim.Native.Nat.{ℕ, _-_, _≤_}
 use native.Mathlib.Omega.{arith}
-use native.Mathlib.Numerals.{add-one}
-use mathlib.Core.List.{List, [], _∷_, _++_}
-use lib.ListN.{length, take, drop, getD, set, length-set}
-use borrow.Author.Needs.{needs}
+use lib.ListN.{length, set, replicate, length-set}
+use Rattle.bits.specs.Bits.{over}
+use Rattle.publishing.proofs.PutBits.{cleared-next}
 use Rattle.publishing.proofs.rows.clear_bytes.Statement.{statement}
 use Rattle.publishing.proofs.rows.clear_bytes.Tie as tie
-use Rattle.publishing.proofs.rows.clear_bytes.Reads as reads
-use Rattle.publishing.proofs.rows.clear_bytes.Lts as lts
 
 abbrev Inv-loop : tie.InvT-loop
-Inv-loop out₀ n i₀ out i = ?
+Inv-loop out₀ n i₀ out i = (i ≤ n) × (length out ≡ length out₀) × (out ≡ over (replicate i 0) out₀)
 
 abbrev μ-loop : tie.MeasureT-loop
-μ-loop out₀ n i₀ out i = ?
+μ-loop out₀ n i₀ out i = n - i
 
--- src/rows.rt:16:5
 loop-holds : tie.Need-loop-holds Inv-loop μ-loop
-loop-holds c = search needs
+unfolding over
+loop-holds c = (omega arith, refl, refl)
 
--- src/rows.rt:17:9
 slice-write-out : tie.Need-slice-write-out Inv-loop μ-loop
-slice-write-out c = search needs
+slice-write-out c = omega arith
 
--- src/rows.rt:18:9
 add-i : tie.Need-add-i Inv-loop μ-loop
-add-i c = search needs
+add-i c = omega arith
 
--- src/rows.rt:16:5
 loop-less : tie.Need-loop-less Inv-loop μ-loop
-loop-less c = search needs
+loop-less c = omega arith
 
--- src/rows.rt:16:5
 loop-again : tie.Need-loop-again Inv-loop μ-loop
-loop-again c = search needs
+loop-again c =
+    let l = c .before .loop in
+    let a = c .before .before .args in (
+      omega arith,
+      length-set (l .out) (l .i) 0 ∙ l .inv .1,
+      ap (λ (d : List ℕ). set d (l .i) 0) (l .inv .2) ∙ cleared-next (l .i) (a .out .now) (omega arith),
+    )
 
--- src/rows.rt:11:1
 same-length : tie.Need-same-length Inv-loop μ-loop
-same-length c = search needs
+same-length c = c .before .loop .inv .1
 
--- src/rows.rt:11:1
 returns : tie.Need-returns Inv-loop μ-loop
-returns c = search needs
+returns c =
+    let l = c .before .loop in
+    let a = c .before .before .args in
+    let e : l .i ≡ a .n = omega arith in
+    l .inv .2 ∙ ap (λ (i : ℕ). over (replicate i 0) (a .out .now)) e
 
 pub clear-bytes-spec : {M : Type 1} → statement M
 clear-bytes-spec =

@@ -1,58 +1,67 @@
-use mathlib.Core.Path.{_≡_, refl, sym, ap, ap₂, _∙_, subst}
-use Prim.Native.Nat.{ℕ, zero, suc, _+_, _-_, _*_, _/_, _%_, _^_, _≤_, _<_}
+-- The loop's invariant: the bits from j on are left to write. Assumes nothing.
+use mathlib.Core.Path.{_≡_, refl, sym, ap, ap₂, _∙_}
+use mathlib.Core.List.{List, map}
+use Prim.Native.Nat.{ℕ, _+_, _-_, _≤_}
 use native.Mathlib.Omega.{arith}
-use native.Mathlib.Numerals.{add-one}
-use mathlib.Core.List.{List, [], _∷_, _++_}
-use lib.ListN.{length, take, drop, getD, set, length-set}
 use borrow.Author.Needs.{needs}
+use lib.ListN.{length, drop}
+use Rattle.bits.specs.Bits.{from, bitAt, setBit}
+use Rattle.bits.proofs.Lists.{length-map-from, map-from-at}
+use Rattle.publishing.specs.Rows.{putBits}
+use Rattle.publishing.proofs.PutBits.{put-next, put-end, length-putBits}
 use Rattle.publishing.proofs.rows.copy_bits.Statement.{statement}
 use Rattle.publishing.proofs.rows.copy_bits.Tie as tie
-use Rattle.publishing.proofs.rows.copy_bits.Reads as reads
-use Rattle.publishing.proofs.rows.copy_bits.Lts as lts
-use Rattle.bits.proofs.bit_at.Reads as bit-at-reads
-use Rattle.bits.proofs.set_bit.Reads as set-bit-reads
 
 abbrev Inv-loop : tie.InvT-loop
-Inv-loop out₀ work base w j₀ out j = ?
+Inv-loop out₀ work base w j₀ out j =
+    (j ≤ w) × (putBits (drop j (map (bitAt work) (from base w))) j out ≡ putBits (map (bitAt work) (from base w)) 0 out₀)
 
 abbrev μ-loop : tie.MeasureT-loop
-μ-loop out₀ work base w j₀ out j = ?
+μ-loop out₀ work base w j₀ out j = w - j
 
--- src/rows.rt:28:5
 loop-holds : tie.Need-loop-holds Inv-loop μ-loop
-loop-holds c = search needs
+loop-holds c = (omega arith, refl)
 
--- src/rows.rt:29:50
 add-bit-at : tie.Need-add-bit-at Inv-loop μ-loop
-add-bit-at c = search needs
+add-bit-at c = omega arith
 
--- src/rows.rt:29:31
 bit-at-requires : tie.Need-bit-at-requires Inv-loop μ-loop
-bit-at-requires c κs = search needs
+bit-at-requires c κs = tt
 
--- src/rows.rt:29:9
 set-bit-requires : tie.Need-set-bit-requires Inv-loop μ-loop
-set-bit-requires c κs = search needs
+set-bit-requires c κs = tt
 
--- src/rows.rt:30:9
 add-j : tie.Need-add-j Inv-loop μ-loop
-add-j c = search needs
+add-j c = omega arith
 
--- src/rows.rt:28:5
 loop-less : tie.Need-loop-less Inv-loop μ-loop
-loop-less c = search needs
+loop-less c = omega arith
 
--- src/rows.rt:28:5
 loop-again : tie.Need-loop-again Inv-loop μ-loop
-loop-again c = search needs
+loop-again c =
+    let l = c .before .before .before .before .before .before .loop in
+    let a = c .before .before .before .before .before .before .before .before .before .args in
+    let bits : List ℕ = map (bitAt (a .work .now)) (from (a .base) (a .w)) in
+    let e : length bits ≡ a .w = length-map-from (bitAt (a .work .now)) (a .base) (a .w) in (
+      omega arith,
+      ap (putBits (drop (l .j + 1) bits) (l .j + 1))
+          (c .before .before .set-bit .ensures
+          ∙ ap (setBit (l .out) (l .j))
+          (c .before .before .before .bit-at .ensures ∙ sym (map-from-at (bitAt (a .work .now)) (a .base) (a .w) (l .j) 0 (omega arith))))
+          ∙ put-next bits (l .j) (l .out) (omega arith)
+          ∙ l .inv .1,
+    )
 
--- src/rows.rt:23:1
 same-length : tie.Need-same-length Inv-loop μ-loop
-same-length c = search needs
+same-length c = let l = c .before .loop in sym (length-putBits _ (l .j) (l .out)) ∙ ap length (l .inv .1) ∙ length-putBits _ 0 _
 
--- src/rows.rt:23:1
 returns : tie.Need-returns Inv-loop μ-loop
-returns c = search needs
+returns c =
+    let l = c .before .loop in
+    let a = c .before .before .before .before .args in
+    let bits : List ℕ = map (bitAt (a .work .now)) (from (a .base) (a .w)) in
+    let e : length bits ≡ a .w = length-map-from (bitAt (a .work .now)) (a .base) (a .w) in
+    sym (put-end bits (l .j) (l .out) (omega arith)) ∙ l .inv .1
 
 pub copy-bits-spec : {M : Type 1} → statement M
 copy-bits-spec =

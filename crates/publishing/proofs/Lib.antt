@@ -1,0 +1,2 @@
+pub mod PutBits
+pub mod Digits
