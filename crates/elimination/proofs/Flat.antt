@@ -1,12 +1,13 @@
 -- Rows of n bits in a list of bytes: of a list in two parts, of its front, and of a row with another added. Assumes nothing.
 use mathlib.Core.Path.{_≡_, refl, sym, ap, ap₂, _∙_}
-use mathlib.Core.List.{List, [], _∷_, _++_, map, map-append}
+use mathlib.Core.List.{List, [], _∷_, _++_, map, map-append, append-nil}
+use borrow.Rule.Slice.PartMut.{putMid}
 use Prim.Native.Nat.{ℕ, zero, suc, _+_, _-_, _*_, _/_, _%_, _^_, _≤_, _<_}
-use native.Mathlib.Nat.{zero-mul, one-mul, suc-mul, add-mul, add-zero, add-suc, add-comm, le-trans, le-of-eq, mul-le-mul-right}
+use native.Mathlib.Nat.{zero-add, zero-mul, one-mul, suc-mul, add-mul, add-zero, add-suc, add-comm, le-trans, le-of-eq, mul-le-mul-right}
 use native.Mathlib.Numerals.{add-one}
 use native.Mathlib.Omega.{arith}
-use lib.ListN.{length, getD, take, drop, set, length-map, length-drop, length-append, List·getD-append, take-append-drop}
-use lib.Seq.{getD-take, drop-drop, drop-append-le, drop-at, take-at, drop-cons, set-at, length-take-le, append-snoc, take-suc}
+use lib.ListN.{length, getD, take, drop, set, length-map, length-drop, length-append, List·getD-append, take-append-drop, drop-of-length-le}
+use lib.Seq.{getD-take, drop-drop, drop-append-le, drop-at, take-at, take-all, drop-cons, set-at, set-split, take-set-le, length-take-le, append-snoc, take-suc}
 use Rattle.bits.specs.Xor.{_⊕_}
 use Rattle.bits.specs.Bits.{from, bytesFor, bitAt, unpack, eachWith, xorRow}
 use Rattle.bits.proofs.Xor.{Digit, off, on}
@@ -14,6 +15,7 @@ use Rattle.bits.proofs.Lists.{from-add}
 use Rattle.bits.proofs.Pack.{unpack-ext, byte-below}
 use Rattle.code.specs.PublicKey.{Matrix}
 use Rattle.code.specs.Lock.{rowOf, rowsOf}
+use Rattle.elimination.specs.Elimination.{movedUp, toFront}
 
 -- row r of more rows lies within them
 pub rows-in : (r rows b : ℕ) → r < rows → r * b + b ≤ rows * b
@@ -73,3 +75,68 @@ copied-next i s d h k =
     ∙ sym (append-snoc (take i s) (getD s i 0) rest)
     ∙ ap (λ (r : List ℕ). r ++ rest) (sym (take-suc s i 0 h))
     ∙ ap (λ (j : ℕ). take j s ++ drop j d) (sym (add-one i))
+
+pub rows-cons : (k n : ℕ) (w : List ℕ) → rowsOf (suc k) n w ≡ unpack n w ∷ rowsOf k n (drop (bytesFor n) w)
+rows-cons k n w =
+    let e : suc k ≡ 1 + k = omega arith in
+    ap (λ (i : ℕ). rowsOf i n w) e ∙ rows-add 1 k n w
+    ∙ ap₂ (λ (xs : Matrix) (b : ℕ). xs ++ rowsOf k n (drop b w)) (rows-one n w) (one-mul (bytesFor n))
+
+pub rows-snoc : (k n : ℕ) (w : List ℕ) → rowsOf (k + 1) n w ≡ rowsOf k n w ++ (unpack n (drop (k * bytesFor n) w) ∷ [])
+rows-snoc k n w = rows-add k 1 n w ∙ ap (λ (xs : Matrix). rowsOf k n w ++ xs) (rows-one n (drop (k * bytesFor n) w))
+
+-- rows that lie in the front of a list
+pub rows-append : (k n : ℕ) (a c : List ℕ) → k * bytesFor n ≤ length a → rowsOf k n (a ++ c) ≡ rowsOf k n a
+unfolding rowsOf from
+rows-append zero n a c h = refl
+rows-append (suc k) n a c h =
+    let b : ℕ = bytesFor n in
+    let e : suc k * b ≡ k * b + b = suc-mul k b in
+    let l : b ≤ length a = omega arith in
+    rows-cons k n (a ++ c)
+    ∙ ap₂ (λ (x : List ℕ) (xs : Matrix). x ∷ xs) (unpack-append n a c l)
+    (ap (rowsOf k n) (drop-append-le b a c l) ∙ rows-append k n (drop b a) c (omega (arith, length-drop b a)))
+    ∙ sym (rows-cons k n a)
+
+pub rows-front : (k n at : ℕ) (w y : List ℕ) → k * bytesFor n ≤ at → at ≤ length w → rowsOf k n (take at w ++ y) ≡ rowsOf k n w
+rows-front k n at w y h l =
+    let e : k * bytesFor n ≤ length (take at w) = omega (arith, length-take-le at w l) in
+    rows-append k n (take at w) y e ∙ sym (rows-append k n (take at w) (drop at w) e) ∙ ap (rowsOf k n) (take-append-drop at w)
+
+-- a part that goes to the end is lent, and comes back as y
+pub part-all : (at : ℕ) (l : List ℕ) → take (length l - at) (drop at l) ≡ drop at l
+part-all at l = take-all (length l - at) (drop at l) (omega (arith, length-drop at l))
+
+pub part-back : (at : ℕ) (l y : List ℕ) → putMid at (length l - at) l y ≡ take at l ++ y
+part-back at l y =
+    ap (λ (t : List ℕ). take at l ++ (y ++ t)) (drop-of-length-le (drop at l) {i = length l - at} (omega (arith, length-drop at l)))
+    ∙ ap (λ (t : List ℕ). take at l ++ t) (append-nil y)
+
+-- a byte moved up
+pub moved-next : (i b : ℕ) (w : List ℕ) → i + 1 + b ≤ length w → movedUp i b (set w (i + b) (getD w i 0)) ≡ movedUp (i + 1) b w
+unfolding movedUp
+moved-next i b w h =
+    let u : List ℕ = set w (i + b) (getD w i 0) in
+    let rest : List ℕ = drop (suc (i + b)) w in
+    let e : suc (i + b) ≡ i + 1 + b = omega arith in
+    let p : drop (i + b) u ≡ getD w i 0 ∷ rest =
+    ap (drop (i + b)) (set-split w (i + b) (getD w i 0) (omega arith))
+    ∙ drop-at (take (i + b) w) (getD w i 0 ∷ rest) (i + b) (length-take-le (i + b) w (omega arith)) in
+    ap₂ (λ (x y : List ℕ). x ++ y) (take-set-le b w (i + b) (getD w i 0) (omega arith))
+    (ap₂ (λ (x y : List ℕ). x ++ y) (take-set-le i w (i + b) (getD w i 0) (omega arith)) p
+    ∙ sym (append-snoc (take i w) (getD w i 0) rest)
+    ∙ ap₂ (λ (x y : List ℕ). x ++ y) (sym (take-suc w i 0 (omega arith)) ∙ ap (λ (j : ℕ). take j w) (sym (add-one i))) (ap (λ (j : ℕ). drop j w) e))
+
+pub moved-none : (b : ℕ) (w : List ℕ) → movedUp 0 b w ≡ w
+unfolding movedUp
+moved-none b w = ap (λ (j : ℕ). take b w ++ drop j w) (zero-add b) ∙ take-append-drop b w
+
+-- the row put to the front
+pub front-put : (k b : ℕ) (w z : List ℕ) → k + b ≤ length w
+    → take b (take b (drop k w) ++ z) ++ drop b (movedUp k b w) ≡ toFront k b w
+unfolding movedUp toFront
+front-put k b w z h =
+    let l : b ≤ length (drop k w) = omega (arith, length-drop k w) in
+    ap₂ (λ (x y : List ℕ). x ++ y)
+    (take-at (take b (drop k w)) z b (length-take-le b (drop k w) l))
+    (drop-at (take b w) (take k w ++ drop (k + b) w) b (length-take-le b w (omega arith)))
