@@ -58,11 +58,11 @@ map-from-at f k (suc n) (suc i) d h = map-from-at f (suc k) n i d (le-of-suc-le-
 pub map-from-past : (f : ℕ → ℕ) (k n i d : ℕ) → n ≤ i → getD (map f (from k n)) i d ≡ d
 map-from-past f k n i d h = List·getD-eq-default (map f (from k n)) d (rw length-map-from h)
 
-pub map-from : (f g : ℕ → ℕ) (k j n : ℕ) → ((i : ℕ) → i < n → f (k + i) ≡ g (j + i)) → map f (from k n) ≡ map g (from j n)
+pub map-from : {A : Type 0} (f g : ℕ → A) (k j n : ℕ) → ((i : ℕ) → i < n → f (k + i) ≡ g (j + i)) → map f (from k n) ≡ map g (from j n)
 unfolding from
 map-from f g k j zero h = refl
-map-from f g k j (suc n) h =
-    cons-eq
+map-from {A} f g k j (suc n) h =
+    ap₂ (λ (x : A) (l : List A). x ∷ l)
     (ap f (sym (add-zero k)) ∙ h 0 (zero-lt-suc n) ∙ ap g (add-zero j))
     (map-from f g (suc k) (suc j) n (λ i l. ap f (next k i) ∙ h (suc i) (suc-le-suc l) ∙ ap g (sym (next j i))))
 

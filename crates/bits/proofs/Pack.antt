@@ -45,7 +45,7 @@ pub row-of : (e : List ℕ) → ((k : ℕ) → getD e k 0 < 2) → Row (length e
 row-of [] h = end
 row-of (b ∷ e) h = row-cons (xor.digit (h 0)) (row-of e (λ k. h (suc k)))
 
-row-map : (f : ℕ → ℕ) → ((i : ℕ) → Digit (f i)) → (k n : ℕ) → Row n (map f (from k n))
+pub row-map : (f : ℕ → ℕ) → ((i : ℕ) → Digit (f i)) → (k n : ℕ) → Row n (map f (from k n))
 unfolding from
 row-map f h k zero = end
 row-map f h k (suc n) = row-cons (h k) (row-map f h (suc k) n)

@@ -1,2 +1,3 @@
 pub mod PutBits
 pub mod Digits
+pub mod WrittenRows

@@ -1,37 +1,39 @@
-use mathlib.Core.Path.{_≡_, refl, sym, ap, ap₂, _∙_, subst}
-use Prim.Native.Nat.{ℕ, zero, suc, _+_, _-_, _*_, _/_, _%_, _^_, _≤_, _<_}
+-- The bits are put into bytes that are 0. Assumes nothing.
+use mathlib.Core.Path.{_≡_, sym, ap, _∙_}
+use mathlib.Core.List.{List, map}
+use Prim.Native.Nat.{ℕ}
 use native.Mathlib.Omega.{arith}
-use native.Mathlib.Numerals.{add-one}
-use mathlib.Core.List.{List, [], _∷_, _++_}
-use lib.ListN.{length, take, drop, getD, set, length-set}
 use borrow.Author.Needs.{needs}
+use lib.ListN.{length, replicate}
+use Rattle.bits.specs.Bits.{from, bitAt, over}
+use Rattle.bits.proofs.Bits.{bit-digit}
+use Rattle.bits.proofs.Pack.{row-map}
+use Rattle.publishing.specs.Rows.{putBits}
+use Rattle.publishing.proofs.PutBits.{put-over}
 use Rattle.publishing.proofs.rows.write_row.Statement.{statement}
 use Rattle.publishing.proofs.rows.write_row.Tie as tie
-use Rattle.publishing.proofs.rows.write_row.Reads as reads
-use Rattle.publishing.proofs.rows.write_row.Lts as lts
-use Rattle.bits.proofs.bytes_for.Reads as bytes-for-reads
-use Rattle.publishing.proofs.rows.clear_bytes.Reads as clear-bytes-reads
-use Rattle.publishing.proofs.rows.copy_bits.Reads as copy-bits-reads
 
--- src/rows.rt:39:22
 bytes-for-requires : tie.Need-bytes-for-requires
-bytes-for-requires c κs = search needs
+bytes-for-requires c κs = tt
 
--- src/rows.rt:39:5
 clear-bytes-requires : tie.Need-clear-bytes-requires
-clear-bytes-requires c κs = search needs
+clear-bytes-requires c κs = omega arith
 
--- src/rows.rt:40:5
 copy-bits-requires : tie.Need-copy-bits-requires
-copy-bits-requires c κs = search needs
+copy-bits-requires c κs = omega arith
 
--- src/rows.rt:35:1
 same-length : tie.Need-same-length
 same-length c = search needs
 
--- src/rows.rt:35:1
 returns : tie.Need-returns
-returns c = search needs
+returns c =
+    let a = c .before .before .before .before .before .before .before .before .before .before .before .args in
+    let bits : List ℕ = map (bitAt (a .work .now)) (from (a .base) (a .w)) in
+    c .before .before .copy-bits .ensures
+    ∙ ap (putBits bits 0)
+    (c .before .before .before .before .before .before .clear-bytes .ensures
+    ∙ ap (λ (n : ℕ). over (replicate n 0) (a .out .now)) (c .before .before .before .before .before .before .before .bytes-for .ensures))
+    ∙ put-over (a .out .now) (row-map (bitAt (a .work .now)) (bit-digit (a .work .now)) (a .base) (a .w))
 
 pub write-row-spec : {M : Type 1} → statement M
 write-row-spec =

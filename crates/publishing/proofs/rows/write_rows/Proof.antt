@@ -1,86 +1,119 @@
-use mathlib.Core.Path.{_≡_, refl, sym, ap, ap₂, _∙_, subst}
-use Prim.Native.Nat.{ℕ, zero, suc, _+_, _-_, _*_, _/_, _%_, _^_, _≤_, _<_}
+-- The loop's invariant: the first r rows are written, at the places where the next one follows. Assumes nothing.
+use mathlib.Core.Path.{_≡_, refl, sym, ap, ap₂, _∙_}
+use mathlib.Core.List.{List, map, _++_}
+use Prim.Native.Nat.{ℕ, _+_, _-_, _*_, _≤_}
+use native.Mathlib.Nat.{zero-mul, add-zero}
 use native.Mathlib.Omega.{arith}
-use native.Mathlib.Numerals.{add-one}
-use mathlib.Core.List.{List, [], _∷_, _++_}
-use lib.ListN.{length, take, drop, getD, set, length-set}
 use borrow.Author.Needs.{needs}
+use borrow.Rule.Slice.PartMut.{same-len-mid}
+use lib.ListN.{length, take, drop, length-drop}
+use Rattle.bits.specs.Bits.{from, bytesFor, bitAt, pack, over}
+use Rattle.elimination.proofs.Flat.{rows-in, next-row, part-all, part-back}
+use Rattle.publishing.proofs.WrittenRows.{tails, tails-none, tails-over, row-place, bytes-small}
 use Rattle.publishing.proofs.rows.write_rows.Statement.{statement}
 use Rattle.publishing.proofs.rows.write_rows.Tie as tie
-use Rattle.publishing.proofs.rows.write_rows.Reads as reads
-use Rattle.publishing.proofs.rows.write_rows.Lts as lts
-use Rattle.bits.proofs.bytes_for.Reads as bytes-for-reads
-use Rattle.publishing.proofs.rows.write_row.Reads as write-row-reads
 
 abbrev Inv-loop : tie.InvT-loop
-Inv-loop out₀ work rows n w size step at₀ base₀ r₀ out at base r = ?
+Inv-loop out₀ work rows n w size step at₀ base₀ r₀ out at base r =
+    (r ≤ rows) × (at ≡ r * bytesFor (n - rows)) × (base ≡ rows + r * (8 * bytesFor n))
+    × (length out ≡ length out₀) × (out ≡ over (tails rows n work r) out₀)
 
 abbrev μ-loop : tie.MeasureT-loop
-μ-loop out₀ work rows n w size step at₀ base₀ r₀ out at base r = ?
+μ-loop out₀ work rows n w size step at₀ base₀ r₀ out at base r = rows - r
 
--- src/rows.rt:48:13
 sub-w : tie.Need-sub-w Inv-loop μ-loop
-sub-w c = search needs
+sub-w c = omega arith
 
--- src/rows.rt:49:9
 bytes-for-requires : tie.Need-bytes-for-requires Inv-loop μ-loop
-bytes-for-requires c κs = search needs
+bytes-for-requires c κs = tt
 
--- src/rows.rt:50:20
 bytes-for-requires-2 : tie.Need-bytes-for-requires-2 Inv-loop μ-loop
-bytes-for-requires-2 c κs = search needs
+bytes-for-requires-2 c κs = tt
 
--- src/rows.rt:50:16
 mul-step : tie.Need-mul-step Inv-loop μ-loop
-mul-step c = search needs
+mul-step c = let e = bytes-small (c .before .before .before .before .args .n) (omega arith) in omega arith
 
--- src/rows.rt:54:5
 loop-holds : tie.Need-loop-holds Inv-loop μ-loop
-loop-holds c = search needs
+loop-holds c =
+    let a = c .before .before .before .before .args in (
+      omega arith,
+      sym (zero-mul (bytesFor (a .n - a .rows))),
+      sym (ap (_+_ (a .rows)) (zero-mul (8 * bytesFor (a .n))) ∙ add-zero (a .rows)),
+      refl,
+      tails-none (a .rows) (a .n) (a .work .now) (a .out .now),
+    )
 
--- src/rows.rt:55:19
 sub-write-row : tie.Need-sub-write-row Inv-loop μ-loop
-sub-write-row c = search needs
+sub-write-row c =
+    let a = c .before .before .before .before .before .before .args in
+    let e = rows-in (c .before .loop .r) (a .rows) (bytesFor (a .n - a .rows)) (omega arith) in
+    omega arith
 
--- src/rows.rt:55:19
 part-write-row-start : tie.Need-part-write-row-start Inv-loop μ-loop
-part-write-row-start c = search needs
+part-write-row-start c =
+    let a = c .before .before .before .before .before .before .args in
+    let e = rows-in (c .before .loop .r) (a .rows) (bytesFor (a .n - a .rows)) (omega arith) in
+    omega arith
 
--- src/rows.rt:55:19
 part-write-row-end : tie.Need-part-write-row-end Inv-loop μ-loop
-part-write-row-end c = search needs
+part-write-row-end c =
+    let a = c .before .before .before .before .before .before .args in
+    let e = rows-in (c .before .loop .r) (a .rows) (bytesFor (a .n - a .rows)) (omega arith) in
+    omega arith
 
--- src/rows.rt:55:9
 write-row-requires : tie.Need-write-row-requires Inv-loop μ-loop
-write-row-requires c κs = search needs
+write-row-requires c κs =
+    let l = c .before .before .loop in
+    let a = c .before .before .before .before .before .before .before .args in
+    let e = rows-in (l .r) (a .rows) (bytesFor (a .n - a .rows)) (omega arith) in
+    let f = row-place (a .rows) (a .n) (l .r) (omega arith) (omega arith) (omega arith) in
+    (omega arith, rw (part-all (l .at) (l .out), length-drop (l .at) (l .out)) (omega arith))
 
--- src/rows.rt:56:9
 add-at : tie.Need-add-at Inv-loop μ-loop
-add-at c = search needs
+add-at c =
+    let a = c .before .before .before .before .before .before .before .before .before .before .args in
+    let e = rows-in (c .before .before .before .before .before .loop .r) (a .rows) (bytesFor (a .n - a .rows)) (omega arith) in
+    omega arith
 
--- src/rows.rt:57:9
 add-base : tie.Need-add-base Inv-loop μ-loop
-add-base c = search needs
+add-base c =
+    let a = c .before .before .before .before .before .before .before .before .before .before .args in
+    let f = row-place (a .rows) (a .n) (c .before .before .before .before .before .loop .r) (omega arith) (omega arith) (omega arith) in
+    omega arith
 
--- src/rows.rt:58:9
 add-r : tie.Need-add-r Inv-loop μ-loop
-add-r c = search needs
+add-r c = omega arith
 
--- src/rows.rt:54:5
 loop-less : tie.Need-loop-less Inv-loop μ-loop
-loop-less c = search needs
+loop-less c = omega arith
 
--- src/rows.rt:54:5
 loop-again : tie.Need-loop-again Inv-loop μ-loop
-loop-again c = search needs
+loop-again c =
+    let l = c .before .before .before .before .before .loop in
+    let a = c .before .before .before .before .before .before .before .before .before .before .args in
+    let q = c .before .before .write-row in
+    let size : ℕ = bytesFor (a .n - a .rows) in
+    let step : ℕ = 8 * bytesFor (a .n) in
+    let s = next-row (l .r) size in
+    let t = next-row (l .r) step in (
+      omega arith,
+      omega arith,
+      omega arith,
+      same-len-mid (l .at) (length (l .out) - l .at) (l .out) (q .last .0) (q .kept .0) ∙ l .inv .3,
+      part-back (l .at) (l .out) (q .last .0)
+          ∙ ap (λ (y : List ℕ). take (l .at) (l .out) ++ y) (q .ensures ∙ ap (over _) (part-all (l .at) (l .out)))
+          ∙ tails-over (a .rows) (a .n) (a .work .now) (l .r) (l .at) (l .base) (l .out) (a .out .now) (omega arith) (l .inv .1) (l .inv .2) (l .inv .4),
+    )
 
--- src/rows.rt:44:1
 same-length : tie.Need-same-length Inv-loop μ-loop
-same-length c = search needs
+same-length c = c .before .loop .inv .3
 
--- src/rows.rt:44:1
 returns : tie.Need-returns Inv-loop μ-loop
-returns c = search needs
+returns c =
+    let l = c .before .loop in
+    let a = c .before .before .before .before .before .before .args in
+    let e : l .r ≡ a .rows = omega arith in
+    l .inv .4 ∙ ap (λ (r : ℕ). over (tails (a .rows) (a .n) (a .work .now) r) (a .out .now)) e
 
 pub write-rows-spec : {M : Type 1} → statement M
 write-rows-spec =
