@@ -1,3 +1,4 @@
 pub mod PutBits
-pub mod Digits
 pub mod WrittenRows
+pub mod DigitRows
+pub mod Entries

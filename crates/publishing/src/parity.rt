@@ -1,11 +1,13 @@
 // Rows of H in a lent workspace.
 ghost use mathlib.Core.Path.{_≡_};
-ghost use mathlib.Core.List.{map};
-ghost use Prim.Native.Nat.{_*_, _/_, _%_, _^_, _≤_, _<_};
+ghost use mathlib.Core.Bool.{true};
+ghost use Prim.Native.Nat.{_*_, _≤_, _<_};
 ghost use lib.ListN.{length, take};
-ghost use Rattle.bits.specs.Bits.{from, bytesFor};
+ghost use Rattle.bits.specs.Bits.{bytesFor};
+ghost use Rattle.field.specs.Field.{isWidth};
+ghost use Rattle.code.specs.Code.{parityRows};
 ghost use Rattle.code.specs.Lock.{rowsOf};
-ghost use Rattle.publishing.specs.Rows.{putBits, digitRow, digitRows};
+ghost use Rattle.publishing.specs.Rows.{putBits, digitRow, digitRows, keyOf};
 
 // Digit k of the first n numbers of p, bit after bit from the start of row.
 fn digit_row(row: &mut [u8], p: &[u16], n: usize, k: u8)
@@ -31,5 +33,26 @@ fn digit_rows(out: &mut [u8], p: &[u16], n: usize, m: u8)
         digit_row(&mut out[at..], p, n, k);
         at += size;
         k += 1;
+    }
+}
+
+// H: for each s from 0 on, the rows of the digits of α^s / g(α), α from the support.
+pub fn parity_rows(work: &mut [u8], m: u8, support: &[u16], g: &[u16])
+    requires { ⌜ (isWidth m ≡ true) × (length (now support) ≤ 8192) × (length (now g) ≤ 128)
+        × (m * length (now g) * bytesFor (length (now support)) ≤ length (now work)) ⌝ }
+    ensures { λ _. ⌜ rowsOf (m * length (now (g .entry))) (length (now (support .entry))) (now (work .exit))
+        ≡ parityRows (keyOf m (now (support .entry)) (now (g .entry))) ⌝ }
+{
+    let n = support.len();
+    let size = (m as usize) * bits::bytes_for(n);
+    let values = poly::values(m, g, support);
+    let mut p = field::inverse_each(m, &values);
+    let mut at = 0;
+    let mut s = 0;
+    while s < g.len() {
+        digit_rows(&mut work[at..], &p, n, m);
+        field::horner_each(m, &mut p, support, 0);
+        at += size;
+        s += 1;
     }
 }

@@ -1,5 +1,5 @@
 -- The loop's invariant: the digits from j on are left to write. Assumes nothing.
-use mathlib.Core.Path.{_≡_, refl, sym, ap, ap₂, _∙_}
+use mathlib.Core.Path.{_≡_, refl, sym, ap, _∙_}
 use mathlib.Core.List.{List}
 use Prim.Native.Nat.{ℕ, _+_, _-_, _/_, _^_, _≤_}
 use native.Mathlib.Omega.{arith}
@@ -10,7 +10,7 @@ use lib.Seq.{length-take-le}
 use Rattle.bits.specs.Bits.{setBit}
 use Rattle.publishing.specs.Rows.{putBits, digitRow}
 use Rattle.publishing.proofs.PutBits.{put-next, put-end, length-putBits}
-use Rattle.publishing.proofs.Digits.{length-digitRow, digitRow-take}
+use Rattle.publishing.proofs.DigitRows.{length-digitRow, digitRow-take}
 use Rattle.publishing.proofs.parity.digit_row.Statement.{statement}
 use Rattle.publishing.proofs.parity.digit_row.Tie as tie
 

@@ -1,10 +1,10 @@
 -- The bits are put into bytes that are 0. Assumes nothing.
-use mathlib.Core.Path.{_≡_, sym, ap, _∙_}
+use mathlib.Core.Path.{ap, _∙_}
 use mathlib.Core.List.{List, map}
 use Prim.Native.Nat.{ℕ}
 use native.Mathlib.Omega.{arith}
 use borrow.Author.Needs.{needs}
-use lib.ListN.{length, replicate}
+use lib.ListN.{replicate}
 use Rattle.bits.specs.Bits.{from, bitAt, over}
 use Rattle.bits.proofs.Bits.{bit-digit}
 use Rattle.bits.proofs.Pack.{row-map}

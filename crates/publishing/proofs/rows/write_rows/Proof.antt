@@ -1,13 +1,12 @@
 -- The loop's invariant: the first r rows are written, at the places where the next one follows. Assumes nothing.
-use mathlib.Core.Path.{_≡_, refl, sym, ap, ap₂, _∙_}
-use mathlib.Core.List.{List, map, _++_}
+use mathlib.Core.Path.{_≡_, refl, sym, ap, _∙_}
+use mathlib.Core.List.{List, _++_}
 use Prim.Native.Nat.{ℕ, _+_, _-_, _*_, _≤_}
 use native.Mathlib.Nat.{zero-mul, add-zero}
 use native.Mathlib.Omega.{arith}
-use borrow.Author.Needs.{needs}
 use borrow.Rule.Slice.PartMut.{same-len-mid}
-use lib.ListN.{length, take, drop, length-drop}
-use Rattle.bits.specs.Bits.{from, bytesFor, bitAt, pack, over}
+use lib.ListN.{length, take, length-drop}
+use Rattle.bits.specs.Bits.{bytesFor, over}
 use Rattle.elimination.proofs.Flat.{rows-in, next-row, part-all, part-back}
 use Rattle.publishing.proofs.WrittenRows.{tails, tails-none, tails-over, row-place, bytes-small}
 use Rattle.publishing.proofs.rows.write_rows.Statement.{statement}
