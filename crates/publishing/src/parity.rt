@@ -37,8 +37,8 @@ fn digit_rows(out: &mut [u8], p: &[u16], n: usize, m: u8)
 }
 
 // H: for each s from 0 on, the rows of the digits of α^s / g(α), α from the support.
-pub fn parity_rows(work: &mut [u8], m: u8, support: &[u16], g: &[u16])
-    requires { ⌜ (isWidth m ≡ true) × (length (now support) ≤ 8192) × (length (now g) ≤ 128)
+fn parity_rows(work: &mut [u8], m: u8, support: &[u16], g: &[u16])
+    requires { ⌜ (isWidth m ≡ true) × (length (now support) ≤ 8192)
         × (m * length (now g) * bytesFor (length (now support)) ≤ length (now work)) ⌝ }
     ensures { λ _. ⌜ rowsOf (m * length (now (g .entry))) (length (now (support .entry))) (now (work .exit))
         ≡ parityRows (keyOf m (now (support .entry)) (now (g .entry))) ⌝ }
@@ -55,4 +55,14 @@ pub fn parity_rows(work: &mut [u8], m: u8, support: &[u16], g: &[u16])
         at += size;
         s += 1;
     }
+}
+
+// H of a kept key, from the first n and t numbers of its arrays.
+pub fn key_rows<'a>(work: &mut [u8], m: u8, n: usize, t: usize, support: &'a [u16; 8192], g: &'a [u16; 128])
+    requires { ⌜ (isWidth m ≡ true) × (n ≤ 8192) × (t ≤ 128) × (m * t * bytesFor n ≤ length (now work)) ⌝ }
+    ensures { λ _. ⌜ rowsOf (m * t) n (now (work .exit)) ≡ parityRows (keyOf m (take n (now (support .entry))) (take t (now (g .entry)))) ⌝ }
+{
+    let s = &support[..];
+    let h = &g[..];
+    parity_rows(work, m, &s[..n], &h[..t]);
 }
