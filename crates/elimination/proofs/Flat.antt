@@ -1,6 +1,6 @@
 -- Rows of n bits in a list of bytes: of a list in two parts, of its front, and of a row with another added. Assumes nothing.
 use mathlib.Core.Path.{_≡_, refl, sym, ap, ap₂, _∙_}
-use mathlib.Core.List.{List, [], _∷_, _++_, map, map-append, append-nil}
+use mathlib.Core.List.{List, [], _∷_, _++_, map, map-append, append-nil, append-assoc}
 use borrow.Rule.Slice.PartMut.{putMid}
 use Prim.Native.Nat.{ℕ, zero, suc, _+_, _-_, _*_, _/_, _%_, _^_, _≤_, _<_}
 use native.Mathlib.Nat.{zero-add, zero-mul, one-mul, suc-mul, add-mul, add-zero, add-suc, add-comm, le-trans, le-of-eq, mul-le-mul-right}
@@ -11,7 +11,7 @@ use lib.Seq.{getD-take, drop-drop, drop-append-le, drop-at, take-at, take-all, d
 use Rattle.bits.specs.Xor.{_⊕_}
 use Rattle.bits.specs.Bits.{from, bytesFor, bitAt, unpack, eachWith, xorRow}
 use Rattle.bits.proofs.Xor.{Digit, off, on}
-use Rattle.bits.proofs.Lists.{from-add}
+use Rattle.bits.proofs.Lists.{length-from, from-add}
 use Rattle.bits.proofs.Pack.{unpack-ext, byte-below}
 use Rattle.code.specs.PublicKey.{Matrix}
 use Rattle.code.specs.Lock.{rowOf, rowsOf}
@@ -21,8 +21,16 @@ use Rattle.elimination.specs.Elimination.{movedUp, toFront}
 pub rows-in : (r rows b : ℕ) → r < rows → r * b + b ≤ rows * b
 rows-in r rows b h = le-trans (le-of-eq (sym (suc-mul r b))) (mul-le-mul-right b h)
 
+pub row-room : (r rows n b len : ℕ) → b ≡ bytesFor n → r < rows → rows * bytesFor n ≤ len → r * b + b ≤ len
+row-room r rows n b len e h l = rw e (le-trans (rows-in r rows (bytesFor n) h) l)
+
 pub next-row : (r b : ℕ) → r * b + b ≡ (r + 1) * b
 next-row r b = sym (ap (λ (x : ℕ). x * b) (add-one r) ∙ suc-mul r b)
+
+-- a row of at most 8192 bits
+pub row-size : (n : ℕ) → n ≤ 8192 → bytesFor n ≤ 1024
+unfolding bytesFor
+row-size n h = omega arith
 
 -- n bits are in the first bytesFor n bytes
 pub unpack-take : (n m : ℕ) (s : List ℕ) → bytesFor n ≤ m → unpack n (take m s) ≡ unpack n s
@@ -140,3 +148,40 @@ front-put k b w z h =
     ap₂ (λ (x y : List ℕ). x ++ y)
     (take-at (take b (drop k w)) z b (length-take-le b (drop k w) l))
     (drop-at (take b w) (take k w ++ drop (k + b) w) b (length-take-le b w (omega arith)))
+
+-- what lies past the rows that are moved is as it was
+pub front-rest : (k b m : ℕ) (w : List ℕ) → k + b ≤ length w → k + b ≤ m → drop m (toFront k b w) ≡ drop m w
+unfolding toFront
+front-rest k b m w h l =
+    let x : List ℕ = take b (drop k w) in
+    let y : List ℕ = take k w in
+    let z : List ℕ = drop (k + b) w in
+    let e : k + b + (m - (k + b)) ≡ m = omega arith in
+    let f : length (x ++ y) ≡ k + b =
+    length-append x y ∙ ap₂ _+_ (length-take-le b (drop k w) (omega (arith, length-drop k w))) (length-take-le k w (omega arith)) ∙ add-comm b k in
+    ap (drop m) (sym (append-assoc x y z))
+    ∙ ap (λ (i : ℕ). drop i (x ++ y ++ z)) (sym e)
+    ∙ sym (drop-drop (m - (k + b)) (k + b) (x ++ y ++ z))
+    ∙ ap (drop (m - (k + b))) (drop-at (x ++ y) z (k + b) f)
+    ∙ drop-drop (m - (k + b)) (k + b) w
+    ∙ ap (λ (i : ℕ). drop i w) e
+
+pub length-rows : (k n : ℕ) (w : List ℕ) → length (rowsOf k n w) ≡ k
+unfolding rowsOf
+length-rows k n w = length-map (from 0 k) (λ r. unpack n (rowOf n w r)) ∙ length-from 0 k
+
+-- row i of a workspace: its length, and the row copied to the front of another list
+module _ (i rows n : ℕ) (w : List ℕ) (within : rows * bytesFor n ≤ length w) (less : i < rows) where
+  pub length-row : length (rowOf n w i) ≡ bytesFor n
+  unfolding rowOf
+  length-row =
+      let e = rows-in i rows (bytesFor n) less in
+      length-take-le (bytesFor n) (drop (i * bytesFor n) w) (omega (arith, length-drop (i * bytesFor n) w))
+
+  pub row-copied : (b : ℕ) (z : List ℕ) → b ≡ bytesFor n
+      → take b (take b (take (length w - i * b) (drop (i * b) w)) ++ z) ≡ rowOf n w i
+  unfolding rowOf
+  row-copied b z e =
+      ap (λ (l : List ℕ). take b (take b l ++ z)) (part-all (i * b) w)
+      ∙ ap (λ (k : ℕ). take k (take k (drop (i * k) w) ++ z)) e
+      ∙ take-at (rowOf n w i) z (bytesFor n) length-row

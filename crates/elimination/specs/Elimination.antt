@@ -1,10 +1,10 @@
 -- Elimination in a workspace of packed rows, said by the reduced row-echelon form of its rows. Assumes nothing.
 use Prim.Native.Nat.{ℕ, suc, _+_, _-_, _*_}
 use mathlib.Core.Bool.{Bool, true, false, cond, _&&_}
-use mathlib.Core.List.{List, [], _∷_, _++_}
+use mathlib.Core.List.{List, [], _∷_, _++_, map}
 use lib.Dec.{eqb, leb}
 use lib.ListN.{length, getD, take, drop}
-use Rattle.bits.specs.Bits.{from, bytesFor, unpack}
+use Rattle.bits.specs.Bits.{from, bytesFor, bitAt, unpack, xorRow}
 use Rattle.poly.specs.Polynomials.{same}
 use Rattle.code.specs.PublicKey.{Matrix, Pivot, missing, pivot, Echelon, echelon}
 use Rattle.code.specs.Lock.{rowsOf}
@@ -29,6 +29,10 @@ movedUp k b w = take b w ++ (take k w ++ drop (k + b) w)
 -- the row of b bytes from index k on, moved to the front
 unfoldable pub toFront : ℕ → ℕ → List ℕ → List ℕ
 toFront k b w = take b (drop k w) ++ (take k w ++ drop (k + b) w)
+
+-- the bytes w, with the row t added to their front where that has a one in column j
+unfoldable pub clearFront : ℕ → List ℕ → List ℕ → List ℕ
+clearFront j t w = xorRow w (map (_*_ (bitAt w j)) t)
 
 -- the first of k rows taken for the pivot, or none
 unfoldable pub firstRow : Bool → ℕ → ℕ → List ℕ → Pivot
