@@ -6,3 +6,4 @@ pub mod Rows
 pub mod Pack
 pub mod Ones
 pub mod Product
+pub mod PutBits

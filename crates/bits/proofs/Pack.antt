@@ -4,7 +4,7 @@ use mathlib.Core.Logic.{_≢_}
 use mathlib.Core.Bool.{true, _&&_}
 use mathlib.Core.List.{List, [], _∷_, _++_, map}
 use Prim.Native.Nat.{ℕ, zero, suc, _+_, _-_, _*_, _/_, _%_, _^_, _≤_, _<_}
-use native.Mathlib.Nat.{zero-add, mod-lt, zero-lt-suc, div-one, zero-div, zero-mod, pow-suc, min-le-left, le-of-suc-le-suc, not-suc-le-zero}
+use native.Mathlib.Nat.{zero-add, suc-add, mod-lt, zero-lt-suc, div-one, zero-div, zero-mod, pow-suc, min-le-left, le-of-suc-le-suc, not-suc-le-zero}
 use native.Mathlib.Decide.{ℕ-discrete, decLt}
 use native.Mathlib.Omega.{arith}
 use borrow.Author.Tests.{eqb-true, eq-eqb, ne-eqb}
@@ -30,6 +30,15 @@ pub row-length : {n : ℕ} {e : List ℕ} → Row n e → length e ≡ n
 row-length end = refl
 row-length (off r) = ap suc (row-length r)
 row-length (on r) = ap suc (row-length r)
+
+pub row-zeros : (n : ℕ) → Row n (replicate n 0)
+row-zeros zero = end
+row-zeros (suc n) = off (row-zeros n)
+
+pub row-append : {n m : ℕ} {a b : List ℕ} → Row n a → Row m b → Row (n + m) (a ++ b)
+row-append {m = m} end w = rw (zero-add m) w
+row-append {m = m} (off {n = n} r) w = rw (suc-add n m) (off (row-append r w))
+row-append {m = m} (on {n = n} r) w = rw (suc-add n m) (on (row-append r w))
 
 pub row-lt : {n : ℕ} {e : List ℕ} → Row n e → (k : ℕ) → getD e k 0 < 2
 row-lt end k = omega arith

@@ -3,13 +3,13 @@ use mathlib.Core.Path.{_≡_, refl, sym, ap, ap₂, _∙_}
 use mathlib.Core.Bool.{true}
 use mathlib.Core.List.{List, [], _∷_, _++_, map}
 use Prim.Native.Nat.{ℕ, zero, suc, _+_, _-_, _*_, _/_, _%_, _^_, _≤_, _<_}
-use native.Mathlib.Nat.{mul-comm, zero-mul, add-mod-mod, div-one, pow-suc, suc-inj, suc-ne-zero}
+use native.Mathlib.Nat.{mul-comm, zero-mul, mul-zero, add-mod-mod, div-one, pow-suc, suc-inj, suc-ne-zero}
 use native.Mathlib.Omega.{arith}
 use lib.Arith.{lt-one, bin-ind}
 use lib.Bits.{bitAnd, and-shr, and-mod}
 use lib.Count.{ones-step}
 use lib.Count as count
-use lib.ListN.{length, getD}
+use lib.ListN.{length, getD, replicate}
 use Rattle.bits.specs.Xor.{_⊕_}
 use Rattle.bits.specs.Bits.{Row, end, off, on, from, bytesFor, bitAt, unpack, fillerClear, eachWith, xorRow, dot, rowProduct}
 use Rattle.bits.proofs.Xor.{Digit, low, xor-assoc, xor-self, xor-zero, zero-xor, xor-shr, xor-mod, xor-four}
@@ -51,6 +51,12 @@ dot-append (x ∷ a) (y ∷ b) c d e = ap (_⊕_ (x * y)) (dot-append a b c d (s
 dot-nil : (a : List ℕ) → dot a [] ≡ 0
 unfolding dot
 dot-nil a = dot-comm a []
+
+pub dot-zeros : (r : List ℕ) (n : ℕ) → dot r (replicate n 0) ≡ 0
+unfolding dot
+dot-zeros [] n = refl
+dot-zeros (x ∷ r) zero = refl
+dot-zeros (x ∷ r) (suc n) = ap₂ _⊕_ (mul-zero x) (dot-zeros r n) ∙ xor-self 0
 
 dot-none : (l r : List ℕ) → dot (map (λ i. 0) l) r ≡ 0
 unfolding dot

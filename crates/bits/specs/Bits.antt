@@ -42,6 +42,11 @@ withBit b k v = b / 2 ^ (k + 1) * 2 ^ (k + 1) + v * 2 ^ k + b % 2 ^ k
 unfoldable pub setBit : List ℕ → ℕ → ℕ → List ℕ
 setBit s i v = set s (i / 8) (withBit (getD s (i / 8) 0) (i % 8) (v % 2))
 
+-- the bits from bit i on become those of the list
+unfoldable pub putBits : List ℕ → ℕ → List ℕ → List ℕ
+putBits [] i s = s
+putBits (b ∷ bs) i s = putBits bs (suc i) (setBit s i b)
+
 -- the first n bits, as a list of 0 and 1
 unfoldable pub unpack : ℕ → List ℕ → List ℕ
 unpack n s = map (bitAt s) (from 0 n)
@@ -89,6 +94,10 @@ onPart a f l = take a l ++ f (drop a l)
 -- the bytes from the output's start; bytes beyond keep their contents
 unfoldable pub over : List ℕ → List ℕ → List ℕ
 over bytes out = bytes ++ drop (length bytes) out
+
+-- the w bits of s from bit b on as a packed row at the output's start; nothing changes where it has no room
+unfoldable pub rowWritten : List ℕ → ℕ → ℕ → List ℕ → List ℕ
+rowWritten s b w out = cond (leb (bytesFor w) (length out)) (over (pack (map (bitAt s) (from b w))) out) out
 
 -- two rows of n bytes, at a and at b, lie within len bytes and do not overlap
 unfoldable pub rowsApart : ℕ → ℕ → ℕ → ℕ → Bool

@@ -1,13 +1,18 @@
 // Packed rows of bits, read and written bit by bit (document 01, 'Bits').
 ghost use mathlib.Core.Path.{_≡_};
 ghost use mathlib.Core.Bool.{true};
-ghost use Prim.Native.Nat.{_%_, min};
+ghost use mathlib.Core.List.{map};
+ghost use Prim.Native.Nat.{_+_, _%_, _^_, _≤_, _<_, min};
 ghost use lib.Count.{ones};
-ghost use lib.ListN.{length, take, drop};
+ghost use lib.ListN.{length, take, drop, replicate};
 ghost use Rattle.bits.specs.Bits.{
+  from,
   bytesFor,
   bitAt,
   setBit,
+  putBits,
+  over,
+  rowWritten,
   weight as weightOf,
   fillerClear,
   wellFormed,
@@ -124,6 +129,42 @@ pub fn row_product(row: &[u8], pat: &[u8]) -> u8
         i += 1;
     }
     parity(acc)
+}
+
+// The w bits of s from bit b on become a packed row at the start of out, with zero filler; nothing where it has no room.
+pub fn write_row(out: &mut [u8], s: &[u8], b: u32, w: u32)
+    ensures { λ _. ⌜ now (out .exit) ≡ rowWritten (now (s .entry)) b w (now (out .entry)) ⌝ }
+{
+    let n = bytes_for(w as usize);
+    if out.len() < n {
+        return;
+    }
+    clear_bytes(out, n);
+    copy_bits(out, s, b as usize, w as usize);
+}
+
+// The first n bytes become 0.
+fn clear_bytes(out: &mut [u8], n: usize)
+    requires { ⌜ n ≤ length (now out) ⌝ }
+    ensures { λ _. ⌜ now (out .exit) ≡ over (replicate n 0) (now (out .entry)) ⌝ }
+{
+    let mut i = 0;
+    while i < n {
+        out[i] = 0;
+        i += 1;
+    }
+}
+
+// The w bits of s from bit b on become the first bits of out.
+fn copy_bits(out: &mut [u8], s: &[u8], b: usize, w: usize)
+    requires { ⌜ b + w < 2 ^ 64 ⌝ }
+    ensures { λ _. ⌜ now (out .exit) ≡ putBits (map (bitAt (now (s .entry))) (from b w)) 0 (now (out .entry)) ⌝ }
+{
+    let mut j = 0;
+    while j < w {
+        set_bit(out, j, bit_at(s, b + j));
+        j += 1;
+    }
 }
 
 // A byte as a usize.

@@ -4,3 +4,7 @@ pub mod Sanity
 pub mod Words
 pub mod Distance
 pub mod Uniqueness
+pub mod Openings
+pub mod Sums
+pub mod Reversed
+pub mod Decoding

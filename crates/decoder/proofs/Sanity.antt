@@ -14,8 +14,6 @@ use Rattle.bits.proofs.Lists.{and-left, and-right}
 use Rattle.bits.proofs.Rows.{xorRow-zeros}
 use Rattle.key.specs.Keys.{Key}
 use Rattle.code.specs.Code.{inCode}
-use Rattle.code.specs.PublicKey.{Matrix}
-use Rattle.code.specs.Lock.{locked}
 use Rattle.decoder.specs.Reading.{corrects, reading}
 use Rattle.decoder.proofs.Search.{search-sound, search-none, search-only, search-nothing, zeros-first}
 
@@ -29,12 +27,6 @@ pub record Corrects (k : Key) (w e : List ℕ) : Type 0 where
   pub bits : Row (k .n) e
   pub few : ones e ≤ k .t
   pub code : inCode k (xorRow w e) ≡ true
-
--- a pattern of n bits with exactly t ones that locks to the capsule s
-pub record Opens (k : Key) (rows : Matrix) (s e : List ℕ) : Type 0 where
-  pub bits : Row (k .n) e
-  pub count : ones e ≡ k .t
-  pub locks : locked rows e ≡ s
 
 module _ (k : Key) (w : List ℕ) where
   corrects-true : {e : List ℕ} → Corrects k w e → corrects k w e ≡ true

@@ -1,28 +1,21 @@
--- Under an accepted key a word has at most one reading and a capsule at most one opening: two patterns for it would differ by
--- a code word with at most 2t ones. Assumes nothing.
+-- Under an accepted key a word has at most one reading: two patterns for it would differ by a code word with at most 2t ones.
+-- Assumes nothing.
 use mathlib.Core.Path.{_≡_, refl, sym, ap, _∙_}
 use mathlib.Core.Bool.{true}
-use mathlib.Core.List.{List, [], _∷_, map}
-use mathlib.Core.Option.{some}
-use Prim.Native.Nat.{ℕ, _+_, _*_, _≤_, _<_}
+use mathlib.Core.List.{List, map}
+use Prim.Native.Nat.{ℕ, _+_, _≤_, _<_}
 use native.Mathlib.Nat.{zero-add, le-refl}
 use native.Mathlib.Omega.{arith}
-use lib.ListN.{length, drop, replicate, length-map}
 use Rattle.bits.specs.Xor.{_⊕_}
 use Rattle.bits.specs.Bits.{Row, end, off, on, ones, xorRow, eachWith, dot}
 use Rattle.bits.proofs.Xor.{xor-self, xor-eq}
 use Rattle.bits.proofs.Lists.{cons-eq}
-use Rattle.bits.proofs.Pack.{row-length}
 use Rattle.bits.proofs.Rows.{row-xorRow}
-use Rattle.bits.proofs.Product.{dot-comm, dot-xorRow}
+use Rattle.bits.proofs.Product.{dot-xorRow}
 use Rattle.key.specs.Keys.{Key}
 use Rattle.key.proofs.Accepted.{Accepted}
-use Rattle.code.specs.Code.{entry, inCode, parityRows}
-use Rattle.code.specs.PublicKey.{Matrix, echelon, publicKey}
-use Rattle.code.specs.Lock.{locked}
-use Rattle.code.proofs.PublicKey.{public-echelon, public-length}
-use Rattle.code.proofs.Identity.{locked-product, locked-code}
-use Rattle.decoder.proofs.Sanity.{Corrects, Opens}
+use Rattle.code.specs.Code.{entry, inCode}
+use Rattle.decoder.proofs.Sanity.{Corrects}
 use Rattle.decoder.proofs.Words.{code-sums, sums-code}
 use Rattle.decoder.proofs.Distance.{distance}
 
@@ -63,41 +56,3 @@ one-reading k A w e d r p q = sums-equal k A (p .bits) (q .bits) (p .few) (q .fe
   where
     same : (e : List ℕ) → Corrects k w e → (s : ℕ) → s < k .t → dot w (map (entry k s) (k .support)) ≡ dot e (map (entry k s) (k .support))
     same e p s l = xor-eq _ _ (sym (dot-xorRow r (p .bits) _) ∙ code-sums k (xorRow w e) (p .code) s l)
-
--- equal products make the products of the sum 0
-same-products : {n : ℕ} {e d : List ℕ} → Row n e → Row n d → (rs : Matrix) → map (λ r. dot r e) rs ≡ map (λ r. dot r d) rs
-    → map (λ r. dot r (xorRow e d)) rs ≡ replicate (length rs) 0
-same-products a b [] h = refl
-same-products {e} {d} a b (r ∷ rs) h =
-    let x : dot r e ≡ dot r d = cc in
-    let y : map (λ r. dot r e) rs ≡ map (λ r. dot r d) rs = cc in
-    cons-eq
-    (dot-comm r (xorRow e d) ∙ dot-xorRow a b r ∙ ap (λ (z : ℕ). z ⊕ dot d r) (dot-comm e r ∙ x ∙ dot-comm r d) ∙ xor-self (dot d r))
-    (same-products a b rs y)
-
--- two patterns that lock to one capsule differ by a code word
-pub locked-same : (k : Key) → Accepted k → (rows : Matrix) → publicKey k ≡ some rows → {e d : List ℕ} → Row (k .n) e → Row (k .n) d
-    → locked rows e ≡ locked rows d → inCode k (xorRow e d) ≡ true
-locked-same k A rows p {e} {d} a b h =
-    locked-code k rows p (A .support-length) small (row-xorRow a b) .1
-    (product (row-xorRow a b) ∙ same-products a b done (sym (product a) ∙ h ∙ product b) ∙ ap (λ (i : ℕ). replicate i 0) size)
-  where
-    small : k .m * k .t ≤ k .n
-    small = let l = A .limits .over in omega arith
-
-    done : Matrix
-    done = echelon (k .n) (parityRows k) .done
-
-    product : {c : List ℕ} → Row (k .n) c → locked rows c ≡ map (λ r. dot r c) done
-    product {c} r = locked-product k rows p (A .support-length) c (rw (row-length r) small)
-
-    size : length done ≡ k .m * k .t
-    size = sym (ap length (public-echelon k rows p .columns) ∙ length-map done (drop (k .m * k .t))) ∙ public-length k rows p
-
--- a capsule has at most one opening
-pub one-opening : (k : Key) → Accepted k → (rows : Matrix) → publicKey k ≡ some rows → (s e d : List ℕ) → Opens k rows s e → Opens k rows s d → d ≡ e
-one-opening k A rows p s e d u v =
-    code-equal k A (u .bits) (v .bits) (few (u .count)) (few (v .count)) (locked-same k A rows p (u .bits) (v .bits) (u .locks ∙ sym (v .locks)))
-  where
-    few : {x : ℕ} → x ≡ k .t → x ≤ k .t
-    few h = omega arith

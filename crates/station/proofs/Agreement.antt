@@ -7,8 +7,10 @@ use mathlib.Core.Option.{Option, none, some}
 use native.Mathlib.Omega.{arith}
 use lib.Dec.{eqb}
 use Rattle.field.specs.Numbers.{firstOf}
-use Rattle.key.specs.Keys.{Key, keyNumber}
+use Rattle.key.specs.Keys.{Key, keyNumber, unsound}
 use Rattle.code.specs.PublicKey.{Matrix, publicKey, dependent}
+use Rattle.code.specs.Publish as Publish
+use Rattle.decoder.specs.Calls as Calls
 use Rattle.station.specs.Station.{State, loaded, published, Station, fresh, Held, isEmpty, isUnpublished, heldBy, loadConditions, publishChecks, publishConditions, openConditions, readConditions, dropConditions}
 use Rattle.station.specs.Calls.{Call, load, publish, open-capsule, read-word, drop-key, conditionsOf, step, run, answered}
 use Rattle.station.specs.Ledger.{Ledger, blank, heldIn, ledgerNumber, entered, ledgerAfter, expected}
@@ -33,11 +35,11 @@ pub data Agree : Station → Ledger → Type 0 where
 
 -- then 25 does not hold, and a call's number is the same by both
 pub sound-held : (s : State) (k : Key) → keyNumber k ≡ 0 → heldBy (stationOf s k) ≡ record { missing = isEmpty s; unsound = false; unpublished = isUnpublished s; key = k }
-unfolding heldBy
+unfolding heldBy unsound
 sound-held s k h = ap (λ (x : ℕ). record { missing = isEmpty s; unsound = not (eqb x 0); unpublished = isUnpublished s; key = k }) h
 
 pub agree-number : {s : Station} {l : Ledger} → Agree s l → (c : Call) → callNumber s c ≡ ledgerNumber l c
-unfolding heldBy heldIn ledgerNumber conditionsOf loadConditions publishChecks publishConditions openConditions readConditions dropConditions fresh blank isEmpty isUnpublished firstOf
+unfolding heldBy heldIn ledgerNumber conditionsOf loadConditions publishChecks publishConditions openConditions readConditions dropConditions fresh blank isEmpty isUnpublished firstOf Publish.publishChecks Publish.publishConditions Calls.openConditions Calls.readConditions unsound
 agree-number nothing (load file) = refl
 agree-number nothing (publish out work) = refl
 agree-number nothing (open-capsule capsule out) = refl
@@ -56,13 +58,13 @@ public-rows k h = go (publicKey k) refl h
     go (some rows) e h = (rows, e)
 
 accepted-rows : (k : Key) (mark : Bool) (out work : List ℕ) → ledgerNumber (ledgerOf (some k) mark) (publish out work) ≡ 0 → (rows : Matrix) × (publicKey k ≡ some rows)
-unfolding ledgerNumber heldIn conditionsOf publishChecks publishConditions
+unfolding ledgerNumber heldIn conditionsOf publishChecks publishConditions Publish.publishChecks Publish.publishConditions
 accepted-rows k mark out work h =
     public-rows k (first-clear _ 22 _ (first-clear _ 10 _ (first-clear _ 9 _ (first-clear _ 24 _ (first-clear _ 20 _ h .1) .1) .1) .1) .0)
 
 -- they go on agreeing after an accepted call
 agree-accepted : {s : Station} {l : Ledger} → Agree s l → (c : Call) → ledgerNumber l c ≡ 0 → Agree (moved s c) (entered l c)
-unfolding moved entered ledgerNumber heldIn conditionsOf loadConditions publishChecks publishConditions openConditions readConditions dropConditions firstOf fresh blank
+unfolding moved entered ledgerNumber heldIn conditionsOf loadConditions publishChecks publishConditions openConditions readConditions dropConditions firstOf fresh blank Publish.publishChecks Publish.publishConditions Calls.openConditions Calls.readConditions
 agree-accepted nothing (load file) e = held (accepted-key file e)
 agree-accepted nothing (publish out work) e = absurd (omega arith)
 agree-accepted nothing (open-capsule capsule out) e = nothing

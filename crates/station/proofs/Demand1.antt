@@ -10,6 +10,8 @@ use Rattle.field.specs.Numbers.{firstOf}
 use Rattle.field.proofs.Numbers.{first-of, clear-of, first-append, numbered}
 use Rattle.key.specs.Keys.{conditions, fileConditions}
 use Rattle.code.specs.PublicKey.{dependent}
+use Rattle.code.specs.Publish as Publish
+use Rattle.decoder.specs.Calls as Calls
 use Rattle.station.specs.Station.{Station, Held, heldBy, loadConditions, publishChecks, publishConditions, openConditions, readConditions, dropConditions}
 use Rattle.station.specs.Calls.{Call, load, publish, open-capsule, read-word, drop-key, conditionsOf, step}
 use Rattle.station.specs.Demands.{Demand1}
@@ -17,7 +19,7 @@ use Rattle.station.proofs.StepLaws.{freed, step-number, step-stays, ste
 
 -- no call has a condition with the number 0
 pub calls-numbered : (h : Held) (c : Call) → numbered (conditionsOf h c) ≡ true
-unfolding numbered conditionsOf loadConditions publishChecks publishConditions openConditions readConditions dropConditions conditions fileConditions
+unfolding numbered conditionsOf loadConditions publishChecks publishConditions openConditions readConditions dropConditions conditions fileConditions Publish.publishChecks Publish.publishConditions Calls.openConditions Calls.readConditions
 calls-numbered h (load file) = refl
 calls-numbered h (publish out work) = refl
 calls-numbered h (open-capsule capsule out) = refl
@@ -25,7 +27,7 @@ calls-numbered h (read-word word out) = refl
 calls-numbered h drop-key = refl
 
 checks-numbered : (h : Held) (out work : List ℕ) → numbered (publishChecks h out work) ≡ true
-unfolding numbered publishChecks
+unfolding numbered publishChecks Publish.publishChecks
 checks-numbered h out work = refl
 
 only-23 : (b : Bool) (n : ℕ) → firstOf ((b, 23) ∷ []) ≡ suc n → suc n ≡ 23
@@ -35,7 +37,7 @@ only-23 false n e = absurd (omega arith)
 
 -- A refusal by another number than 23 leaves the workspace as it was.
 pub refused-work : (s : Station) (c : Call) (n : ℕ) → step s c .number ≡ suc n → (suc n ≡ 23 → ⊥) → step s c .free ≡ false
-unfolding freed conditionsOf publishConditions
+unfolding freed conditionsOf publishChecks publishConditions Publish.publishConditions
 refused-work s (load file) n e other = step-free s (load file)
 refused-work s (publish out work) n e other = step-free s (publish out work) ∙ go (eqb (firstOf checks) 0) refl
   where

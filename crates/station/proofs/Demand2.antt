@@ -9,7 +9,7 @@ use lib.Dec.{ltb}
 use lib.ListN.{length, take, drop}
 use lib.Seq.{take-at}
 use borrow.Author.Tests.{not-false, eqb-true, ltb-false, le-ltb}
-use Rattle.bits.specs.Bits.{Bytes, Row, bytesFor, unpack, pack, weight, wellFormed}
+use Rattle.bits.specs.Bits.{Bytes, Row, bytesFor, unpack, pack, weight, wellFormed, over}
 use Rattle.bits.proofs.Pack.{row-length, row-unpack, length-pack, unpack-pack, pack-unpack, well-formed, well-formed-pack}
 use Rattle.bits.proofs.Ones.{weight-pack}
 use Rattle.field.specs.Numbers.{firstOf}
@@ -17,10 +17,13 @@ use Rattle.field.proofs.Numbers.{first-clear}
 use Rattle.key.specs.Keys.{Key, keyNumber}
 use Rattle.key.proofs.Accepted.{Accepted, accepted}
 use Rattle.code.specs.PublicKey.{Matrix, publicKey, dependent, written}
-use Rattle.code.specs.Lock.{locked, lock}
+use Rattle.code.specs.Lock.{locked}
 use Rattle.code.proofs.PublicKey.{row-capsule}
 use Rattle.code.proofs.LockLaws.{public-size, lock-written, lock-accepts}
-use Rattle.station.specs.Station.{State, published, Held, isEmpty, heldBy, capsuleBits, publicBytes, workBytes, publishChecks, publishConditions, openConditions, over, Result, publishOf}
+use Rattle.code.specs.Publish.{capsuleBits, publicBytes, workBytes}
+use Rattle.code.specs.Publish as Publish
+use Rattle.decoder.specs.Calls as Calls
+use Rattle.station.specs.Station.{State, published, Held, isEmpty, heldBy, publishChecks, publishConditions, openConditions, Result, publishOf}
 use Rattle.station.specs.Calls.{publish, open-capsule, conditionsOf, step}
 use Rattle.station.specs.Demands.{at, publishResult, openResult, patternOf, capsuleOf, lockAnswer, Demand2, Locks, Decides}
 use Rattle.station.proofs.StepLaws.{unless-accepted, step-number, publish-station}
@@ -35,7 +38,7 @@ begins {n} {e} r out = take-at (pack e) (drop (length (pack e)) out) (bytesFor n
 -- a capsule that is opened is well-formed, and the output has room for its pattern
 opened : (k : Key) (capsule out : List ℕ) → step (at published k) (open-capsule capsule out) .number ≡ 0
     → (wellFormed (capsuleBits k) capsule ≡ true) × (bytesFor (k .n) ≤ length out)
-unfolding at heldBy conditionsOf openConditions
+unfolding at heldBy conditionsOf openConditions Calls.openConditions
 opened k capsule out e =
     let c21 = first-clear _ 20 _ (sym (step-number (at published k) (open-capsule capsule out)) ∙ e) in
     let c25 = first-clear _ 24 _ (c21 .1) in
@@ -66,7 +69,7 @@ module _ (k : Key) (rows : Matrix) (good : keyNumber k ≡ 0) (public : publicKe
 
   publish-accepted : (state : State) (out work : List ℕ) → isEmpty state ≡ false → publicBytes k ≤ length out → workBytes k ≤ length work
       → publishResult state k out work .number ≡ 0
-  unfolding at conditionsOf publishConditions publishChecks
+  unfolding at conditionsOf publishConditions publishChecks Publish.publishChecks Publish.publishConditions
   publish-accepted state out work h long room =
       step-number (at state k) (publish out work)
       ∙ ap (λ (x : Held). firstOf (publishConditions x out work)) (sound-held state k good)

@@ -14,7 +14,10 @@ use Rattle.field.specs.Numbers.{firstOf}
 use Rattle.key.specs.Keys.{Key, keyNumber}
 use Rattle.code.specs.PublicKey.{Matrix, publicKey}
 use Rattle.decoder.specs.Reading.{reading, opening}
-use Rattle.station.specs.Station.{State, loaded, published, Station, Held, isEmpty, isUnpublished, capsuleBits, found, isNone, openConditions, readConditions, Result, unless, gives, openOf, readOf}
+use Rattle.code.specs.Publish.{capsuleBits}
+use Rattle.decoder.specs.Calls.{found, isNone}
+use Rattle.decoder.specs.Calls as Calls
+use Rattle.station.specs.Station.{State, loaded, published, Station, Held, isEmpty, isUnpublished, openConditions, readConditions, Result, unless, gives, openOf, readOf}
 use Rattle.station.specs.Calls.{open-capsule, read-word, step}
 use Rattle.station.specs.Ledger.{Ledger, blank}
 use Rattle.station.specs.Demands.{Locks, Differs, Decides, AfterEveryList}
@@ -77,7 +80,7 @@ OpensAll s k = (rows : Matrix) × (publicKey k ≡ some rows) × ((capsule out :
 
 module _ (k : Key) (good : keyNumber k ≡ 0) where
   read-decides : (st : State) → isEmpty st ≡ false → (word out : List ℕ) → Reads (stationOf st k) k word out
-  unfolding step readOf readConditions
+  unfolding step readOf readConditions Calls.readConditions
   read-decides st h word out w long =
       found-decides (Differs k word) (reading k (unpack (k .n) word)) (reading-sound k word) (reading-complete k word) (one-reading k good word)
       13 (stationOf st k) out _ _
@@ -87,10 +90,10 @@ module _ (k : Key) (good : keyNumber k ≡ 0) where
       refl
 
   pub open-decides : (rows : Matrix) → publicKey k ≡ some rows → (capsule out : List ℕ) → Opens (stationOf published k) k rows capsule out
-  unfolding step openOf openConditions isEmpty isUnpublished
+  unfolding step openOf openConditions Calls.openConditions isEmpty isUnpublished
   open-decides rows public capsule out w long =
       let s : List ℕ = unpack (capsuleBits k) capsule in
-      found-decides (Locks k rows capsule) (opening k s) (opening-sound k rows public capsule) (opening-complete k rows public capsule)
+      found-decides (Locks k rows capsule) (opening k s) (opening-sound k good rows public capsule) (opening-complete k good rows public capsule)
       (one-opening k good rows public capsule) 12 (stationOf published k) out _ _
       (ap (λ (x : Held). firstOf (openConditions x capsule out)) (sound-held published k good)
       ∙ open-first (eqb (length capsule) (bytesFor (capsuleBits k))) (fillerClear (capsuleBits k) capsule) (ltb (length out) (bytesFor (k .n))) _

@@ -9,10 +9,12 @@ use Rattle.key.specs.Keys.{Key, keyNumber}
 use Rattle.key.proofs.Accepted.{accepted}
 use Rattle.code.specs.PublicKey.{Matrix, publicKey}
 use Rattle.decoder.specs.Reading.{reading, opening}
-use Rattle.decoder.proofs.Sanity.{Corrects, Opens}
+use Rattle.decoder.proofs.Sanity.{Corrects}
+use Rattle.decoder.proofs.Openings.{Opens}
+use Rattle.decoder.proofs.Openings as openings
 use Rattle.decoder.proofs.Sanity as decoder
 use Rattle.decoder.proofs.Uniqueness as unique
-use Rattle.station.specs.Station.{capsuleBits}
+use Rattle.code.specs.Publish.{capsuleBits}
 use Rattle.station.specs.Demands.{Locks, Differs}
 
 -- the demands' patterns are those of the decoder
@@ -32,22 +34,25 @@ module _ (k : Key) (word : List ℕ) where
   pub reading-complete : reading k (unpack (k .n) word) ≡ none → (e : List ℕ) → Differs k word e → ⊥
   reading-complete h e d = decoder.reading-complete k (unpack (k .n) word) h e (corrects k word e d)
 
--- opening finds a pattern that locks to the capsule
-module _ (k : Key) (rows : Matrix) (public : publicKey k ≡ some rows) (capsule : List ℕ) where
-  pub opening-sound : (e : List ℕ) → opening k (unpack (capsuleBits k) capsule) ≡ some e → Locks k rows capsule e
-  opening-sound e h =
-      let o : Opens k rows (unpack (capsuleBits k) capsule) e = decoder.opening-sound k rows (unpack (capsuleBits k) capsule) public e h in
-      record { row = o .bits; weight = o .count; same = o .locks }
-
-  pub opening-complete : opening k (unpack (capsuleBits k) capsule) ≡ none → (e : List ℕ) → Locks k rows capsule e → ⊥
-  opening-complete h e d = decoder.opening-complete k rows (unpack (capsuleBits k) capsule) public h e (opens k rows capsule e d)
-
--- under a key that load accepts, at most one pattern fits a word, and at most one a capsule
+-- under a key that load accepts, opening finds a pattern that locks to the capsule, and at most one fits a word or a capsule
 module _ (k : Key) (good : keyNumber k ≡ 0) where
+  module _ (rows : Matrix) (public : publicKey k ≡ some rows) (capsule : List ℕ) where
+    pub opening-sound : (e : List ℕ) → opening k (unpack (capsuleBits k) capsule) ≡ some e → Locks k rows capsule e
+    unfolding capsuleBits
+    opening-sound e h =
+        let o : Opens k rows (unpack (capsuleBits k) capsule) e = openings.opening-sound k (accepted k good) rows public (row-unpack (capsuleBits k) capsule) e h in
+        record { row = o .bits; weight = o .count; same = o .locks }
+
+    pub opening-complete : opening k (unpack (capsuleBits k) capsule) ≡ none → (e : List ℕ) → Locks k rows capsule e → ⊥
+    unfolding capsuleBits
+    opening-complete h e d =
+        openings.opening-complete k (accepted k good) rows public (row-unpack (capsuleBits k) capsule) h e (opens k rows capsule e d)
+
+    pub one-opening : (e d : List ℕ) → Locks k rows capsule e → Locks k rows capsule d → d ≡ e
+    unfolding capsuleBits
+    one-opening e d p q =
+        openings.one-opening k (accepted k good) rows public (row-unpack (capsuleBits k) capsule) e d (opens k rows capsule e p) (opens k rows capsule d q)
+
   pub one-reading : (word e d : List ℕ) → Differs k word e → Differs k word d → d ≡ e
   one-reading word e d p q =
       unique.one-reading k (accepted k good) (unpack (k .n) word) e d (row-unpack (k .n) word) (corrects k word e p) (corrects k word d q)
-
-  pub one-opening : (rows : Matrix) → publicKey k ≡ some rows → (capsule e d : List ℕ) → Locks k rows capsule e → Locks k rows capsule d → d ≡ e
-  one-opening rows public capsule e d p q =
-      unique.one-opening k (accepted k good) rows public (unpack (capsuleBits k) capsule) e d (opens k rows capsule e p) (opens k rows capsule d q)

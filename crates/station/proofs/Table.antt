@@ -7,20 +7,24 @@ use mathlib.Core.List.{List, [], _∷_, _++_, map, flatMap, zipWith}
 use mathlib.Core.Option.{some}
 use lib.ListN.{replicate}
 use Rattle.bits.specs.Xor.{_⊕_}
-use Rattle.bits.specs.Bits.{from, every, bytesFor, bitAt, unpack, number, pack, ones, weight, fillerClear, eachWith, xorRow, dot}
+use Rattle.bits.specs.Bits.{from, every, bytesFor, bitAt, unpack, number, pack, ones, weight, fillerClear, eachWith, xorRow, dot, over}
 use Rattle.field.specs.Numbers.{firstOf}
 use Rattle.field.specs.Field.{isWidth, isElement, modulusOf, polyMul, reduced, mulMod, mul, power, lastBelow, inv}
 use Rattle.field.specs.Poly.{value}
 use Rattle.poly.specs.Polynomials.{sum, same, monic, product, someBelow, someList, hasSquare}
 use Rattle.key.specs.Shapes.{inLimits}
-use Rattle.key.specs.Keys.{Key, pair, elements, parse, twoBytes, fileOf, distinct, goppaAt, conditions, fileConditions, keyNumber}
+use Rattle.key.specs.Keys.{Key, pair, elements, parse, twoBytes, fileOf, distinct, goppaAt, conditions, fileConditions, keyNumber, unsound}
 use Rattle.key.specs.Bench.{K1, K2, K1-with, K3}
 use Rattle.code.specs.Code.{entry, inCode, parityRow, parityRows}
 use Rattle.code.specs.PublicKey.{withRow, findPivot, clear, withPivot, columns, echelon, publicKey, dependent, written}
 use Rattle.code.specs.Lock.{locked, rowOf, rowsOf, lockNumber, lock}
 use Rattle.decoder.specs.Search.{orElse, firstRow}
-use Rattle.decoder.specs.Reading.{corrects, reading, opens, opening}
-use Rattle.station.specs.Station.{State, empty, loaded, published, Station, noKey, fresh, isEmpty, isUnpublished, heldBy, capsuleBits, found, isNone, loadConditions, publishChecks, publishConditions, openConditions, readConditions, dropConditions, Result, over, unless, loadOf, publishOf, gives, openOf, readOf, dropOf}
+use Rattle.decoder.specs.Reading.{corrects, reading, filled, exactly, opening}
+use Rattle.code.specs.Publish.{capsuleBits}
+use Rattle.code.specs.Publish as Publish
+use Rattle.decoder.specs.Calls.{found, isNone}
+use Rattle.decoder.specs.Calls as Calls
+use Rattle.station.specs.Station.{State, empty, loaded, published, Station, noKey, fresh, isEmpty, isUnpublished, heldBy, loadConditions, publishChecks, publishConditions, openConditions, readConditions, dropConditions, Result, unless, loadOf, publishOf, gives, openOf, readOf, dropOf}
 use Rattle.station.specs.Calls.{Call, load, publish, open-capsule, read-word, drop-key, conditionsOf, step, run}
 use Rattle.station.specs.Ledger.{blank, heldIn, ledgerNumber, entered, fed, ledgerAfter, expected}
 
@@ -211,7 +215,7 @@ Story =
 
 -- one computation for all tables
 tables-hold : Holds rows × Holds running × Holds orders × Holds remains × Story
-unfolding _⊕_ from every bytesFor bitAt unpack number pack ones weight fillerClear eachWith xorRow dot firstOf isWidth isElement modulusOf polyMul reduced mulMod mul power lastBelow inv value sum same monic product someBelow someList hasSquare inLimits pair elements parse twoBytes fileOf distinct goppaAt conditions fileConditions keyNumber K1 K2 K1-with K3 entry inCode parityRow parityRows withRow findPivot clear withPivot columns echelon publicKey dependent written locked rowOf rowsOf lockNumber lock orElse firstRow corrects reading opens opening noKey fresh isEmpty isUnpublished heldBy capsuleBits found isNone loadConditions publishChecks publishConditions openConditions readConditions dropConditions over unless loadOf publishOf gives openOf readOf dropOf conditionsOf step run blank heldIn ledgerNumber entered fed ledgerAfter expected outcome outcomeOf lockOutcome answer zeros file published-K1 rows running bad orders remains outcomes story calls flatMap zipWith
+unfolding _⊕_ from every bytesFor bitAt unpack number pack ones weight fillerClear eachWith xorRow dot firstOf isWidth isElement modulusOf polyMul reduced mulMod mul power lastBelow inv value sum same monic product someBelow someList hasSquare inLimits pair elements parse twoBytes fileOf distinct goppaAt conditions fileConditions keyNumber K1 K2 K1-with K3 entry inCode parityRow parityRows withRow findPivot clear withPivot columns echelon publicKey dependent written locked rowOf rowsOf lockNumber lock orElse firstRow corrects reading filled exactly opening unsound noKey fresh isEmpty isUnpublished heldBy capsuleBits found isNone loadConditions Publish.publishChecks Publish.publishConditions Calls.openConditions Calls.readConditions publishChecks publishConditions openConditions readConditions dropConditions over unless loadOf publishOf gives openOf readOf dropOf conditionsOf step run blank heldIn ledgerNumber entered fed ledgerAfter expected outcome outcomeOf lockOutcome answer zeros file published-K1 rows running bad orders remains outcomes story calls flatMap zipWith
 tables-hold = (refl, refl, refl, refl, (refl, refl, refl))
 
 pub rows-hold : Holds rows

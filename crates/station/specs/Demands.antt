@@ -7,13 +7,14 @@ use mathlib.Core.Bool.{true, false}
 use mathlib.Core.List.{List, [], flatMap}
 use mathlib.Core.Option.{Option, none, some}
 use lib.ListN.{length, take}
-use Rattle.bits.specs.Bits.{Bytes, Row, bytesFor, unpack, pack, ones, weight, wellFormed, xorRow}
+use Rattle.bits.specs.Bits.{Bytes, Row, bytesFor, unpack, pack, ones, weight, wellFormed, xorRow, over}
 use Rattle.field.specs.Numbers.{First, Clear}
 use Rattle.key.specs.Keys.{Key, keyNumber}
 use Rattle.code.specs.Code.{inCode}
 use Rattle.code.specs.PublicKey.{Matrix, publicKey}
 use Rattle.code.specs.Lock.{locked, lockNumber, lock}
-use Rattle.station.specs.Station.{State, empty, loaded, published, Station, fresh, isEmpty, heldBy, capsuleBits, publicBytes, workBytes, over, Result}
+use Rattle.code.specs.Publish.{capsuleBits, publicBytes, workBytes}
+use Rattle.station.specs.Station.{State, empty, loaded, published, Station, fresh, isEmpty, heldBy, Result}
 use Rattle.station.specs.Calls.{Call, load, publish, open-capsule, read-word, drop-key, conditionsOf, step, run, answered}
 use Rattle.station.specs.Ledger.{Ledger, blank, ledgerAfter, expected}
 

@@ -1,16 +1,18 @@
 -- Document 01, 'Station': the conditions of the five calls, and what each hands back, on every station, argument and buffer.
 -- Assumes nothing.
-use Prim.Native.Nat.{ℕ, zero, suc, _-_, _*_}
+use Prim.Native.Nat.{ℕ, zero, suc}
 use mathlib.Core.Bool.{Bool, true, false, not}
-use mathlib.Core.List.{List, [], _∷_, _++_}
-use mathlib.Core.Option.{Option, none, some}
-use lib.Dec.{eqb, ltb}
-use lib.ListN.{length, drop}
-use Rattle.bits.specs.Bits.{bytesFor, unpack, pack, ones, fillerClear}
+use mathlib.Core.List.{List, [], _∷_}
+use lib.Dec.{eqb}
+use Rattle.bits.specs.Bits.{unpack, pack, ones, over}
 use Rattle.field.specs.Numbers.{firstOf}
-use Rattle.key.specs.Keys.{Key, parse, fileConditions, keyNumber}
-use Rattle.code.specs.PublicKey.{publicKey, dependent, written}
+use Rattle.key.specs.Keys.{Key, parse, fileConditions, unsound}
+use Rattle.code.specs.PublicKey.{publicKey, written}
+use Rattle.code.specs.Publish.{capsuleBits}
+use Rattle.code.specs.Publish as Publish
 use Rattle.decoder.specs.Reading.{reading, opening}
+use Rattle.decoder.specs.Calls.{found}
+use Rattle.decoder.specs.Calls as Calls
 
 -- the three states of a station
 pub data State : Type 0 where
@@ -51,28 +53,8 @@ isUnpublished published = false
 -- of a station: 25 holds where load would not accept the kept key
 unfoldable pub heldBy : Station → Held
 heldBy s =
-    let bad : Bool = not (eqb (keyNumber (s .key)) 0) in
+    let bad : Bool = unsound (s .key) in
     record { missing = isEmpty (s .state); unsound = bad; unpublished = isUnpublished (s .state); key = s .key }
-
--- the bits of a capsule
-unfoldable pub capsuleBits : Key → ℕ
-capsuleBits k = k .m * k .t
-
--- the bytes of the public key, and of the workspace in which it is made
-abbrev pub publicBytes : Key → ℕ
-publicBytes k = capsuleBits k * bytesFor (k .n - capsuleBits k)
-
-abbrev pub workBytes : Key → ℕ
-workBytes k = capsuleBits k * bytesFor (k .n)
-
--- the pattern that is found, and whether none is
-unfoldable pub found : Option (List ℕ) → List ℕ
-found none = []
-found (some e) = e
-
-unfoldable pub isNone : Option (List ℕ) → Bool
-isNone none = true
-isNone (some e) = false
 
 -- 22, then 1 to 7 of the key file
 unfoldable pub loadConditions : Held → List ℕ → List (Bool × ℕ)
@@ -80,36 +62,19 @@ loadConditions h file = (not (h .missing), 22) ∷ fileConditions file
 
 -- 21, 25, 10, 11: once they have passed, the workspace's contents are free
 unfoldable pub publishChecks : Held → List ℕ → List ℕ → List (Bool × ℕ)
-publishChecks h out work =
-    (h .missing, 21) ∷
-    (h .unsound, 25) ∷
-    (ltb (length out) (publicBytes (h .key)), 10) ∷
-    (ltb (length work) (workBytes (h .key)), 11) ∷ []
+publishChecks h out work = (h .missing, 21) ∷ Publish.publishChecks (h .unsound) (h .key) out work
 
--- and 23
+-- 21, 25, 10, 11, 23
 unfoldable pub publishConditions : Held → List ℕ → List ℕ → List (Bool × ℕ)
-publishConditions h out work = publishChecks h out work ++ ((dependent (h .key), 23) ∷ [])
+publishConditions h out work = (h .missing, 21) ∷ Publish.publishConditions (h .unsound) (h .key) out work
 
 -- 21, 25, 24, 8, 9, 10, 13
 unfoldable pub openConditions : Held → List ℕ → List ℕ → List (Bool × ℕ)
-openConditions h capsule out =
-    (h .missing, 21) ∷
-    (h .unsound, 25) ∷
-    (h .unpublished, 24) ∷
-    (not (eqb (length capsule) (bytesFor (capsuleBits (h .key)))), 8) ∷
-    (not (fillerClear (capsuleBits (h .key)) capsule), 9) ∷
-    (ltb (length out) (bytesFor (h .key .n)), 10) ∷
-    (isNone (opening (h .key) (unpack (capsuleBits (h .key)) capsule)), 13) ∷ []
+openConditions h capsule out = (h .missing, 21) ∷ Calls.openConditions (h .unsound) (h .unpublished) (h .key) capsule out
 
 -- 21, 25, 8, 9, 10, 14
 unfoldable pub readConditions : Held → List ℕ → List ℕ → List (Bool × ℕ)
-readConditions h word out =
-    (h .missing, 21) ∷
-    (h .unsound, 25) ∷
-    (not (eqb (length word) (bytesFor (h .key .n))), 8) ∷
-    (not (fillerClear (h .key .n) word), 9) ∷
-    (ltb (length out) (bytesFor (h .key .n)), 10) ∷
-    (isNone (reading (h .key) (unpack (h .key .n) word)), 14) ∷ []
+readConditions h word out = (h .missing, 21) ∷ Calls.readConditions (h .unsound) (h .key) word out
 
 -- 21
 unfoldable pub dropConditions : Held → List (Bool × ℕ)
@@ -123,10 +88,6 @@ pub record Result : Type 0 where
   pub output : List ℕ
   pub count : ℕ
   pub free : Bool
-
--- the bytes from the output's start; bytes beyond keep their contents
-unfoldable pub over : List ℕ → List ℕ → List ℕ
-over bytes out = bytes ++ drop (length bytes) out
 
 -- a refusal returns its number and changes nothing
 unfoldable pub unless : ℕ → Station → List ℕ → Result → Result
