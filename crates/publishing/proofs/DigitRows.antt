@@ -6,15 +6,15 @@ use native.Mathlib.Nat.{zero-add, add-mul, mul-comm, mul-le-mul-right, le-of-eq,
 use native.Mathlib.Omega.{arith}
 use lib.ListN.{length, getD, take, length-map}
 use lib.Seq.{length-take-le, drop-at}
-use Rattle.bits.specs.Bits.{Row, end, from, bytesFor, unpack}
+use Rattle.bits.specs.Bits.{Row, end, from, bytesFor, putBits, unpack}
 use Rattle.bits.proofs.Xor.{low}
 use Rattle.bits.proofs.Lists.{from-add}
 use Rattle.bits.proofs.Pack.{row-cons, bytes-enough}
+use Rattle.bits.proofs.PutBits.{unpack-putBits}
 use Rattle.code.specs.PublicKey.{Matrix}
 use Rattle.code.specs.Lock.{rowsOf}
 use Rattle.elimination.proofs.Flat.{rows-in, next-row, rows-add, rows-front}
-use Rattle.publishing.specs.Rows.{putBits, digitRow, digitRows}
-use Rattle.publishing.proofs.PutBits.{unpack-putBits}
+use Rattle.publishing.specs.Rows.{digitRow, digitRows}
 
 pub length-digitRow : (p : List ℕ) (k : ℕ) → length (digitRow p k) ≡ length p
 unfolding digitRow

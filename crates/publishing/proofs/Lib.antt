@@ -1,5 +1,5 @@
-pub mod PutBits
 pub mod WrittenRows
 pub mod DigitRows
 pub mod Entries
 pub mod Checks
+pub mod Made

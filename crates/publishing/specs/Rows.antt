@@ -1,14 +1,9 @@
--- Rows of bits as they are written into lent bytes. Assumes nothing.
-use Prim.Native.Nat.{ℕ, suc, _/_, _%_, _^_}
-use mathlib.Core.List.{List, [], _∷_, map}
+-- The rows that the digits of a list of numbers are; a key by its parts. Assumes nothing.
+use Prim.Native.Nat.{ℕ, _/_, _%_, _^_}
+use mathlib.Core.List.{List, map}
 use lib.ListN.{length}
-use Rattle.bits.specs.Bits.{from, setBit}
+use Rattle.bits.specs.Bits.{from}
 use Rattle.key.specs.Keys.{Key}
-
--- the bits from bit i on become those of the list
-unfoldable pub putBits : List ℕ → ℕ → List ℕ → List ℕ
-putBits [] i s = s
-putBits (b ∷ bs) i s = putBits bs (suc i) (setBit s i b)
 
 -- digit k of each number
 unfoldable pub digitRow : List ℕ → ℕ → List ℕ

@@ -3,11 +3,11 @@ ghost use mathlib.Core.Path.{_≡_};
 ghost use mathlib.Core.Bool.{true};
 ghost use Prim.Native.Nat.{_*_, _≤_, _<_};
 ghost use lib.ListN.{length, take};
-ghost use Rattle.bits.specs.Bits.{bytesFor};
+ghost use Rattle.bits.specs.Bits.{bytesFor, putBits};
 ghost use Rattle.field.specs.Field.{isWidth};
 ghost use Rattle.code.specs.Code.{parityRows};
 ghost use Rattle.code.specs.Lock.{rowsOf};
-ghost use Rattle.publishing.specs.Rows.{putBits, digitRow, digitRows, keyOf};
+ghost use Rattle.publishing.specs.Rows.{digitRow, digitRows, keyOf};
 
 // Digit k of the first n numbers of p, bit after bit from the start of row.
 fn digit_row(row: &mut [u8], p: &[u16], n: usize, k: u8)
@@ -58,7 +58,14 @@ fn parity_rows(work: &mut [u8], m: u8, support: &[u16], g: &[u16])
 }
 
 // H of a kept key, from the first n and t numbers of its arrays.
-pub fn key_rows<'a>(work: &mut [u8], m: u8, n: usize, t: usize, support: &'a [u16; 8192], g: &'a [u16; 128])
+pub fn key_rows<'a>(
+    work: &mut [u8],
+    m: u8,
+    n: usize,
+    t: usize,
+    support: &'a [u16; 8192],
+    g: &'a [u16; 128],
+)
     requires { ⌜ (isWidth m ≡ true) × (n ≤ 8192) × (t ≤ 128) × (m * t * bytesFor n ≤ length (now work)) ⌝ }
     ensures { λ _. ⌜ rowsOf (m * t) n (now (work .exit)) ≡ parityRows (keyOf m (take n (now (support .entry))) (take t (now (g .entry)))) ⌝ }
 {

@@ -7,9 +7,9 @@ use borrow.Author.Needs.{needs}
 use lib.Bits.{and-le-r, and-mask}
 use lib.ListN.{length, getD, take, drop}
 use lib.Seq.{length-take-le}
-use Rattle.bits.specs.Bits.{setBit}
-use Rattle.publishing.specs.Rows.{putBits, digitRow}
-use Rattle.publishing.proofs.PutBits.{put-next, put-end, length-putBits}
+use Rattle.bits.specs.Bits.{setBit, putBits}
+use Rattle.publishing.specs.Rows.{digitRow}
+use Rattle.bits.proofs.PutBits.{put-next, put-end, length-putBits}
 use Rattle.publishing.proofs.DigitRows.{length-digitRow, digitRow-take}
 use Rattle.publishing.proofs.parity.digit_row.Statement.{statement}
 use Rattle.publishing.proofs.parity.digit_row.Tie as tie

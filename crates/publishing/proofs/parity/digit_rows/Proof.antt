@@ -6,11 +6,11 @@ use native.Mathlib.Nat.{zero-mul}
 use native.Mathlib.Omega.{arith}
 use borrow.Rule.Slice.PartMut.{same-len-mid}
 use lib.ListN.{length, take, drop, length-drop}
-use Rattle.bits.specs.Bits.{bytesFor, unpack}
+use Rattle.bits.specs.Bits.{bytesFor, putBits, unpack}
 use Rattle.code.specs.PublicKey.{Matrix}
 use Rattle.code.specs.Lock.{rowsOf}
 use Rattle.elimination.proofs.Flat.{rows-in, next-row, rows-one, part-all, part-back}
-use Rattle.publishing.specs.Rows.{putBits, digitRow, digitRows}
+use Rattle.publishing.specs.Rows.{digitRow, digitRows}
 use Rattle.publishing.proofs.DigitRows.{unpack-digits, digitRows-none, digitRows-next, rows-placed}
 use Rattle.publishing.proofs.parity.digit_rows.Statement.{statement}
 use Rattle.publishing.proofs.parity.digit_rows.Tie as tie

@@ -5,8 +5,9 @@ use Prim.Native.Nat.{ℕ, _+_, _-_, _*_, _≤_}
 use native.Mathlib.Nat.{zero-mul, add-zero}
 use native.Mathlib.Omega.{arith}
 use borrow.Rule.Slice.PartMut.{same-len-mid}
-use lib.ListN.{length, take, length-drop}
-use Rattle.bits.specs.Bits.{bytesFor, over}
+use lib.ListN.{length, take, drop, length-drop}
+use Rattle.bits.specs.Bits.{bytesFor, over, rowWritten}
+use Rattle.bits.proofs.PutBits.{written-row}
 use Rattle.elimination.proofs.Flat.{rows-in, next-row, part-all, part-back}
 use Rattle.publishing.proofs.WrittenRows.{tails, tails-none, tails-over, row-place, bytes-small}
 use Rattle.publishing.proofs.rows.write_rows.Statement.{statement}
@@ -60,13 +61,17 @@ part-write-row-end c =
     let e = rows-in (c .before .loop .r) (a .rows) (bytesFor (a .n - a .rows)) (omega arith) in
     omega arith
 
-write-row-requires : tie.Need-write-row-requires Inv-loop μ-loop
-write-row-requires c κs =
-    let l = c .before .before .loop in
+cast-write-row : tie.Need-cast-write-row Inv-loop μ-loop
+cast-write-row c =
     let a = c .before .before .before .before .before .before .before .args in
-    let e = rows-in (l .r) (a .rows) (bytesFor (a .n - a .rows)) (omega arith) in
-    let f = row-place (a .rows) (a .n) (l .r) (omega arith) (omega arith) (omega arith) in
-    (omega arith, rw (part-all (l .at) (l .out), length-drop (l .at) (l .out)) (omega arith))
+    let f = row-place (a .rows) (a .n) (c .before .before .loop .r) (omega arith) (omega arith) (omega arith) in
+    omega arith
+
+cast-write-row-2 : tie.Need-cast-write-row-2 Inv-loop μ-loop
+cast-write-row-2 c = omega arith
+
+write-row-requires : tie.Need-write-row-requires Inv-loop μ-loop
+write-row-requires c κs = tt
 
 add-at : tie.Need-add-at Inv-loop μ-loop
 add-at c =
@@ -93,6 +98,7 @@ loop-again c =
     let q = c .before .before .write-row in
     let size : ℕ = bytesFor (a .n - a .rows) in
     let step : ℕ = 8 * bytesFor (a .n) in
+    let e = rows-in (l .r) (a .rows) size (omega arith) in
     let s = next-row (l .r) size in
     let t = next-row (l .r) step in (
       omega arith,
@@ -100,7 +106,9 @@ loop-again c =
       omega arith,
       same-len-mid (l .at) (length (l .out) - l .at) (l .out) (q .last .0) (q .kept .0) ∙ l .inv .3,
       part-back (l .at) (l .out) (q .last .0)
-          ∙ ap (λ (y : List ℕ). take (l .at) (l .out) ++ y) (q .ensures ∙ ap (over _) (part-all (l .at) (l .out)))
+          ∙ ap (λ (y : List ℕ). take (l .at) (l .out) ++ y) (q .ensures
+          ∙ ap (rowWritten (a .work .now) (l .base) (a .n - a .rows)) (part-all (l .at) (l .out))
+          ∙ written-row (a .work .now) (l .base) (a .n - a .rows) (drop (l .at) (l .out)) (rw (length-drop (l .at) (l .out)) (omega arith)))
           ∙ tails-over (a .rows) (a .n) (a .work .now) (l .r) (l .at) (l .base) (l .out) (a .out .now) (omega arith) (l .inv .1) (l .inv .2) (l .inv .4),
     )
 
@@ -128,6 +136,8 @@ write-rows-spec =
     sub-write-row
     part-write-row-start
     part-write-row-end
+    cast-write-row
+    cast-write-row-2
     write-row-requires
     add-at
     add-base
