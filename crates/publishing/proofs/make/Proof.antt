@@ -1,8 +1,7 @@
 -- Rows of H, eliminated: T is the columns behind the first m·t, where these are independent. Assumes nothing.
-use mathlib.Core.Path.{_≡_, sym, ap, ap₂, _∙_}
+use mathlib.Core.Path.{_≡_, sym, ap, _∙_}
 use mathlib.Core.List.{List}
-use Prim.Native.Nat.{ℕ, _-_, _*_, _≤_}
-use native.Mathlib.Nat.{le-of-lt}
+use Prim.Native.Nat.{ℕ, _*_, _≤_}
 use native.Mathlib.Omega.{arith}
 use borrow.Author.Needs.{needs}
 use borrow.Author.Tests.{not-true, not-false}
@@ -74,7 +73,7 @@ write-rows-requires c κs =
     let k = b .args .t1 in
     let f = checks-clear (kept k) _ _ (b .pre) in
     let z : Sizes (kept k) = sizes (kept k) (f .0) in
-    (le-of-lt (z .rows), z .columns, f .1)
+    (omega (arith, z .rows), z .columns, omega (arith, f .1))
 
 same-length-2 : tie.Need-same-length-2
 same-length-2 c = search needs

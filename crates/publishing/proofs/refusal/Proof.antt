@@ -1,9 +1,8 @@
 -- The tests in order. Assumes nothing.
-use mathlib.Core.Path.{_≡_, sym, ap, ap₂, _∙_}
-use Prim.Native.Nat.{ℕ, _-_, _*_, _≤_}
+use mathlib.Core.Path.{_≡_, sym, ap, _∙_}
+use Prim.Native.Nat.{_-_, _*_}
 use native.Mathlib.Omega.{arith}
 use borrow.Author.Needs.{needs}
-use Rattle.bits.specs.Bits.{bytesFor}
 use Rattle.key.specs.Keys.{keyNumber}
 use Rattle.key.specs.Kept.{kept}
 use Rattle.publishing.proofs.Checks.{Sizes, sizes, product-small, check-key, check-output, check-work, check-none}

@@ -1,11 +1,10 @@
 -- The first n and t numbers are those of the lent parts. Assumes nothing.
-use mathlib.Core.Path.{_≡_, sym, ap, ap₂, _∙_}
-use Prim.Native.Nat.{ℕ, _*_, _≤_}
+use mathlib.Core.Path.{_≡_, sym, ap₂, _∙_}
+use Prim.Native.Nat.{ℕ, _*_}
 use native.Mathlib.Omega.{arith}
 use borrow.Author.Needs.{needs}
-use lib.ListN.{length, take}
+use lib.ListN.{length}
 use lib.Seq.{length-take-le}
-use Rattle.bits.specs.Bits.{bytesFor}
 use Rattle.code.specs.Lock.{rowsOf}
 use Rattle.publishing.proofs.parity.key_rows.Statement.{statement}
 use Rattle.publishing.proofs.parity.key_rows.Tie as tie
