@@ -1,23 +1,21 @@
--- Rows of n bits in a list of bytes: of a list in two parts, of its front, and of a row with another added. Assumes nothing.
+-- Rows of n bits in a list of bytes: one by one, in a list's front, in a part that is lent, copied and moved. Assumes nothing.
 use mathlib.Core.Path.{_≡_, refl, sym, ap, ap₂, _∙_}
 use mathlib.Core.List.{List, [], _∷_, _++_, map, map-append, append-nil, append-assoc}
 use borrow.Rule.Slice.PartMut.{putMid}
 use Prim.Native.Nat.{ℕ, zero, suc, _+_, _-_, _*_, _/_, _%_, _^_, _≤_, _<_}
-use native.Mathlib.Nat.{zero-add, zero-mul, one-mul, suc-mul, add-mul, add-zero, add-suc, add-comm, le-trans, le-of-eq, mul-le-mul-right}
+use native.Mathlib.Nat.{zero-add, zero-mul, one-mul, suc-mul, add-mul, add-suc, add-comm, le-trans, le-of-eq, mul-le-mul-right}
 use native.Mathlib.Numerals.{add-one}
 use native.Mathlib.Omega.{arith}
 use lib.ListN.{length, getD, take, drop, set, length-map, length-drop, length-append, List·getD-append, take-append-drop, drop-of-length-le}
 use lib.Seq.{getD-take, drop-drop, drop-append-le, drop-at, take-at, take-all, drop-cons, set-at, set-split, take-set-le, length-take-le, append-snoc, take-suc}
-use Rattle.bits.specs.Xor.{_⊕_}
-use Rattle.bits.specs.Bits.{from, bytesFor, bitAt, unpack, eachWith, xorRow}
-use Rattle.bits.proofs.Xor.{Digit, off, on}
+use Rattle.bits.specs.Bits.{from, bytesFor, bitAt, unpack}
 use Rattle.bits.proofs.Lists.{length-from, from-add}
 use Rattle.bits.proofs.Pack.{unpack-ext, byte-below}
 use Rattle.code.specs.PublicKey.{Matrix}
 use Rattle.code.specs.Lock.{rowOf, rowsOf}
 use Rattle.elimination.specs.Elimination.{movedUp, toFront}
 
--- row r of more rows lies within them
+-- indices of rows of b bytes: row r of more rows lies within them
 pub rows-in : (r rows b : ℕ) → r < rows → r * b + b ≤ rows * b
 rows-in r rows b h = le-trans (le-of-eq (sym (suc-mul r b))) (mul-le-mul-right b h)
 
@@ -26,6 +24,9 @@ row-room r rows n b len e h l = rw e (le-trans (rows-in r rows (bytesFor n) h) l
 
 pub next-row : (r b : ℕ) → r * b + b ≡ (r + 1) * b
 next-row r b = sym (ap (λ (x : ℕ). x * b) (add-one r) ∙ suc-mul r b)
+
+pub rows-split : (i rows b : ℕ) → i ≤ rows → i * b + (rows - i) * b ≡ rows * b
+rows-split i rows b h = let e : i + (rows - i) ≡ rows = omega arith in sym (add-mul i (rows - i) b) ∙ ap (λ (k : ℕ). k * b) e
 
 -- a row of at most 8192 bits
 pub row-size : (n : ℕ) → n ≤ 8192 → bytesFor n ≤ 1024
@@ -73,17 +74,6 @@ rows-one n w =
     ap (λ (r : List ℕ). r ∷ [])
     (unpack-take n (bytesFor n) (drop (0 * bytesFor n) w) (omega arith) ∙ ap (λ (k : ℕ). unpack n (drop k w)) (zero-mul (bytesFor n)))
 
--- one byte more, copied
-pub copied-next : (i : ℕ) (s d : List ℕ) → i < length s → i < length d
-    → set (take i s ++ drop i d) i (getD s i 0) ≡ take (i + 1) s ++ drop (i + 1) d
-copied-next i s d h k =
-    let rest : List ℕ = drop (suc i) d in
-    ap (λ (r : List ℕ). set (take i s ++ r) i (getD s i 0)) (drop-cons d i 0 k)
-    ∙ set-at (take i s) (getD d i 0) rest (getD s i 0) i (length-take-le i s (omega arith))
-    ∙ sym (append-snoc (take i s) (getD s i 0) rest)
-    ∙ ap (λ (r : List ℕ). r ++ rest) (sym (take-suc s i 0 h))
-    ∙ ap (λ (j : ℕ). take j s ++ drop j d) (sym (add-one i))
-
 pub rows-cons : (k n : ℕ) (w : List ℕ) → rowsOf (suc k) n w ≡ unpack n w ∷ rowsOf k n (drop (bytesFor n) w)
 rows-cons k n w =
     let e : suc k ≡ 1 + k = omega arith in
@@ -92,6 +82,10 @@ rows-cons k n w =
 
 pub rows-snoc : (k n : ℕ) (w : List ℕ) → rowsOf (k + 1) n w ≡ rowsOf k n w ++ (unpack n (drop (k * bytesFor n) w) ∷ [])
 rows-snoc k n w = rows-add k 1 n w ∙ ap (λ (xs : Matrix). rowsOf k n w ++ xs) (rows-one n (drop (k * bytesFor n) w))
+
+pub length-rows : (k n : ℕ) (w : List ℕ) → length (rowsOf k n w) ≡ k
+unfolding rowsOf
+length-rows k n w = length-map (from 0 k) (λ r. unpack n (rowOf n w r)) ∙ length-from 0 k
 
 -- rows that lie in the front of a list
 pub rows-append : (k n : ℕ) (a c : List ℕ) → k * bytesFor n ≤ length a → rowsOf k n (a ++ c) ≡ rowsOf k n a
@@ -119,6 +113,17 @@ pub part-back : (at : ℕ) (l y : List ℕ) → putMid at (length l - at) l y �
 part-back at l y =
     ap (λ (t : List ℕ). take at l ++ (y ++ t)) (drop-of-length-le (drop at l) {i = length l - at} (omega (arith, length-drop at l)))
     ∙ ap (λ (t : List ℕ). take at l ++ t) (append-nil y)
+
+-- one byte more, copied
+pub copied-next : (i : ℕ) (s d : List ℕ) → i < length s → i < length d
+    → set (take i s ++ drop i d) i (getD s i 0) ≡ take (i + 1) s ++ drop (i + 1) d
+copied-next i s d h k =
+    let rest : List ℕ = drop (suc i) d in
+    ap (λ (r : List ℕ). set (take i s ++ r) i (getD s i 0)) (drop-cons d i 0 k)
+    ∙ set-at (take i s) (getD d i 0) rest (getD s i 0) i (length-take-le i s (omega arith))
+    ∙ sym (append-snoc (take i s) (getD s i 0) rest)
+    ∙ ap (λ (r : List ℕ). r ++ rest) (sym (take-suc s i 0 h))
+    ∙ ap (λ (j : ℕ). take j s ++ drop j d) (sym (add-one i))
 
 -- a byte moved up
 pub moved-next : (i b : ℕ) (w : List ℕ) → i + 1 + b ≤ length w → movedUp i b (set w (i + b) (getD w i 0)) ≡ movedUp (i + 1) b w
@@ -165,10 +170,6 @@ front-rest k b m w h l =
     ∙ ap (drop (m - (k + b))) (drop-at (x ++ y) z (k + b) f)
     ∙ drop-drop (m - (k + b)) (k + b) w
     ∙ ap (λ (i : ℕ). drop i w) e
-
-pub length-rows : (k n : ℕ) (w : List ℕ) → length (rowsOf k n w) ≡ k
-unfolding rowsOf
-length-rows k n w = length-map (from 0 k) (λ r. unpack n (rowOf n w r)) ∙ length-from 0 k
 
 -- row i of a workspace: its length, and the row copied to the front of another list
 module _ (i rows n : ℕ) (w : List ℕ) (within : rows * bytesFor n ≤ length w) (less : i < rows) where

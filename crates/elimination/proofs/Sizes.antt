@@ -1,6 +1,6 @@
 -- The sizes of a workspace: when they fit, and when not. Assumes nothing.
-use mathlib.Core.Path.{_≡_, refl, sym, ap, _∙_}
-use mathlib.Core.Bool.{Bool, true, false, _&&_}
+use mathlib.Core.Path.{_≡_, ap, _∙_}
+use mathlib.Core.Bool.{true, false, _&&_, and-false}
 use mathlib.Core.List.{List}
 use Prim.Native.Nat.{ℕ, _*_, _≤_, _<_}
 use native.Mathlib.Nat.{le-trans, mul-le-mul-left, mul-le-mul-right}
@@ -16,10 +16,6 @@ use Rattle.elimination.proofs.Flat.{row-size}
 
 pub sizes-le : (rows n b : ℕ) → rows ≤ n → n ≤ 8192 → b ≡ bytesFor n → rows * b ≤ 8192 * 1024
 sizes-le rows n b h l e = rw e (le-trans (mul-le-mul-right (bytesFor n) (le-trans h l)) (mul-le-mul-left 8192 (row-size n l)))
-
-and-false : (p : Bool) → p && false ≡ false
-and-false true = refl
-and-false false = refl
 
 module _ (rows n : ℕ) (w : List ℕ) where
   pub more-rows : n < rows → fits rows n w ≡ false

@@ -1,9 +1,8 @@
 -- The workspace between two columns, and the columns' steps on it. Assumes nothing.
 use mathlib.Core.Path.{_≡_, refl, sym, ap, ap₂, _∙_}
-use mathlib.Core.Bool.{Bool, true, false}
+use mathlib.Core.Bool.{true, false}
 use mathlib.Core.List.{List, [], _∷_, _++_, map}
-use Prim.Native.Nat.{ℕ, zero, suc, _+_, _-_, _*_, _≤_, _<_}
-use native.Mathlib.Nat.{add-mul}
+use Prim.Native.Nat.{ℕ, _+_, _-_, _*_, _≤_, _<_}
 use native.Mathlib.Omega.{arith}
 use lib.ListN.{length, take, drop, take-append-drop}
 use lib.Seq.{length-take-le, drop-at, drop-drop}
@@ -12,8 +11,8 @@ use Rattle.bits.specs.Bits.{from, bytesFor, unpack}
 use Rattle.bits.proofs.Lists.{from-add}
 use Rattle.code.specs.PublicKey.{Matrix, findPivot, clear, Echelon, withPivot}
 use Rattle.code.specs.Lock.{rowOf, rowsOf}
-use Rattle.elimination.specs.Elimination.{firstRow, stage, next}
-use Rattle.elimination.proofs.Flat.{rows-in, next-row, rows-snoc, rows-front, unpack-take, part-all, part-back}
+use Rattle.elimination.specs.Elimination.{firstRow, stage, pivoted, stepped, next}
+use Rattle.elimination.proofs.Flat.{rows-in, next-row, rows-split, rows-snoc, rows-front, unpack-take, part-all, part-back}
 
 -- three equal parts
 echelon-eq : {x y : Matrix} {u v : Matrix} {p q : List ℕ} → x ≡ y → u ≡ v → p ≡ q
@@ -23,9 +22,6 @@ echelon-eq e f g = cc
 from-snoc : (i : ℕ) → from 0 (i + 1) ≡ from 0 i ++ (i ∷ [])
 unfolding from
 from-snoc i = from-add 0 i 1 ∙ ap (λ (k : ℕ). from 0 i ++ (k ∷ [])) (omega arith)
-
-pub rows-split : (i rows b : ℕ) → i ≤ rows → i * b + (rows - i) * b ≡ rows * b
-rows-split i rows b h = let e : i + (rows - i) ≡ rows = omega arith in sym (add-mul i (rows - i) b) ∙ ap (λ (k : ℕ). k * b) e
 
 -- a part that starts at row i is lent and comes back as y, with what lies past the rows as it was
 past-rows : (i rows b : ℕ) (w y : List ℕ) → i ≤ rows → rows * b ≤ length w
@@ -56,9 +52,8 @@ module _ (i rows n : ℕ) (t w w₁ z : List ℕ) (within : rows * bytesFor n �
       ap (λ (k : ℕ). drop k w₁) (sym (next-row i (bytesFor n))) ∙ sym (drop-drop (bytesFor n) (i * bytesFor n) w₁)
       ∙ ap (drop (bytesFor n)) kept
 
-  pub around-stage : stage (i + 1) rows n (take ((i + 1) * bytesFor n) w₁ ++ z)
-      ≡ withPivot i (stage i rows n w) (firstRow true (rows - i) n (drop (i * bytesFor n) w))
-  unfolding stage withPivot firstRow
+  pub around-stage : stage (i + 1) rows n (take ((i + 1) * bytesFor n) w₁ ++ z) ≡ pivoted i rows n w
+  unfolding pivoted stage withPivot firstRow
   around-stage =
       let b : ℕ = bytesFor n in
       let at : ℕ = (i + 1) * b in
@@ -105,21 +100,20 @@ module _ (i rows n b : ℕ) (w y : List ℕ) (size : b ≡ bytesFor n) (within :
       ∙ past-rows i rows (bytesFor n) w y (omega arith) within (e ∙ ap (drop ((rows - i) * bytesFor n)) lent-is)
 
   pub lift-missing : y ≡ lent → findPivot i (rowsOf (rows - i) n lent) ≡ firstRow false (rows - i) n y
-      → withPivot i (stage i rows n w) (findPivot i (stage i rows n w .rest)) ≡ stage (next false i) rows n after
-  unfolding stage withPivot firstRow next
+      → stage (next false i) rows n after ≡ stepped i rows n w
+  unfolding stepped stage withPivot firstRow next
   lift-missing e f =
-      ap (withPivot i (stage i rows n w)) (ap (λ (l : List ℕ). findPivot i (rowsOf (rows - i) n l)) (sym lent-is) ∙ f)
-      ∙ ap (stage i rows n) (sym (after-is ∙ ap (λ (l : List ℕ). take (i * bytesFor n) w ++ l) (e ∙ lent-is) ∙ take-append-drop (i * bytesFor n) w))
+      sym (ap (withPivot i (stage i rows n w)) (ap (λ (l : List ℕ). findPivot i (rowsOf (rows - i) n l)) (sym lent-is) ∙ f)
+      ∙ ap (stage i rows n) (sym (after-is ∙ ap (λ (l : List ℕ). take (i * bytesFor n) w ++ l) (e ∙ lent-is) ∙ take-append-drop (i * bytesFor n) w)))
 
   pub lift-pivot : (u : List ℕ) → findPivot i (rowsOf (rows - i) n lent) ≡ firstRow true (rows - i) n y
-      → stage (i + 1) rows n u ≡ withPivot i (stage i rows n after) (firstRow true (rows - i) n (drop (i * bytesFor n) after))
-      → withPivot i (stage i rows n w) (findPivot i (stage i rows n w .rest)) ≡ stage (next true i) rows n u
-  unfolding stage withPivot firstRow next
+      → stage (i + 1) rows n u ≡ pivoted i rows n after → stage (next true i) rows n u ≡ stepped i rows n w
+  unfolding pivoted stepped stage withPivot firstRow next
   lift-pivot u f e =
       let p : List ℕ = unpack n y in
-      let front : rowsOf i n w ≡ rowsOf i n after =
-      sym (ap (rowsOf i n) after-is ∙ rows-front i n (i * bytesFor n) w y (omega arith) room-before) in
-      ap (withPivot i (stage i rows n w)) (ap (λ (l : List ℕ). findPivot i (rowsOf (rows - i) n l)) (sym lent-is) ∙ f)
+      let front : rowsOf i n after ≡ rowsOf i n w =
+      ap (rowsOf i n) after-is ∙ rows-front i n (i * bytesFor n) w y (omega arith) room-before in
+      e
+      ∙ ap (λ (l : List ℕ). withPivot i (stage i rows n after) (firstRow true (rows - i) n l)) after-rest
       ∙ echelon-eq (ap (λ (xs : Matrix). map (clear i p) xs ++ (p ∷ [])) front) refl refl
-      ∙ ap (λ (l : List ℕ). withPivot i (stage i rows n after) (firstRow true (rows - i) n l)) (sym after-rest)
-      ∙ sym e
+      ∙ ap (withPivot i (stage i rows n w)) (sym f ∙ ap (λ (l : List ℕ). findPivot i (rowsOf (rows - i) n l)) lent-is)

@@ -6,7 +6,7 @@ use lib.Dec.{eqb, leb}
 use lib.ListN.{length, getD, take, drop}
 use Rattle.bits.specs.Bits.{from, bytesFor, bitAt, unpack, xorRow}
 use Rattle.poly.specs.Polynomials.{same}
-use Rattle.code.specs.PublicKey.{Matrix, Pivot, missing, pivot, Echelon, echelon}
+use Rattle.code.specs.PublicKey.{Matrix, Pivot, missing, pivot, findPivot, Echelon, withPivot, echelon}
 use Rattle.code.specs.Lock.{rowsOf}
 
 -- the sizes: not more rows than columns, at most 8192 columns, and the rows lie in the workspace
@@ -42,6 +42,14 @@ firstRow true k n w = pivot (unpack n w) (rowsOf (k - 1) n (drop (bytesFor n) w)
 -- i rows that have their pivots in the columns 0 to i-1, and the other rows
 unfoldable pub stage : ℕ → ℕ → ℕ → List ℕ → Echelon
 stage i rows n w = record { done = rowsOf i n w; rest = rowsOf (rows - i) n (drop (i * bytesFor n) w); pivots = from 0 i }
+
+-- column i, where row i has its pivot
+unfoldable pub pivoted : ℕ → ℕ → ℕ → List ℕ → Echelon
+pivoted i rows n w = withPivot i (stage i rows n w) (firstRow true (rows - i) n (drop (i * bytesFor n) w))
+
+-- column i, where a row from row i on has its pivot, or none has
+unfoldable pub stepped : ℕ → ℕ → ℕ → List ℕ → Echelon
+stepped i rows n w = withPivot i (stage i rows n w) (findPivot i (stage i rows n w .rest))
 
 -- one more, where there was a pivot
 unfoldable pub next : Bool → ℕ → ℕ

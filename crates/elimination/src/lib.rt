@@ -2,13 +2,13 @@
 ghost use mathlib.Core.Path.{_≡_};
 ghost use mathlib.Core.Bool.{true, false};
 ghost use mathlib.Core.List.{_++_, map};
-ghost use Prim.Native.Nat.{_+_, _-_, _*_, _≤_, _<_};
+ghost use Prim.Native.Nat.{_+_, _*_, _≤_, _<_};
 ghost use lib.ListN.{length, take, drop};
 ghost use Rattle.bits.specs.Bits.{from, bytesFor, unpack};
 ghost use Rattle.poly.specs.Polynomials.{same};
-ghost use Rattle.code.specs.PublicKey.{clear, findPivot, withPivot, echelon};
+ghost use Rattle.code.specs.PublicKey.{clear, findPivot, echelon};
 ghost use Rattle.code.specs.Lock.{rowOf, rowsOf};
-ghost use Rattle.elimination.specs.Elimination.{movedUp, toFront, pivotRow, clearFront, firstRow, stage, next, fits, eliminates};
+ghost use Rattle.elimination.specs.Elimination.{movedUp, toFront, pivotRow, clearFront, firstRow, stage, pivoted, stepped, next, fits, eliminates};
 
 // Gauss-Jordan elimination of the first `rows` rows of n bits: every row i gets a one in column i, and the others a zero there.
 // False where the first `rows` columns are dependent or the sizes do not fit.
@@ -128,7 +128,7 @@ fn lift(w: &mut [u8], rows: usize, n: usize, j: usize) -> bool
 // Row i is t: the other rows, cleared in column i.
 fn clear_around(w: &mut [u8], t: &[u8], rows: usize, n: usize, i: usize)
     requires { ⌜ (rows * bytesFor n ≤ length (now w)) × (i < rows) × (rows ≤ n) × (now t ≡ rowOf n (now w) i) ⌝ }
-    ensures { λ _. ⌜ stage (i + 1) rows n (now (w .exit)) ≡ withPivot i (stage i rows n (now (w .entry))) (firstRow true (rows - i) n (drop (i * bytesFor n) (now (w .entry)))) ⌝ }
+    ensures { λ _. ⌜ stage (i + 1) rows n (now (w .exit)) ≡ pivoted i rows n (now (w .entry)) ⌝ }
     ensures { λ _. ⌜ drop (rows * bytesFor n) (now (w .exit)) ≡ drop (rows * bytesFor n) (now (w .entry)) ⌝ }
 {
     clear_rows(w, t, i, n, i);
@@ -139,7 +139,7 @@ fn clear_around(w: &mut [u8], t: &[u8], rows: usize, n: usize, i: usize)
 // The rows other than row i, cleared in column i by row i.
 fn clear_others(w: &mut [u8], rows: usize, n: usize, i: usize)
     requires { ⌜ (rows * bytesFor n ≤ length (now w)) × (i < rows) × (rows ≤ n) × (n ≤ 8192) ⌝ }
-    ensures { λ _. ⌜ stage (i + 1) rows n (now (w .exit)) ≡ withPivot i (stage i rows n (now (w .entry))) (firstRow true (rows - i) n (drop (i * bytesFor n) (now (w .entry)))) ⌝ }
+    ensures { λ _. ⌜ stage (i + 1) rows n (now (w .exit)) ≡ pivoted i rows n (now (w .entry)) ⌝ }
     ensures { λ _. ⌜ drop (rows * bytesFor n) (now (w .exit)) ≡ drop (rows * bytesFor n) (now (w .entry)) ⌝ }
 {
     let mut t = [0u8; 1024];
@@ -152,7 +152,7 @@ fn clear_others(w: &mut [u8], rows: usize, n: usize, i: usize)
 // Column i, with its pivot among the rows from row i on; false where there is none.
 fn column(w: &mut [u8], rows: usize, n: usize, i: usize) -> bool
     requires { ⌜ (rows * bytesFor n ≤ length (now w)) × (i < rows) × (rows ≤ n) × (n ≤ 8192) ⌝ }
-    ensures { λ r. ⌜ withPivot i (stage i rows n (now (w .entry))) (findPivot i (stage i rows n (now (w .entry)) .rest)) ≡ stage (next r i) rows n (now (w .exit)) ⌝ }
+    ensures { λ r. ⌜ stage (next r i) rows n (now (w .exit)) ≡ stepped i rows n (now (w .entry)) ⌝ }
     ensures { λ _. ⌜ drop (rows * bytesFor n) (now (w .exit)) ≡ drop (rows * bytesFor n) (now (w .entry)) ⌝ }
 {
     let at = i * bits::bytes_for(n);

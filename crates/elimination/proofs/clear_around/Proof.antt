@@ -1,7 +1,7 @@
 -- The rows before row i are cleared, and then those behind it, as a part that starts there. Assumes nothing.
 use mathlib.Core.Path.{_≡_, ap, _∙_}
 use mathlib.Core.List.{List, _++_, map}
-use Prim.Native.Nat.{ℕ, _+_, _-_, _*_, _≤_}
+use Prim.Native.Nat.{ℕ, _+_, _-_, _*_}
 use native.Mathlib.Omega.{arith}
 use borrow.Author.Needs.{needs}
 use borrow.Rule.Slice.PartMut.{putMid}
@@ -10,8 +10,8 @@ use Rattle.bits.specs.Bits.{bytesFor, unpack}
 use Rattle.code.specs.PublicKey.{clear}
 use Rattle.code.specs.Lock.{rowsOf}
 use Rattle.elimination.specs.Elimination.{stage}
-use Rattle.elimination.proofs.Flat.{rows-in, next-row, length-row, part-all, part-back}
-use Rattle.elimination.proofs.Stages.{around-stage, around-past, rows-split}
+use Rattle.elimination.proofs.Flat.{rows-in, next-row, rows-split, length-row, part-all, part-back}
+use Rattle.elimination.proofs.Stages.{around-stage, around-past}
 use Rattle.elimination.proofs.clear_around.Statement.{statement}
 use Rattle.elimination.proofs.clear_around.Tie as tie
 
@@ -41,9 +41,7 @@ sub-clear-rows c =
     omega (arith, rows-in (a .i) (a .rows) (bytesFor (a .n)) (omega arith), next-row (a .i) (bytesFor (a .n)))
 
 part-clear-rows-start : tie.Need-part-clear-rows-start
-part-clear-rows-start c =
-    let e : (c .before .before .before .before .before .before .before .args .i + 1) * c .bytes-for .result ≤ length (c .before .before .before .clear-rows .last .0) = sub-clear-rows c in
-    search needs
+part-clear-rows-start c = let e = sub-clear-rows c in search needs
 
 part-clear-rows-end : tie.Need-part-clear-rows-end
 part-clear-rows-end c = search needs

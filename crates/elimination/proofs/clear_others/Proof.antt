@@ -1,7 +1,6 @@
 -- Row i is copied out, and the other rows are cleared by the copy. Assumes nothing.
 use mathlib.Core.Path.{_≡_, sym, ap, _∙_}
-use mathlib.Core.List.{List}
-use Prim.Native.Nat.{ℕ, _+_, _-_, _*_, _≤_}
+use Prim.Native.Nat.{ℕ, _*_}
 use native.Mathlib.Omega.{arith}
 use borrow.Author.Needs.{needs}
 use lib.ListN.{length, take, drop, replicate, length-drop}
@@ -28,10 +27,7 @@ sub-copy c =
     omega (arith, row-room (a .i) (a .rows) (a .n) (c .before .bytes-for .result) (length (a .w .now)) (c .before .bytes-for .ensures) (omega arith) (omega arith))
 
 part-copy-start : tie.Need-part-copy-start
-part-copy-start c =
-    let a = c .before .before .before .before .args in
-    let e : a .i * c .before .before .bytes-for .result ≤ length (a .w .now) = sub-copy (c .before) in
-    search needs
+part-copy-start c = let e = sub-copy (c .before) in search needs
 
 part-copy-end : tie.Need-part-copy-end
 part-copy-end c = search needs

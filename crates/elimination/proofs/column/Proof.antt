@@ -2,15 +2,15 @@
 use mathlib.Core.Path.{_≡_, ap, _∙_}
 use mathlib.Core.Bool.{Bool, true, false}
 use mathlib.Core.List.{List}
-use Prim.Native.Nat.{ℕ, _-_, _*_, _≤_}
+use Prim.Native.Nat.{ℕ, _-_, _*_}
 use native.Mathlib.Omega.{arith}
 use borrow.Author.Needs.{needs}
 use borrow.Author.Tests.{not-true, not-false}
 use lib.ListN.{length, take, drop, length-drop}
 use Rattle.bits.specs.Bits.{bytesFor}
 use Rattle.elimination.specs.Elimination.{firstRow}
-use Rattle.elimination.proofs.Flat.{row-room, part-all}
-use Rattle.elimination.proofs.Stages.{rows-split, lift-past, lift-missing, lift-pivot}
+use Rattle.elimination.proofs.Flat.{row-room, rows-split, part-all}
+use Rattle.elimination.proofs.Stages.{lift-past, lift-missing, lift-pivot}
 use Rattle.elimination.proofs.column.Statement.{statement}
 use Rattle.elimination.proofs.column.Tie as tie
 
@@ -28,9 +28,7 @@ sub-lift c =
     omega (arith, row-room (a .i) (a .rows) (a .n) (c .bytes-for .result) (length (a .w .now)) (c .bytes-for .ensures) (omega arith) (omega arith))
 
 part-lift-start : tie.Need-part-lift-start
-part-lift-start c =
-    let e : c .before .before .args .i * c .bytes-for .result ≤ length (c .before .before .args .w .now) = sub-lift c in
-    search needs
+part-lift-start c = let e = sub-lift c in search needs
 
 part-lift-end : tie.Need-part-lift-end
 part-lift-end c = search needs

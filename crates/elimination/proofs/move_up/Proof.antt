@@ -1,9 +1,8 @@
 -- The loop's invariant: what is left, the first i bytes moved up, gives the whole. Assumes nothing.
 use mathlib.Core.Path.{_≡_, refl, sym, ap, _∙_}
-use mathlib.Core.List.{List}
 use Prim.Native.Nat.{ℕ, _+_, _-_, _≤_}
 use native.Mathlib.Omega.{arith}
-use lib.ListN.{length, getD, set, length-set}
+use lib.ListN.{length, getD, length-set}
 use Rattle.elimination.specs.Elimination.{movedUp}
 use Rattle.elimination.proofs.Flat.{moved-next, moved-none}
 use Rattle.elimination.proofs.move_up.Statement.{statement}

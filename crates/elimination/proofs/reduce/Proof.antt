@@ -1,7 +1,6 @@
 -- The loop's invariant: from column i on, the workspace's rows have the echelon form of all. Assumes nothing.
 use mathlib.Core.Path.{_≡_, refl, sym, ap, _∙_, subst}
 use mathlib.Core.Bool.{Bool, true, false, false≢true}
-use mathlib.Core.List.{List}
 use Prim.Native.Nat.{ℕ, _+_, _-_, _*_, _≤_}
 use native.Mathlib.Omega.{arith}
 use borrow.Author.Needs.{needs}
@@ -10,7 +9,7 @@ use lib.ListN.{length, drop}
 use Rattle.bits.specs.Bits.{bytesFor}
 use Rattle.code.specs.PublicKey.{Echelon, columns, echelon}
 use Rattle.code.specs.Lock.{rowsOf}
-use Rattle.elimination.specs.Elimination.{stage, next}
+use Rattle.elimination.specs.Elimination.{stage, stepped, next}
 use Rattle.elimination.proofs.Columns.{columns-start, columns-next, reduced, stopped}
 use Rattle.elimination.proofs.reduce.Statement.{statement}
 use Rattle.elimination.proofs.reduce.Tie as tie
@@ -33,7 +32,7 @@ same-length : tie.Need-same-length Inv-loop μ-loop
 same-length c = search needs
 
 returns : tie.Need-returns Inv-loop μ-loop
-unfolding next
+unfolding next stepped
 returns c =
     let l = c .before .before .before .before .before .before .loop in
     let a = c .before .before .before .before .before .before .before .before .args in
@@ -42,7 +41,7 @@ returns c =
     let none : called .result ≡ false = not-true (called .result) (c .if1 .taken) in
     let f : columns (a .n - (l .i + 1)) (l .i + 1) (stage (l .i) (a .rows) (a .n) (called .last .0)) ≡ e =
     ap (λ (r : Bool). columns (a .n - (l .i + 1)) (l .i + 1) (stage (next r (l .i)) (a .rows) (a .n) (called .last .0))) (sym none)
-    ∙ ap (columns (a .n - (l .i + 1)) (l .i + 1)) (sym (called .ensures .0))
+    ∙ ap (columns (a .n - (l .i + 1)) (l .i + 1)) (called .ensures .0)
     ∙ sym (columns-next (l .i) (a .n) (stage (l .i) (a .rows) (a .n) (l .w)) (omega arith)) ∙ l .inv .2 in
     (stopped (a .rows) (a .n) e (l .i) (called .last .0) (omega arith) f, ((λ g. absurd (false≢true g)), called .ensures .1 ∙ l .inv .3))
 
@@ -53,7 +52,7 @@ loop-less : tie.Need-loop-less Inv-loop μ-loop
 loop-less c = search needs
 
 loop-again : tie.Need-loop-again Inv-loop μ-loop
-unfolding next
+unfolding next stepped
 loop-again c =
     let l = c .before .before .before .before .before .before .loop in
     let a = c .before .before .before .before .before .before .before .before .args in
@@ -62,7 +61,7 @@ loop-again c =
       omega arith,
       called .kept .0 ∙ l .inv .1,
       ap (λ (r : Bool). columns (a .n - (l .i + 1)) (l .i + 1) (stage (next r (l .i)) (a .rows) (a .n) (called .last .0))) (sym some)
-          ∙ ap (columns (a .n - (l .i + 1)) (l .i + 1)) (sym (called .ensures .0))
+          ∙ ap (columns (a .n - (l .i + 1)) (l .i + 1)) (called .ensures .0)
           ∙ sym (columns-next (l .i) (a .n) (stage (l .i) (a .rows) (a .n) (l .w)) (omega arith))
           ∙ l .inv .2,
       called .ensures .1 ∙ l .inv .3,
