@@ -4,7 +4,7 @@ use mathlib.Core.Bool.{Bool, true, false, not, cond}
 use mathlib.Core.List.{List, [], _∷_}
 use mathlib.Core.Option.{Option, none, some}
 use Prim.Native.Nat.{ℕ, zero, suc, _-_, _*_, _≤_, _<_}
-use native.Mathlib.Nat.{mul-le-mul, le-of-suc-le-suc}
+use native.Mathlib.Nat.{le-of-suc-le-suc}
 use native.Mathlib.Omega.{arith}
 use lib.Dec.{eqb, ltb}
 use lib.ListN.{length}
@@ -21,7 +21,6 @@ use Rattle.code.specs.PublicKey.{Matrix, publicKey, dependent, written}
 use Rattle.code.specs.Publish.{capsuleBits, publishChecks, publishConditions, publishNumber, publishOutput}
 use Rattle.publishing.specs.declared.Published.the-variants.{Done, Refused}
 use Rattle.publishing.specs.Published.{publishedOf, sizeChecks}
-use Rattle.publishing.proofs.WrittenRows.{bytes-small}
 
 -- the sizes of an accepted key
 pub record Sizes (k : Key) : Type 0 where
@@ -42,9 +41,6 @@ sizes k e =
       columns = omega (arith, a .limits .fits, pow-mono (le-of-suc-le-suc n));
       degree = a .limits .few;
     }
-
-pub product-small : (r n b : ℕ) → r ≤ 8192 → n ≤ 8192 → b ≡ bytesFor n → r * b ≤ 8192 * 1024
-product-small r n b h l e = let f : b ≤ 1024 = rw e (bytes-small n l) in mul-le-mul h f
 
 module _ (k : Key) (out work : ℕ) where
   pub check-key : (keyNumber k ≡ 0 → ⊥) → 25 ≡ firstOf (sizeChecks (unsound k) k out work)

@@ -37,10 +37,6 @@ bit-drop a s i =
     let f : i % 8 ≡ (8 * a + i) % 8 = omega arith in
     ap₂ (λ (x k : ℕ). x / 2 ^ k % 2) (getD-drop a s (i / 8) 0 ∙ ap (λ (q : ℕ). getD s q 0) e) f
 
-pub bytes-small : (n : ℕ) → n ≤ 8192 → bytesFor n ≤ 1024
-unfolding bytesFor
-bytes-small n h = omega arith
-
 -- row r of at most 8192 rows of at most 8192 bits ends before bit 2^27
 pub row-place : (rows n r : ℕ) → rows ≤ n → n ≤ 8192 → r < rows → rows + (r * (8 * bytesFor n) + 8 * bytesFor n) ≤ 2 ^ 27
 unfolding bytesFor

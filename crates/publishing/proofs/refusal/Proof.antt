@@ -5,7 +5,8 @@ use native.Mathlib.Omega.{arith}
 use borrow.Author.Needs.{needs}
 use Rattle.key.specs.Keys.{keyNumber}
 use Rattle.key.specs.Kept.{kept}
-use Rattle.publishing.proofs.Checks.{Sizes, sizes, product-small, check-key, check-output, check-work, check-none}
+use Rattle.elimination.proofs.Sizes.{sizes-le}
+use Rattle.publishing.proofs.Checks.{Sizes, sizes, check-key, check-output, check-work, check-none}
 use Rattle.publishing.proofs.refusal.Statement.{statement}
 use Rattle.publishing.proofs.refusal.Tie as tie
 
@@ -49,7 +50,7 @@ mul-if2 c =
     let k = c .before .before .before .before .before .before .args .key in
     let good : keyNumber (kept k) ≡ 0 = sym (c .before .before .before .before .before .check .ensures) ∙ c .before .before .before .before .if1 .left in
     let z : Sizes (kept k) = sizes (kept k) good in
-    let e = product-small (k .m * k .t) (k .n - k .m * k .t) (c .bytes-for .result) (omega (arith, z .rows, z .columns)) (omega (arith, z .columns)) (c .bytes-for .ensures) in
+    let e = sizes-le (k .m * k .t) (k .n - k .m * k .t) (c .bytes-for .result) (omega (arith, z .rows, z .columns)) (omega (arith, z .columns)) (c .bytes-for .ensures) in
     omega arith
 
 returns-2 : tie.Need-returns-2
@@ -69,7 +70,7 @@ mul-if3 c =
     let k = c .before .before .before .before .before .before .before .before .args .key in
     let good : keyNumber (kept k) ≡ 0 = sym (c .before .before .before .before .before .before .before .check .ensures) ∙ c .before .before .before .before .before .before .if1 .left in
     let z : Sizes (kept k) = sizes (kept k) good in
-    let e = product-small (k .m * k .t) (k .n) (c .bytes-for2 .result) (omega (arith, z .rows, z .columns)) (z .columns) (c .bytes-for2 .ensures) in
+    let e = sizes-le (k .m * k .t) (k .n) (c .bytes-for2 .result) (omega (arith, z .rows, z .columns)) (z .columns) (c .bytes-for2 .ensures) in
     omega arith
 
 returns-3 : tie.Need-returns-3

@@ -15,9 +15,8 @@ use Rattle.poly.proofs.AtPoints.{length-values}
 use Rattle.code.specs.PublicKey.{Matrix}
 use Rattle.code.specs.Code.{entry, parityRow}
 use Rattle.code.specs.Lock.{rowsOf}
-use Rattle.elimination.proofs.Flat.{next-row, part-all, part-back}
+use Rattle.elimination.proofs.Flat.{next-row, row-size, part-all, part-back}
 use Rattle.publishing.specs.Rows.{digitRows, keyOf}
-use Rattle.publishing.proofs.WrittenRows.{bytes-small}
 use Rattle.publishing.proofs.DigitRows.{rows-placed, group-next, group-in}
 use Rattle.publishing.proofs.Entries.{entries-start, entries-next, parity-none, parity-next, parity-all}
 use Rattle.publishing.proofs.parity.parity_rows.Statement.{statement}
@@ -40,7 +39,7 @@ mul-size c =
     let b = c .before .before .before .before in
     let n : ℕ = length (b .args .support .now) in
     let w : b .args .m ≤ 16 = omega (arith, width-narrow (b .args .m) (b .pre .0)) in
-    let e : b .args .m * bytesFor n ≤ 16 * 1024 = mul-le-mul w (bytes-small n (omega arith)) in
+    let e : b .args .m * bytesFor n ≤ 16 * 1024 = mul-le-mul w (row-size n (omega arith)) in
     omega (arith, ap (_*_ (b .args .m)) (c .bytes-for .ensures))
 
 values-requires : tie.Need-values-requires Inv-loop μ-loop

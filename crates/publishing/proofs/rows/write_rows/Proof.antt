@@ -8,8 +8,8 @@ use borrow.Rule.Slice.PartMut.{same-len-mid}
 use lib.ListN.{length, take, drop, length-drop}
 use Rattle.bits.specs.Bits.{bytesFor, over, rowWritten}
 use Rattle.bits.proofs.PutBits.{written-row}
-use Rattle.elimination.proofs.Flat.{rows-in, next-row, part-all, part-back}
-use Rattle.publishing.proofs.WrittenRows.{tails, tails-none, tails-over, row-place, bytes-small}
+use Rattle.elimination.proofs.Flat.{rows-in, next-row, row-size, part-all, part-back}
+use Rattle.publishing.proofs.WrittenRows.{tails, tails-none, tails-over, row-place}
 use Rattle.publishing.proofs.rows.write_rows.Statement.{statement}
 use Rattle.publishing.proofs.rows.write_rows.Tie as tie
 
@@ -31,7 +31,7 @@ bytes-for-requires-2 : tie.Need-bytes-for-requires-2 Inv-loop μ-loop
 bytes-for-requires-2 c κs = tt
 
 mul-step : tie.Need-mul-step Inv-loop μ-loop
-mul-step c = let e = bytes-small (c .before .before .before .before .args .n) (omega arith) in omega arith
+mul-step c = let e = row-size (c .before .before .before .before .args .n) (omega arith) in omega arith
 
 loop-holds : tie.Need-loop-holds Inv-loop μ-loop
 loop-holds c =
