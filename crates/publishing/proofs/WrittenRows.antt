@@ -2,7 +2,7 @@
 use mathlib.Core.Path.{_≡_, refl, sym, ap, ap₂, _∙_}
 use mathlib.Core.List.{List, [], _∷_, _++_, map, flatMap, map-append, append-nil, append-assoc}
 use Prim.Native.Nat.{ℕ, zero, suc, _+_, _-_, _*_, _/_, _%_, _^_, _≤_, _<_}
-use native.Mathlib.Nat.{zero-mul, mul-comm, mul-assoc, mul-le-mul}
+use native.Mathlib.Nat.{zero-mul, mul-left-comm, mul-le-mul}
 use native.Mathlib.Numerals.{add-one}
 use native.Mathlib.Omega.{arith}
 use lib.ListN.{length, getD, take, drop, length-append}
@@ -15,7 +15,7 @@ use Rattle.code.specs.Lock.{rowsOf}
 use Rattle.elimination.proofs.Flat.{rows-in, next-row, rows-snoc}
 
 -- bytes written behind those that were written from the start
-pub over-next : (at : ℕ) (a b out : List ℕ) → length a ≡ at
+over-next : (at : ℕ) (a b out : List ℕ) → length a ≡ at
     → take at (over a out) ++ over b (drop at (over a out)) ≡ over (a ++ b) out
 unfolding over
 over-next at a b out e =
@@ -64,7 +64,7 @@ module _ (rows n : ℕ) (w : List ℕ) where
       let s : List ℕ = drop (r * bytesFor n) w in
       let e : n ≡ rows + (n - rows) = omega arith in
       let place : (i : ℕ) → 8 * (r * bytesFor n) + (rows + i) ≡ rows + r * (8 * bytesFor n) + i =
-      λ i. let q : r * (8 * bytesFor n) ≡ 8 * (r * bytesFor n) = sym (mul-assoc r 8 (bytesFor n)) ∙ ap (λ (x : ℕ). x * bytesFor n) (mul-comm r 8) ∙ mul-assoc 8 r (bytesFor n) in omega arith in
+      λ i. omega (arith, mul-left-comm r 8 (bytesFor n)) in
       ap (λ (k : ℕ). drop rows (unpack k s)) e
       ∙ ap (drop rows) (unpack-add rows (n - rows) s)
       ∙ drop-at (unpack rows s) (map (bitAt s) (from rows (n - rows))) rows (length-unpack rows s)
@@ -81,7 +81,7 @@ module _ (rows n : ℕ) (w : List ℕ) where
       ∙ flatMap-append pack (map (drop rows) (rowsOf r n w)) (drop rows row ∷ [])
       ∙ ap (λ (x : List ℕ). tails r ++ x) (append-nil (pack (drop rows row)) ∙ ap pack (row-tail r h))
 
-  pub length-tails : (r : ℕ) → rows ≤ n → length (tails r) ≡ r * bytesFor (n - rows)
+  length-tails : (r : ℕ) → rows ≤ n → length (tails r) ≡ r * bytesFor (n - rows)
   unfolding flatMap rowsOf from
   length-tails zero h = sym (zero-mul (bytesFor (n - rows)))
   length-tails (suc r) h =
