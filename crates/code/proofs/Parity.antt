@@ -70,10 +70,10 @@ rows-width : (m t r : ℕ) → r < m * t → 0 < m
 rows-width zero t r h = absurd (not-suc-le-zero (rw zero-mul at h))
 rows-width (suc m) t r h = zero-lt-suc m
 
-row-power : (m s j : ℕ) → j < m → (s * m + j) / m ≡ s
+pub row-power : (m s j : ℕ) → j < m → (s * m + j) / m ≡ s
 row-power m s j h = mul-add-div-right (omega arith) s j ∙ ap (_+_ s) (div-eq-of-lt h) ∙ add-zero s
 
-row-digit : (m s j : ℕ) → j < m → (s * m + j) % m ≡ j
+pub row-digit : (m s j : ℕ) → j < m → (s * m + j) % m ≡ j
 row-digit m s j h = mul-add-mod-self-right s m j ∙ mod-eq-of-lt h
 
 row-below : (m t s j : ℕ) → s < t → j < m → s * m + j < m * t

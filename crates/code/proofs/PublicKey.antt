@@ -63,6 +63,17 @@ public-echelon k rows h = go (same (e .pivots) (from 0 mt)) refl h
     go true s h = record { pivots = same-eq (e .pivots) (from 0 mt) s; columns = cc }
     go false s h = let z : _≡_ {A = ℕ} 0 1 = cc in absurd (omega arith)
 
+-- by the test of the pivots: there is none, or it is those columns
+module _ (k : Key) where
+  pub public-none : same (echelon (k .n) (parityRows k) .pivots) (from 0 (k .m * k .t)) ≡ false → publicKey k ≡ none
+  unfolding publicKey
+  public-none h = rw (publicKey, h)
+
+  pub public-some : same (echelon (k .n) (parityRows k) .pivots) (from 0 (k .m * k .t)) ≡ true
+      → publicKey k ≡ some (map (drop (k .m * k .t)) (echelon (k .n) (parityRows k) .done))
+  unfolding publicKey
+  public-some h = rw (publicKey, h)
+
 module _ (k : Key) (rows : Matrix) (p : publicKey k ≡ some rows) where
   pub public-length : length rows ≡ k .m * k .t
   public-length =

@@ -14,8 +14,8 @@ use Rattle.code.specs.Lock.{rowsOf}
 use Rattle.elimination.specs.Elimination.{fits, eliminates}
 use Rattle.elimination.proofs.Flat.{row-size}
 
-pub sizes-le : (rows n b : ℕ) → rows ≤ n → n ≤ 8192 → b ≡ bytesFor n → rows * b ≤ 8192 * 1024
-sizes-le rows n b h l e = rw e (le-trans (mul-le-mul-right (bytesFor n) (le-trans h l)) (mul-le-mul-left 8192 (row-size n l)))
+pub sizes-le : (rows n b : ℕ) → rows ≤ 8192 → n ≤ 8192 → b ≡ bytesFor n → rows * b ≤ 8192 * 1024
+sizes-le rows n b h l e = rw e (le-trans (mul-le-mul-right (bytesFor n) h) (mul-le-mul-left 8192 (row-size n l)))
 
 module _ (rows n : ℕ) (w : List ℕ) where
   pub more-rows : n < rows → fits rows n w ≡ false

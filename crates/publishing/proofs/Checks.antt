@@ -1,0 +1,126 @@
+-- The numbers of publish by the tests of the code, and its output. Assumes nothing.
+use mathlib.Core.Path.{_≡_, refl}
+use mathlib.Core.Bool.{Bool, true, false, not, cond}
+use mathlib.Core.List.{List, [], _∷_}
+use mathlib.Core.Option.{Option, none, some}
+use Prim.Native.Nat.{ℕ, zero, suc, _-_, _*_, _≤_, _<_}
+use native.Mathlib.Nat.{le-of-suc-le-suc}
+use native.Mathlib.Omega.{arith}
+use lib.Dec.{eqb, ltb}
+use lib.ListN.{length}
+use lib.Pow.{pow-mono}
+use borrow.Author.Tests.{eq-eqb, ne-eqb, eqb-true, not-true, not-false, lt-ltb, le-ltb, ltb-false}
+use Rattle.bits.specs.Bits.{bytesFor, over}
+use Rattle.field.specs.Numbers.{firstOf}
+use Rattle.field.proofs.Numbers.{numbered, first-clear, first-append}
+use Rattle.field.proofs.Table.{Width, width-narrow}
+use Rattle.key.specs.Keys.{Key, keyNumber, unsound}
+use Rattle.key.proofs.Accepted.{accepted}
+use Rattle.key.proofs.Conditions.{first-take}
+use Rattle.code.specs.PublicKey.{Matrix, publicKey, dependent, written}
+use Rattle.code.specs.Publish.{capsuleBits, publishChecks, publishConditions, publishNumber, publishOutput}
+use Rattle.publishing.specs.declared.Published.the-variants.{Done, Refused}
+use Rattle.publishing.specs.Published.{publishedOf, sizeChecks}
+
+-- the sizes of an accepted key
+pub record Sizes (k : Key) : Type 0 where
+  pub width : Width (k .m)
+  pub narrow : k .m < 14
+  pub rows : k .m * k .t < k .n
+  pub columns : k .n ≤ 8192
+  pub degree : k .t ≤ 128
+
+pub sizes : (k : Key) → keyNumber k ≡ 0 → Sizes k
+sizes k e =
+    let a = accepted k e in
+    let n = width-narrow (k .m) (a .width) in
+    record {
+      width = a .width;
+      narrow = n;
+      rows = a .limits .over;
+      columns = omega (arith, a .limits .fits, pow-mono (le-of-suc-le-suc n));
+      degree = a .limits .few;
+    }
+
+module _ (k : Key) (out work : ℕ) where
+  pub check-key : (keyNumber k ≡ 0 → ⊥) → 25 ≡ firstOf (sizeChecks (unsound k) k out work)
+  unfolding sizeChecks firstOf unsound
+  check-key h = rw (ne-eqb (keyNumber k) 0 h)
+
+  module _ (good : keyNumber k ≡ 0) where
+    pub check-output : out < k .m * k .t * bytesFor (k .n - k .m * k .t) → 10 ≡ firstOf (sizeChecks (unsound k) k out work)
+    unfolding sizeChecks firstOf unsound capsuleBits
+    check-output h = rw (eq-eqb (keyNumber k) 0 good, lt-ltb out (k .m * k .t * bytesFor (k .n - k .m * k .t)) h)
+
+    module _ (fits : k .m * k .t * bytesFor (k .n - k .m * k .t) ≤ out) where
+      pub check-work : work < k .m * k .t * bytesFor (k .n) → 11 ≡ firstOf (sizeChecks (unsound k) k out work)
+      unfolding sizeChecks firstOf unsound capsuleBits
+      check-work h =
+          rw (
+            eq-eqb (keyNumber k) 0 good,
+            le-ltb out (k .m * k .t * bytesFor (k .n - k .m * k .t)) fits,
+            lt-ltb work (k .m * k .t * bytesFor (k .n)) h,
+          )
+
+      pub check-none : k .m * k .t * bytesFor (k .n) ≤ work → 0 ≡ firstOf (sizeChecks (unsound k) k out work)
+      unfolding sizeChecks firstOf unsound capsuleBits
+      check-none h =
+          rw (
+            eq-eqb (keyNumber k) 0 good,
+            le-ltb out (k .m * k .t * bytesFor (k .n - k .m * k .t)) fits,
+            le-ltb work (k .m * k .t * bytesFor (k .n)) h,
+          )
+
+  -- no number: the key is accepted, and output and workspace are long enough
+  pub checks-clear : firstOf (sizeChecks (unsound k) k out work) ≡ 0
+      → (keyNumber k ≡ 0) × (k .m * k .t * bytesFor (k .n - k .m * k .t) ≤ out) × (k .m * k .t * bytesFor (k .n) ≤ work)
+  unfolding sizeChecks unsound capsuleBits
+  checks-clear e =
+      let c1 = first-clear (not (eqb (keyNumber k) 0)) 24 _ e in
+      let c2 = first-clear (ltb out (k .m * k .t * bytesFor (k .n - k .m * k .t))) 9 _ (c1 .1) in
+      let c3 = first-clear (ltb work (k .m * k .t * bytesFor (k .n))) 10 _ (c2 .1) in
+      (eqb-true (keyNumber k) 0 (not-false _ (c1 .0)), ltb-false out _ (c2 .0), ltb-false work _ (c3 .0))
+
+-- a number that is not 0 is a refusal
+pub refused : (x : ℕ) → (x ≡ 0 → ⊥) → Refused x ≡ publishedOf x
+unfolding publishedOf
+refused zero h = absurd (h refl)
+refused (suc x) h = refl
+
+-- the number and the output of publish, where a check holds
+module _ (k : Key) (out work : List ℕ) where
+  pub checks-sizes : publishChecks (unsound k) k out work ≡ sizeChecks (unsound k) k (length out) (length work)
+  unfolding publishChecks sizeChecks
+  checks-sizes = refl
+
+  pub number-refused : (firstOf (sizeChecks (unsound k) k (length out) (length work)) ≡ 0 → ⊥)
+      → firstOf (sizeChecks (unsound k) k (length out) (length work)) ≡ publishNumber k out work
+  unfolding sizeChecks publishNumber publishConditions publishChecks
+  number-refused h = first-take 3 (publishConditions (unsound k) k out work) h
+
+  pub output-refused : (publishNumber k out work ≡ 0 → ⊥) → out ≡ publishOutput k out work
+  unfolding publishOutput
+  output-refused h = rw (ne-eqb (publishNumber k out work) 0 h)
+
+  -- where none does: 23 decides
+  module _ (clear : firstOf (sizeChecks (unsound k) k (length out) (length work)) ≡ 0) where
+    number-made : publishNumber k out work ≡ cond (dependent k) 23 0
+    unfolding sizeChecks publishNumber publishConditions publishChecks numbered firstOf
+    number-made = first-append (publishChecks (unsound k) k out work) ((dependent k, 23) ∷ []) refl clear
+
+    pub number-dependent : not (dependent k) ≡ false → Refused 23 ≡ publishedOf (publishNumber k out work)
+    unfolding publishedOf
+    number-dependent h = rw (number-made, not-false (dependent k) h)
+
+    pub number-done : not (dependent k) ≡ true → Done ≡ publishedOf (publishNumber k out work)
+    unfolding publishedOf
+    number-done h = rw (number-made, not-true (dependent k) h)
+
+    pub output-made : over (written (publicKey k)) out ≡ publishOutput k out work
+    unfolding publishOutput dependent written over
+    output-made = rw number-made (go (publicKey k))
+      where
+        go : (p : Option Matrix)
+            → over (written p) out ≡ cond (eqb (cond (elim p as (λ x. Bool) [ none ↦ true | some rows ↦ false ]) 23 0) 0) (over (written p) out) out
+        go none = refl
+        go (some rows) = refl

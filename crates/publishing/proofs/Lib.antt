@@ -1,0 +1,5 @@
+pub mod WrittenRows
+pub mod DigitRows
+pub mod Entries
+pub mod Checks
+pub mod Made

@@ -1,0 +1,179 @@
+-- The loop's invariant: the rows of the powers below s are written, and p has α^s / g(α) at the support's places. Assumes nothing.
+use mathlib.Core.Path.{_≡_, refl, sym, ap, ap₂, _∙_}
+use mathlib.Core.List.{List, _++_, map}
+use Prim.Native.Nat.{ℕ, _-_, _*_, _≤_}
+use native.Mathlib.Nat.{zero-mul, mul-comm, mul-le-mul}
+use native.Mathlib.Omega.{arith}
+use borrow.Rule.Slice.PartMut.{same-len-mid}
+use lib.ListN.{length, take, length-map, length-drop}
+use Rattle.bits.specs.Bits.{from, bytesFor}
+use Rattle.field.specs.Field.{inv}
+use Rattle.field.proofs.Places.{length-hornerEach}
+use Rattle.field.proofs.Table.{width-narrow}
+use Rattle.poly.specs.Polynomials.{valuesAt}
+use Rattle.poly.proofs.AtPoints.{length-values}
+use Rattle.code.specs.PublicKey.{Matrix}
+use Rattle.code.specs.Code.{entry, parityRow}
+use Rattle.code.specs.Lock.{rowsOf}
+use Rattle.elimination.proofs.Flat.{next-row, row-size, part-all, part-back}
+use Rattle.publishing.specs.Rows.{digitRows, keyOf}
+use Rattle.publishing.proofs.DigitRows.{rows-placed, group-next, group-in}
+use Rattle.publishing.proofs.Entries.{entries-start, entries-next, parity-none, parity-next, parity-all}
+use Rattle.publishing.proofs.parity.parity_rows.Statement.{statement}
+use Rattle.publishing.proofs.parity.parity_rows.Tie as tie
+
+abbrev Inv-loop : tie.InvT-loop
+Inv-loop work₀ m support g n size p₀ at₀ s₀ work p at s =
+    (s ≤ length g) × (at ≡ s * m * bytesFor (length support)) × (length work ≡ length work₀) × (length p ≡ 8192)
+    × (take (length support) p ≡ map (entry (keyOf m support g) s) support)
+    × (rowsOf (s * m) (length support) work ≡ map (parityRow (keyOf m support g)) (from 0 (s * m)))
+
+abbrev μ-loop : tie.MeasureT-loop
+μ-loop work₀ m support g n size p₀ at₀ s₀ work p at s = length g - s
+
+bytes-for-requires : tie.Need-bytes-for-requires Inv-loop μ-loop
+bytes-for-requires c κs = tt
+
+mul-size : tie.Need-mul-size Inv-loop μ-loop
+mul-size c =
+    let b = c .before .before .before .before in
+    let n : ℕ = length (b .args .support .now) in
+    let w : b .args .m ≤ 16 = omega (arith, width-narrow (b .args .m) (b .pre .0)) in
+    let e : b .args .m * bytesFor n ≤ 16 * 1024 = mul-le-mul w (row-size n (omega arith)) in
+    omega (arith, ap (_*_ (b .args .m)) (c .bytes-for .ensures))
+
+values-requires : tie.Need-values-requires Inv-loop μ-loop
+values-requires c κs = tt
+
+inverse-each-requires : tie.Need-inverse-each-requires Inv-loop μ-loop
+inverse-each-requires c κs = tt
+
+loop-holds : tie.Need-loop-holds Inv-loop μ-loop
+loop-holds c =
+    let b = c .before .before .before .before .before .before .before in
+    let a = b .args in
+    let v = valuesAt (a .m) (a .g .now) (a .support .now) in
+    let e : c .inverse-each .result ≡ map (inv (a .m)) v =
+    c .inverse-each .ensures ∙ ap (map (inv (a .m))) (c .before .before .values .ensures) in (
+      omega arith,
+      sym (ap (λ (x : ℕ). x * bytesFor (length (a .support .now))) (zero-mul (a .m)) ∙ zero-mul (bytesFor (length (a .support .now)))),
+      refl,
+      ap length e ∙ length-map v (inv (a .m)) ∙ length-values (a .m) (a .g .now) (a .support .now),
+      ap (take (length (a .support .now))) e ∙ entries-start (a .m) (b .pre .0) (a .support .now) (a .g .now) (b .pre .1),
+      parity-none (a .m) (b .pre .0) (a .support .now) (a .g .now) (a .work .now),
+    )
+
+sub-digit-rows : tie.Need-sub-digit-rows Inv-loop μ-loop
+sub-digit-rows c =
+    let b = c .before .before .before .before .before .before .before .before .before in
+    let a = b .args in
+    let e = group-in (c .before .loop .s) (length (a .g .now)) (a .m) (bytesFor (length (a .support .now))) (omega arith) in
+    omega arith
+
+part-digit-rows-start : tie.Need-part-digit-rows-start Inv-loop μ-loop
+part-digit-rows-start c =
+    let b = c .before .before .before .before .before .before .before .before .before in
+    let a = b .args in
+    let e = group-in (c .before .loop .s) (length (a .g .now)) (a .m) (bytesFor (length (a .support .now))) (omega arith) in
+    omega arith
+
+part-digit-rows-end : tie.Need-part-digit-rows-end Inv-loop μ-loop
+part-digit-rows-end c =
+    let b = c .before .before .before .before .before .before .before .before .before in
+    let a = b .args in
+    let e = group-in (c .before .loop .s) (length (a .g .now)) (a .m) (bytesFor (length (a .support .now))) (omega arith) in
+    omega arith
+
+slice-aggregate-digit-rows : tie.Need-slice-aggregate-digit-rows Inv-loop μ-loop
+slice-aggregate-digit-rows c = sym (c .before .before .before .loop .inv .3)
+
+digit-rows-requires : tie.Need-digit-rows-requires Inv-loop μ-loop
+digit-rows-requires c κs =
+    let l = c .before .before .before .loop in
+    let b = c .before .before .before .before .before .before .before .before .before .before .before in
+    let a = b .args in
+    let e = group-in (l .s) (length (a .g .now)) (a .m) (bytesFor (length (a .support .now))) (omega arith) in
+    let w = width-narrow (a .m) (b .pre .0) in
+    (omega arith, omega arith, omega arith, rw (part-all (l .at) (l .work), length-drop (l .at) (l .work)) (omega arith))
+
+slice-aggregate-horner-each : tie.Need-slice-aggregate-horner-each Inv-loop μ-loop
+slice-aggregate-horner-each c = sym (c .before .before .before .before .before .before .before .loop .inv .3)
+
+horner-each-requires : tie.Need-horner-each-requires Inv-loop μ-loop
+horner-each-requires c κs = tt
+
+add-at : tie.Need-add-at Inv-loop μ-loop
+add-at c =
+    let b = c .before .before .before .before .before .before .before .before .before .before .before .before .before .before .before .before .before in
+    let a = b .args in
+    let e = group-in (c .before .before .before .before .before .before .before .before .before .loop .s) (length (a .g .now)) (a .m) (bytesFor (length (a .support .now))) (omega arith) in
+    let f = ap (_*_ (a .m)) (c .before .before .before .before .before .before .before .before .before .before .before .before .before .bytes-for .ensures) in
+    omega arith
+
+add-s : tie.Need-add-s Inv-loop μ-loop
+add-s c = omega arith
+
+loop-less : tie.Need-loop-less Inv-loop μ-loop
+loop-less c = omega arith
+
+loop-again : tie.Need-loop-again Inv-loop μ-loop
+loop-again c =
+    let l = c .before .before .before .before .before .before .before .before .before .loop in
+    let b = c .before .before .before .before .before .before .before .before .before .before .before .before .before .before .before .before .before in
+    let a = b .args in
+    let q = c .before .before .before .before .before .digit-rows in
+    let h = c .before .horner-each in
+    let n : ℕ = length (a .support .now) in
+    let e = group-in (l .s) (length (a .g .now)) (a .m) (bytesFor n) (omega arith) in
+    let f = group-next (l .s) (a .m) (bytesFor n) in
+    let size = ap (_*_ (a .m)) (c .before .before .before .before .before .before .before .before .before .before .before .before .before .bytes-for .ensures) in
+    let row : ℕ → List ℕ = parityRow (keyOf (a .m) (a .support .now) (a .g .now)) in (
+      omega arith,
+      omega arith,
+      same-len-mid (l .at) (length (l .work) - l .at) (l .work) (q .last .0) (q .kept .0) ∙ l .inv .2,
+      ap length (h .ensures) ∙ length-hornerEach (a .m) 0 (l .p) (a .support .now) ∙ l .inv .3,
+      ap (take n) (h .ensures) ∙ entries-next (a .m) (b .pre .0) (a .support .now) (a .g .now) (l .s) (l .p) (l .inv .4),
+      ap₂ (λ (k : ℕ) (w : List ℕ). rowsOf k n w) (sym (next-row (l .s) (a .m))) (part-back (l .at) (l .work) (q .last .0))
+          ∙ rows-placed (l .s * a .m) (a .m) n (l .at) (l .work) (q .last .0) (l .inv .1) (omega arith)
+          ∙ ap₂ (λ (x y : Matrix). x ++ y) (l .inv .5) (q .ensures ∙ ap (digitRows (a .m)) (l .inv .4))
+          ∙ parity-next (a .m) (b .pre .0) (a .support .now) (a .g .now) (l .s)
+          ∙ ap (λ (k : ℕ). map row (from 0 k)) (next-row (l .s) (a .m)),
+    )
+
+same-length : tie.Need-same-length Inv-loop μ-loop
+same-length c = c .before .loop .inv .2
+
+returns : tie.Need-returns Inv-loop μ-loop
+returns c =
+    let l = c .before .loop in
+    let b = c .before .before .before .before .before .before .before .before .before in
+    let a = b .args in
+    let e : l .s ≡ length (a .g .now) = omega arith in
+    ap (λ (k : ℕ). rowsOf k (length (a .support .now)) (l .work)) (mul-comm (a .m) (length (a .g .now)) ∙ ap (λ (s : ℕ). s * a .m) (sym e))
+    ∙ l .inv .5
+    ∙ parity-all (a .m) (b .pre .0) (a .support .now) (a .g .now) (l .s) e
+
+pub parity-rows-spec : {M : Type 1} → statement M
+parity-rows-spec =
+    tie.close
+    (tie.spec
+    Inv-loop
+    μ-loop
+    bytes-for-requires
+    mul-size
+    values-requires
+    inverse-each-requires
+    loop-holds
+    sub-digit-rows
+    part-digit-rows-start
+    part-digit-rows-end
+    slice-aggregate-digit-rows
+    digit-rows-requires
+    slice-aggregate-horner-each
+    horner-each-requires
+    add-at
+    add-s
+    loop-less
+    loop-again
+    same-length
+    returns)

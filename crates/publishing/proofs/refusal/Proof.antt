@@ -1,0 +1,111 @@
+-- The tests in order. Assumes nothing.
+use mathlib.Core.Path.{_≡_, sym, ap, _∙_}
+use Prim.Native.Nat.{_-_, _*_}
+use native.Mathlib.Omega.{arith}
+use borrow.Author.Needs.{needs}
+use Rattle.key.specs.Keys.{keyNumber}
+use Rattle.key.specs.Kept.{kept}
+use Rattle.elimination.proofs.Sizes.{sizes-le}
+use Rattle.publishing.proofs.Checks.{Sizes, sizes, check-key, check-output, check-work, check-none}
+use Rattle.publishing.proofs.refusal.Statement.{statement}
+use Rattle.publishing.proofs.refusal.Tie as tie
+
+check-requires : tie.Need-check-requires
+check-requires c κs = tt
+
+returns : tie.Need-returns
+returns c = check-key _ _ _ (λ e. c .if1 .taken (c .before .check .ensures ∙ e))
+
+cast-n : tie.Need-cast-n
+cast-n c = search needs
+
+cast-rows : tie.Need-cast-rows
+cast-rows c = search needs
+
+cast-rows-2 : tie.Need-cast-rows-2
+cast-rows-2 c = search needs
+
+mul-rows : tie.Need-mul-rows
+unfolding kept
+mul-rows c =
+    let k = c .before .before .before .before .before .args .key in
+    let good : keyNumber (kept k) ≡ 0 = sym (c .before .before .before .before .check .ensures) ∙ c .before .before .before .if1 .left in
+    let z : Sizes (kept k) = sizes (kept k) good in
+    omega (arith, z .rows, z .columns)
+
+sub-bytes-for : tie.Need-sub-bytes-for
+unfolding kept
+sub-bytes-for c =
+    let k = c .before .before .before .before .before .args .key in
+    let good : keyNumber (kept k) ≡ 0 = sym (c .before .before .before .before .check .ensures) ∙ c .before .before .before .if1 .left in
+    let z : Sizes (kept k) = sizes (kept k) good in
+    omega (arith, z .rows)
+
+bytes-for-requires : tie.Need-bytes-for-requires
+bytes-for-requires c κs = tt
+
+mul-if2 : tie.Need-mul-if2
+unfolding kept
+mul-if2 c =
+    let k = c .before .before .before .before .before .before .args .key in
+    let good : keyNumber (kept k) ≡ 0 = sym (c .before .before .before .before .before .check .ensures) ∙ c .before .before .before .before .if1 .left in
+    let z : Sizes (kept k) = sizes (kept k) good in
+    let e = sizes-le (k .m * k .t) (k .n - k .m * k .t) (c .bytes-for .result) (omega (arith, z .rows, z .columns)) (omega (arith, z .columns)) (c .bytes-for .ensures) in
+    omega arith
+
+returns-2 : tie.Need-returns-2
+unfolding kept
+returns-2 c =
+    let k = c .before .before .before .before .before .before .before .args .key in
+    let good : keyNumber (kept k) ≡ 0 = sym (c .before .before .before .before .before .before .check .ensures) ∙ c .before .before .before .before .before .if1 .left in
+    let e = ap (_*_ (k .m * k .t)) (c .before .bytes-for .ensures) in
+    check-output (kept k) _ _ good (omega arith)
+
+bytes-for-requires-2 : tie.Need-bytes-for-requires-2
+bytes-for-requires-2 c κs = tt
+
+mul-if3 : tie.Need-mul-if3
+unfolding kept
+mul-if3 c =
+    let k = c .before .before .before .before .before .before .before .before .args .key in
+    let good : keyNumber (kept k) ≡ 0 = sym (c .before .before .before .before .before .before .before .check .ensures) ∙ c .before .before .before .before .before .before .if1 .left in
+    let z : Sizes (kept k) = sizes (kept k) good in
+    let e = sizes-le (k .m * k .t) (k .n) (c .bytes-for2 .result) (omega (arith, z .rows, z .columns)) (z .columns) (c .bytes-for2 .ensures) in
+    omega arith
+
+returns-3 : tie.Need-returns-3
+unfolding kept
+returns-3 c =
+    let k = c .before .before .before .before .before .before .before .before .before .args .key in
+    let good : keyNumber (kept k) ≡ 0 = sym (c .before .before .before .before .before .before .before .before .check .ensures) ∙ c .before .before .before .before .before .before .before .if1 .left in
+    let e = ap (_*_ (k .m * k .t)) (c .before .before .before .bytes-for .ensures) in
+    let f = ap (_*_ (k .m * k .t)) (c .before .bytes-for2 .ensures) in
+    check-work (kept k) _ _ good (omega arith) (omega arith)
+
+returns-4 : tie.Need-returns-4
+unfolding kept
+returns-4 c =
+    let k = c .before .before .before .before .before .before .before .before .before .args .key in
+    let good : keyNumber (kept k) ≡ 0 = sym (c .before .before .before .before .before .before .before .before .check .ensures) ∙ c .before .before .before .before .before .before .before .if1 .left in
+    let e = ap (_*_ (k .m * k .t)) (c .before .before .before .bytes-for .ensures) in
+    let f = ap (_*_ (k .m * k .t)) (c .before .bytes-for2 .ensures) in
+    check-none (kept k) _ _ good (omega arith) (omega arith)
+
+pub refusal-spec : {M : Type 1} → statement M
+refusal-spec =
+    tie.close
+    (tie.spec
+    check-requires
+    returns
+    cast-n
+    cast-rows
+    cast-rows-2
+    mul-rows
+    sub-bytes-for
+    bytes-for-requires
+    mul-if2
+    returns-2
+    bytes-for-requires-2
+    mul-if3
+    returns-3
+    returns-4)
