@@ -1,0 +1,5 @@
+pub mod Written
+pub mod Gathered
+pub mod Scan
+pub mod Packed
+pub mod Located

@@ -1,0 +1,4 @@
+// Reading and opening on a kept key (document 01, 'Reading and opening', the usual way).
+mod places;
+mod points;
+mod sums;
