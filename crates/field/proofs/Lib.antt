@@ -9,5 +9,6 @@ pub mod Numbers
 pub mod Machine
 pub mod Guards
 pub mod Places
+pub mod Reciprocals
 pub mod Gf
 pub mod Arrays

@@ -45,17 +45,12 @@ fn no_zero(s: &[u16]) -> bool
     true
 }
 
-// No g(a) is 0, by Horner's rule at all places a of s; past them the values stay 1.
+// No g(a) is 0, a from s.
 fn no_root(m: u8, g: &[u16], s: &[u16]) -> bool
     requires { ⌜ (isWidth m ≡ true) × (length (now s) ≤ 8192) ⌝ }
     ensures { λ r. ⌜ r ≡ noRoot m (now (g .entry)) (now (s .entry)) ⌝ }
 {
-    let mut values = [1u16; 8192];
-    let mut k = g.len();
-    while 0 < k {
-        k -= 1;
-        field::horner_each(m, &mut values, s, g[k]);
-    }
+    let values = poly::values(m, g, s);
     no_zero(&values)
 }
 

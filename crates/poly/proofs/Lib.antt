@@ -1,5 +1,6 @@
 pub mod Examples
 pub mod Laws
+pub mod AtPoints
 pub mod Steps
 pub mod Answers
 pub mod RegisterLaws

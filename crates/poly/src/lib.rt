@@ -4,5 +4,6 @@ mod register;
 mod square;
 
 pub use horner::value;
+pub use horner::values;
 pub use register::Registered;
 pub use square::has_square;

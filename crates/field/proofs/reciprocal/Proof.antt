@@ -1,13 +1,12 @@
 -- `field::reciprocal` meets its contract. The loop's invariant: r is a^(2^(k-1) - 1). Assumes nothing.
 use mathlib.Core.Path.{_≡_, sym, ap, _∙_}
-use Prim.Native.Nat.{ℕ, suc, _+_, _-_, _^_, _≤_, _<_}
-use native.Mathlib.Nat.{pow-suc}
+use Prim.Native.Nat.{ℕ, _-_, _^_, _≤_, _<_}
 use native.Mathlib.Omega.{arith}
 use borrow.Author.Needs.{needs}
-use lib.Pow.{pow-pos}
 use Rattle.field.specs.Field.{mul, power, inv}
 use Rattle.field.proofs.Table.{Width, width-modulus, width-narrow}
-use Rattle.field.proofs.Laws.{mul-lt, power-zero, power-suc, power-lt, power-add, inv-power}
+use Rattle.field.proofs.Laws.{mul-lt, power-zero, power-lt}
+use Rattle.field.proofs.Reciprocals.{power-turn, power-last}
 use Rattle.field.proofs.reciprocal.Statement.{statement}
 use Rattle.field.proofs.reciprocal.Tie as tie
 
@@ -17,28 +16,6 @@ power-element m a r k w e = rw e (power-lt m w a k)
 
 product-element : (m a b s : ℕ) → s ≡ mul m a b → s < 2 ^ m
 product-element m a b s e = rw e (mul-lt m a b)
-
-module _ (m a k r : ℕ) (w : Width m) (p : 0 < k) (g : r ≡ power m a (2 ^ (k - 1) - 1)) where
-  -- the exponents' law
-  double : 2 ^ (k - 1) + 2 ^ (k - 1) ≡ 2 ^ k
-  double = let n : suc (k - 1) ≡ k = omega arith in omega (arith, pow-suc 2 (k - 1), ap (_^_ 2) n)
-
-  squared : mul m r r ≡ power m a (2 ^ k - 2)
-  squared =
-      let e : 2 ^ (k - 1) - 1 + (2 ^ (k - 1) - 1) ≡ 2 ^ k - 2 = omega (arith, double, pow-pos (k - 1)) in
-      ap (λ (x : ℕ). mul m x x) g ∙ sym (power-add m w a _ _) ∙ ap (power m a) e
-
-  -- a turn
-  grow : (s : ℕ) → s ≡ mul m r r → mul m s a ≡ power m a (2 ^ (k + 1 - 1) - 1)
-  grow s e =
-      let n : k ≡ k + 1 - 1 = omega arith in
-      let q : suc (2 ^ k - 2) ≡ 2 ^ k - 1 = omega (arith, double, pow-pos (k - 1)) in
-      ap (λ (x : ℕ). mul m x a) (e ∙ squared) ∙ sym (power-suc m a (2 ^ k - 2)) ∙ ap (power m a) q
-      ∙ ap (λ (x : ℕ). power m a (2 ^ x - 1)) n
-
-  -- the square after the last
-  done : k ≤ m → m ≤ k → mul m r r ≡ inv m a
-  done l h = let n : k ≡ m = omega arith in squared ∙ ap (λ (x : ℕ). power m a (2 ^ x - 2)) n ∙ sym (inv-power m w a)
 
 abbrev Inv-loop : tie.InvT-loop
 Inv-loop m f a r₀ k₀ r k = (0 < k) × (k ≤ m) × (r ≡ power m a (2 ^ (k - 1) - 1))
@@ -68,8 +45,14 @@ loop-less c = omega arith
 loop-again : tie.Need-loop-again Inv-loop μ-loop
 loop-again c =
     let at = c .before .before .before in
-    let inv = at .loop .inv in
-    (omega arith, omega arith, c .product2 .ensures ∙ grow _ _ _ _ (at .before .pre .0) (inv .0) (inv .2) _ (c .before .product .ensures))
+    let a = at .before .args in
+    let inv = at .loop .inv in (
+      omega arith,
+      omega arith,
+      c .product2 .ensures
+          ∙ ap (λ (x : ℕ). mul (a .m) x (a .a)) (c .before .product .ensures ∙ ap (λ (x : ℕ). mul (a .m) x x) (inv .2))
+          ∙ power-turn (a .m) (a .a) (at .loop .k) (at .before .pre .0) (inv .0),
+    )
 
 product-requires-3 : tie.Need-product-requires-3 Inv-loop μ-loop
 product-requires-3 c κs =
@@ -79,8 +62,9 @@ product-requires-3 c κs =
 returns : tie.Need-returns Inv-loop μ-loop
 returns c =
     let at = c .before .before in
+    let a = at .before .args in
     let inv = at .loop .inv in
-    c .product3 .ensures ∙ done _ _ _ _ (at .before .pre .0) (inv .0) (inv .2) (inv .1) (c .before .loop-test .left)
+    c .product3 .ensures ∙ ap (λ (x : ℕ). mul (a .m) x x) (inv .2) ∙ power-last (a .m) (a .a) (at .loop .k) (at .before .pre .0) (inv .0) (omega arith)
 
 pub reciprocal-spec : {M : Type 1} → statement M
 reciprocal-spec =

@@ -1,86 +1,28 @@
--- The loop's invariant: the values of the polynomial with the coefficients from k on. Assumes nothing.
-use mathlib.Core.Path.{_≡_, sym, ap, _∙_}
+-- `key::checks::no_root` meets its contract. Assumes nothing.
+use mathlib.Core.Path.{ap, _∙_}
 use mathlib.Core.Bool.{not}
-use mathlib.Core.List.{List}
-use Prim.Native.Nat.{ℕ, _-_, _≤_}
-use native.Mathlib.Omega.{arith}
 use borrow.Author.Needs.{needs}
 use lib.Dec.{eqb}
-use lib.ListN.{length, getD, drop}
 use Rattle.bits.specs.Bits.{every}
-use Rattle.field.specs.Poly.{hornerEach}
-use Rattle.key.proofs.Values.{valuesAt, length-values, values-start, values-next, values-end}
+use Rattle.key.proofs.Values.{values-root}
 use Rattle.key.proofs.checks.no_root.Statement.{statement}
 use Rattle.key.proofs.checks.no_root.Tie as tie
 
-abbrev Inv-loop : tie.InvT-loop
-Inv-loop m g s values₀ k₀ values k = (k ≤ length g) × (values ≡ valuesAt m 8192 (drop k g) s)
+values-requires : tie.Need-values-requires
+values-requires c κs = tt
 
-abbrev μ-loop : tie.MeasureT-loop
-μ-loop m g s values₀ k₀ values k = k
+slice-aggregate-no-zero : tie.Need-slice-aggregate-no-zero
+slice-aggregate-no-zero c = search needs
 
-loop-holds : tie.Need-loop-holds Inv-loop μ-loop
-loop-holds c = let a = c .before .before .args in (omega arith, values-start (a .m) 8192 (a .g .now) (a .s .now))
-
-sub-k : tie.Need-sub-k Inv-loop μ-loop
-sub-k c = omega arith
-
-slice-aggregate-horner-each : tie.Need-slice-aggregate-horner-each Inv-loop μ-loop
-slice-aggregate-horner-each c = sym (ap length (c .before .before .loop .inv .1) ∙ length-values _ 8192 _ _)
-
-mul-horner-each : tie.Need-mul-horner-each Inv-loop μ-loop
-mul-horner-each c = search needs
-
-shared-slice-read-horner-each : tie.Need-shared-slice-read-horner-each Inv-loop μ-loop
-shared-slice-read-horner-each c = omega arith
-
-horner-each-requires : tie.Need-horner-each-requires Inv-loop μ-loop
-horner-each-requires c κs = tt
-
-loop-less : tie.Need-loop-less Inv-loop μ-loop
-loop-less c = omega arith
-
-loop-again : tie.Need-loop-again Inv-loop μ-loop
-loop-again c =
-    let l = c .before .before .before .before .before .loop in
-    let b = c .before .before .before .before .before .before .before .before in
-    let a = b .args in (
-      omega arith,
-      c .before .horner-each .ensures
-          ∙ ap (λ (v : List ℕ). hornerEach (a .m) (getD (a .g .now) (l .k - 1) 0) v (a .s .now)) (l .inv .1)
-          ∙ values-next (a .m) 8192 (b .pre .0) (a .g .now) (a .s .now) (l .k) (omega arith) (l .inv .0),
-    )
-
-slice-aggregate-no-zero : tie.Need-slice-aggregate-no-zero Inv-loop μ-loop
-slice-aggregate-no-zero c = sym (ap length (c .before .before .loop .inv .1) ∙ length-values _ 8192 _ _)
-
-no-zero-requires : tie.Need-no-zero-requires Inv-loop μ-loop
+no-zero-requires : tie.Need-no-zero-requires
 no-zero-requires c κs = tt
 
-returns : tie.Need-returns Inv-loop μ-loop
+returns : tie.Need-returns
 returns c =
-    let l = c .before .before .before .loop in
-    let b = c .before .before .before .before .before .before in
+    let b = c .before .before .before .before .before in
     let a = b .args in
-    let e : l .k ≡ 0 = omega arith in
-    c .no-zero .ensures
-    ∙ ap (every (λ x. not (eqb x 0))) (l .inv .1 ∙ ap (λ (k : ℕ). valuesAt (a .m) 8192 (drop k (a .g .now)) (a .s .now)) e)
-    ∙ values-end (a .m) 8192 (a .g .now) (a .s .now) (b .pre .1)
+    c .no-zero .ensures ∙ ap (every (λ x. not (eqb x 0))) (c .before .before .values .ensures)
+    ∙ values-root (a .m) (b .pre .0) (a .g .now) (a .s .now) (b .pre .1)
 
 pub no-root-spec : {M : Type 1} → statement M
-no-root-spec =
-    tie.close
-    (tie.spec
-    Inv-loop
-    μ-loop
-    loop-holds
-    sub-k
-    slice-aggregate-horner-each
-    mul-horner-each
-    shared-slice-read-horner-each
-    horner-each-requires
-    loop-less
-    loop-again
-    slice-aggregate-no-zero
-    no-zero-requires
-    returns)
+no-root-spec = tie.close (tie.spec values-requires slice-aggregate-no-zero no-zero-requires returns)
