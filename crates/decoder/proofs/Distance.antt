@@ -10,7 +10,7 @@ use lib.ListN.{length}
 use Rattle.bits.specs.Bits.{Row, ones}
 use Rattle.algebra.proofs.Ring.{zero-mul}
 use Rattle.algebra.proofs.Field.{Field, no-divisors}
-use Rattle.algebra.proofs.Points.{All, powerSum}
+use Rattle.algebra.proofs.Points.{All, all-map, powerSum}
 use Rattle.algebra.proofs.Series.{Series}
 use Rattle.algebra.proofs.Eval.{eval}
 use Rattle.algebra.proofs.Goppa.{Reciprocals, goppa, goppa-back}
@@ -22,23 +22,31 @@ use Rattle.key.proofs.Goppa.{goppaPoly, goppa-separable}
 use Rattle.code.specs.Code.{inCode}
 use Rattle.decoder.proofs.Words.{wordPoints, goppaInverse, distinct-word, length-word, word-reciprocals, code-powers}
 
--- inverses are not 0, so where their squares are 0 there is no point
+-- inverses are not 0, nor are their squares: where these are 0 there is no point
 module _ (K : Field) where
-  open Field K using (F, 𝟘, 𝟙≢𝟘, _⊗_, laws as L)
+  open Field K using (F, 𝟘, 𝟙, 𝟙≢𝟘, _⊗_, laws as L)
 
   infixl 70 _⊗_
-  no-point : (n : ℕ) (G : Series F) (w : F → F) (E : List F) → Reciprocals L n G w E → All (λ a. w a ⊗ w a ≡ 𝟘) E → length E ≡ 0
+  square-weights : (n : ℕ) (G : Series F) (w : F → F) (E : List F) → Reciprocals L n G w E → All (λ a. w a ⊗ w a ≢ 𝟘) E
   unfolding Reciprocals
-  no-point n G w [] u z = refl
-  no-point n G w (a ∷ E) u z = absurd (unit (no-divisors K (w a) (w a) unit (z .0)))
+  square-weights n G w E u = all-map _ _ (λ a h z. unit a h (no-divisors K (w a) (w a) (unit a h) z)) E u
     where
-      unit : w a ≢ 𝟘
-      unit e = 𝟙≢𝟘 (sym (u .0) ∙ ap (λ x. x ⊗ eval L n G a) e ∙ zero-mul L (eval L n G a))
+      unit : (a : F) → w a ⊗ eval L n G a ≡ 𝟙 → w a ≢ 𝟘
+      unit a h e = 𝟙≢𝟘 (sym h ∙ ap (λ x. x ⊗ eval L n G a) e ∙ zero-mul L (eval L n G a))
+
+  no-point : (w : F → F) (E : List F) → All (λ a. w a ≢ 𝟘) E → All (λ a. w a ≡ 𝟘) E → length E ≡ 0
+  no-point w [] u z = refl
+  no-point w (a ∷ E) u z = absurd (u .0 (z .0))
 
 module _ (k : Key) (A : Accepted k) where
   -- 1 / g(x)²
   unfoldable pub squareInverse : Elem (k .m) → Elem (k .m)
   squareInverse x = times (k .m) (goppaInverse k A x) (goppaInverse k A x)
+
+  -- it is not 0 at the points
+  pub square-not-zero : (c : List ℕ) → All (λ a. squareInverse a ≢ zero-elem (k .m)) (wordPoints k c)
+  unfolding squareInverse
+  square-not-zero c = square-weights (gf (k .m) (A .width)) (suc (k .t)) (goppaPoly k) (goppaInverse k A) (wordPoints k c) (word-reciprocals k A c)
 
   module _ {c : List ℕ} (r : Row (k .n) c) where
     -- Goppa's theorem: a word is in the code exactly when 2t power sums over its points are 0, with g² for g
@@ -50,9 +58,8 @@ module _ (k : Key) (A : Accepted k) where
     )
 
     pub distance : inCode k c ≡ true → ones c ≤ k .t + k .t → ones c ≡ 0
-    unfolding squareInverse
     distance h few =
         let l : length (wordPoints k c) ≡ ones c = length-word k A r in
         sym l
-        ∙ no-point (gf (k .m) (A .width)) (suc (k .t)) (goppaPoly k) (goppaInverse k A) (wordPoints k c) (word-reciprocals k A c)
+        ∙ no-point (gf (k .m) (A .width)) squareInverse (wordPoints k c) (square-not-zero c)
         (vandermonde (gf (k .m) (A .width)) squareInverse (wordPoints k c) (distinct-word k A c) (λ s b. code-squares .0 h s (omega arith)))

@@ -4,3 +4,6 @@ pub mod Sanity
 pub mod Words
 pub mod Distance
 pub mod Uniqueness
+pub mod Sums
+pub mod Reversed
+pub mod Decoding

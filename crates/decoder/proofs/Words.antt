@@ -24,6 +24,7 @@ use Rattle.field.proofs.Table.{Width}
 use Rattle.field.proofs.Laws.{mul-lt}
 use Rattle.field.proofs.Gf.{Elem, val, val-inj, val-zero, val-xor, val-mul, val-inv, val-power, plus, times, inverse, zero-elem, laws, gf}
 use Rattle.field.proofs.Arrays.{points, all-points, distinct-points}
+use Rattle.poly.specs.Polynomials.{sum}
 use Rattle.key.specs.Keys.{Key, goppaAt}
 use Rattle.key.proofs.Accepted.{Accepted}
 use Rattle.key.proofs.Goppa.{goppaPoly, goppa-value, goppa-lt}
@@ -58,19 +59,25 @@ distinct-chosen f (b ∷ c) [] h = tt
 distinct-chosen f (zero ∷ c) (a ∷ l) h = distinct-chosen f c l (h .1)
 distinct-chosen f (suc b ∷ c) (a ∷ l) h = (all-chosen (λ x. ¬ (f a ≡ x)) f c l (h .0), distinct-chosen f c l (h .1))
 
-module _ (m : ℕ) (W : Width m) where
-  -- a sum over the ones of a word, read in the field
-  pub dot-total : {n : ℕ} {c : List ℕ} → Row n c → (f : ℕ → ℕ) (h : Elem m → Elem m) → ((a : ℕ) → val m (f a) ≡ h (val m a))
-      → (l : List ℕ) → val m (dot c (map f l)) ≡ total (laws m W) h (points m (chosen c l))
-  unfolding dot chosen total
-  dot-total end f h e l = val-zero m
-  dot-total (off r) f h e [] = val-zero m
-  dot-total (on r) f h e [] = val-zero m
-  dot-total (off {e = c} r) f h e (a ∷ l) =
-      ap (val m) (ap (λ (x : ℕ). x ⊕ dot c (map f l)) (zero-mul (f a)) ∙ zero-xor (dot c (map f l))) ∙ dot-total r f h e l
-  dot-total (on {e = c} r) f h e (a ∷ l) =
-      ap (λ (x : ℕ). val m (x ⊕ dot c (map f l))) (one-mul (f a))
-      ∙ val-xor m (f a) (dot c (map f l)) ∙ ap₂ (plus m) (e a) (dot-total r f h e l)
+-- a sum over the ones of a word, as the sum over the chosen
+pub dot-chosen : {n : ℕ} {c : List ℕ} → Row n c → (f : ℕ → ℕ) (l : List ℕ) → dot c (map f l) ≡ sum (map f (chosen c l))
+unfolding dot chosen sum
+dot-chosen end f l = refl
+dot-chosen (off r) f [] = refl
+dot-chosen (on r) f [] = refl
+dot-chosen (off {e = c} r) f (a ∷ l) =
+    ap (λ (x : ℕ). x ⊕ dot c (map f l)) (zero-mul (f a)) ∙ zero-xor (dot c (map f l)) ∙ dot-chosen r f l
+dot-chosen (on r) f (a ∷ l) = ap₂ _⊕_ (one-mul (f a)) (dot-chosen r f l)
+
+module _ (m : ℕ) (W : Width m) (f : ℕ → ℕ) (h : Elem m → Elem m) (e : (a : ℕ) → val m (f a) ≡ h (val m a)) where
+  -- and read in the field
+  sum-total : (l : List ℕ) → val m (sum (map f l)) ≡ total (laws m W) h (points m l)
+  unfolding sum total
+  sum-total [] = val-zero m
+  sum-total (a ∷ l) = val-xor m (f a) (sum (map f l)) ∙ ap₂ (plus m) (e a) (sum-total l)
+
+  pub dot-total : {n : ℕ} {c : List ℕ} → Row n c → (l : List ℕ) → val m (dot c (map f l)) ≡ total (laws m W) h (points m (chosen c l))
+  dot-total {c = c} r l = ap (val m) (dot-chosen r f l) ∙ sum-total (chosen c l)
 
 -- the points of a word
 abbrev pub wordPoints : (k : Key) → List ℕ → List (Elem (k .m))
@@ -81,10 +88,11 @@ module _ (k : Key) (A : Accepted k) where
   unfoldable pub goppaInverse : Elem (k .m) → Elem (k .m)
   goppaInverse x = inverse (k .m) (eval (laws (k .m) (A .width)) (suc (k .t)) (goppaPoly k) x)
 
+  pub distinct-support : Distinct (points (k .m) (k .support))
+  distinct-support = distinct-points (k .m) (k .support) (A .support-below) (λ i j h b. A .different i j h (rw (A .support-length) at b))
+
   pub distinct-word : (c : List ℕ) → Distinct (wordPoints k c)
-  distinct-word c =
-      distinct-chosen (val (k .m)) c (k .support)
-      (distinct-points (k .m) (k .support) (A .support-below) (λ i j h b. A .different i j h (rw (A .support-length) at b)))
+  distinct-word c = distinct-chosen (val (k .m)) c (k .support) distinct-support
 
   pub length-word : {c : List ℕ} → Row (k .n) c → length (wordPoints k c) ≡ ones c
   length-word {c} r = length-map (chosen c (k .support)) (val (k .m)) ∙ length-chosen r (k .support) (A .support-length)
@@ -110,7 +118,7 @@ module _ (k : Key) (A : Accepted k) where
   -- the sums of the definition are power sums over the points
   pub word-sum : {c : List ℕ} → Row (k .n) c → (s : ℕ)
       → val (k .m) (dot c (map (entry k s) (k .support))) ≡ powerSum (laws (k .m) (A .width)) goppaInverse s (wordPoints k c)
-  word-sum r s = dot-total (k .m) (A .width) r (entry k s) _ (entry-weight s) (k .support)
+  word-sum r s = dot-total (k .m) (A .width) (entry k s) _ (entry-weight s) r (k .support)
 
 -- the code, by its sums
 pub code-sums : (k : Key) (c : List ℕ) → inCode k c ≡ true → (s : ℕ) → s < k .t → dot c (map (entry k s) (k .support)) ≡ 0

@@ -11,6 +11,7 @@ use lib.Seq.{ext-getD, getD-set-same, getD-set-other}
 use lib.Pow.{pow-pos}
 use borrow.Author.Tests.{ltb-true}
 use Rattle.bits.specs.Bits.{every, xorRow}
+use Rattle.bits.proofs.Xor.{xor-lt}
 use Rattle.bits.proofs.Lists.{every-at}
 use Rattle.bits.proofs.Rows.{getD-xorRow}
 use Rattle.algebra.proofs.Ring.{zero-add}
@@ -22,7 +23,7 @@ use Rattle.algebra.proofs.Eval.{eval}
 use Rattle.field.specs.Field.{isElement, mul}
 use Rattle.field.specs.Poly.{value}
 use Rattle.field.proofs.Table.{Width}
-use Rattle.field.proofs.Laws.{mul-zero}
+use Rattle.field.proofs.Laws.{mul-zero, mul-lt}
 use Rattle.field.proofs.Gf.{Elem, val, val-elem, val-inj, val-zero, val-xor, val-mul, plus, times, laws}
 
 -- every entry is an element
@@ -35,6 +36,18 @@ every-elements m xs e k = elim (decLt k (length xs)) [
   | yes h ↦ ltb-true (getD xs k 0) (2 ^ m) (every-at (isElement m) xs e k 0 h)
   | no h ↦ rw (List·getD-eq-default xs 0 {n = k} (omega arith)) (pow-pos m)
 ]
+
+-- what a map makes are elements
+pub map-elements : (m : ℕ) (f : ℕ → ℕ) → ((x : ℕ) → f x < 2 ^ m) → (xs : List ℕ) → Elements m (map f xs)
+map-elements m f h [] k = pow-pos m
+map-elements m f h (x ∷ xs) zero = h x
+map-elements m f h (x ∷ xs) (suc k) = map-elements m f h xs k
+
+-- a value is an element
+pub value-lt : (m : ℕ) (xs : List ℕ) → Elements m xs → (a : ℕ) → value m xs a < 2 ^ m
+unfolding value
+value-lt m [] e a = pow-pos m
+value-lt m (x ∷ xs) e a = xor-lt m (e 0) (mul-lt m a (value m xs a))
 
 -- the polynomial with these coefficients
 abbrev pub poly : (m : ℕ) → List ℕ → Series (Elem m)

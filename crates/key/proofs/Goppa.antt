@@ -1,26 +1,16 @@
 -- The polynomial g of an accepted key over the field: its values, and the combination of g and g′ that is 1. Assumes nothing.
 use mathlib.Core.Path.{_≡_, sym, ap, _∙_, subst}
-use mathlib.Core.List.{List, [], _∷_}
 use Prim.Native.Nat.{ℕ, suc, _^_, _<_}
-use lib.Pow.{pow-pos}
-use Rattle.bits.proofs.Xor.{xor-lt}
 use Rattle.algebra.proofs.Series.{Series}
 use Rattle.algebra.proofs.Eval.{eval}
 use Rattle.algebra.proofs.Goppa.{Separable}
-use Rattle.field.specs.Poly.{value}
-use Rattle.field.proofs.Laws.{mul-lt}
 use Rattle.field.proofs.Gf.{Elem, val, laws}
-use Rattle.field.proofs.Arrays.{Elements, poly, poly-value}
+use Rattle.field.proofs.Arrays.{poly, value-lt, poly-value}
 use Rattle.poly.specs.Polynomials.{monic}
 use Rattle.poly.proofs.Product.{length-monic, monic-elements}
 use Rattle.poly.proofs.SquareSearch.{hasSquare-separable}
 use Rattle.key.specs.Keys.{Key, goppaAt}
 use Rattle.key.proofs.Accepted.{Accepted}
-
-value-lt : (m : ℕ) (g : List ℕ) → Elements m g → (a : ℕ) → value m g a < 2 ^ m
-unfolding value
-value-lt m [] e a = pow-pos m
-value-lt m (x ∷ g) e a = xor-lt m (e 0) (mul-lt m a (value m g a))
 
 -- g as a polynomial over the field
 abbrev pub goppaPoly : (k : Key) → Series (Elem (k .m))

@@ -19,7 +19,7 @@ use Rattle.field.specs.Field.{mul}
 use Rattle.field.proofs.Table.{Width}
 use Rattle.field.proofs.Laws.{mul-lt, one-lt}
 use Rattle.field.proofs.Gf.{Elem, val, val-elem, val-zero, val-xor, val-mul, val-one, plus, laws}
-use Rattle.field.proofs.Arrays.{Elements, poly, array, length-array, array-at, poly-below}
+use Rattle.field.proofs.Arrays.{Elements, map-elements, poly, array, length-array, array-at, poly-below}
 use Rattle.poly.specs.Polynomials.{sum, monic, product}
 use Rattle.poly.proofs.Laws.{coefficient, length-product, product-at}
 
@@ -49,15 +49,10 @@ module _ (m : ℕ) where
   sum-lt [] e = pow-pos m
   sum-lt (x ∷ l) e = xor-lt m (e 0) (sum-lt l (λ k. e (suc k)))
 
-  products-lt : (f g : ℕ → ℕ) (l : List ℕ) → Elements m (map (λ i. mul m (f i) (g i)) l)
-  products-lt f g [] k = pow-pos m
-  products-lt f g (x ∷ l) zero = mul-lt m (f x) (g x)
-  products-lt f g (x ∷ l) (suc k) = products-lt f g l k
-
   pub product-elements : (p q : List ℕ) → Elements m (product m p q)
   unfolding coefficient
   product-elements p q k = elim (decLt k (length p + length q - 1)) [
-    | yes h ↦ rw (product-at m p q k h) (sum-lt _ (products-lt (λ i. getD p i 0) (λ i. getD q (k - i) 0) (from 0 (k + 1))))
+    | yes h ↦ rw (product-at m p q k h) (sum-lt _ (map-elements m _ (λ i. mul-lt m _ _) (from 0 (k + 1))))
     | no h ↦ rw (List·getD-eq-default (product m p q) 0 {n = k} (omega (arith, length-product m p q))) (pow-pos m)
   ]
 
