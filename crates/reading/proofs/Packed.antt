@@ -19,24 +19,7 @@ use Rattle.bits.proofs.Lists.{take-below}
 use Rattle.bits.proofs.Pack.{row-cons, row-of, row-lt, row-length, length-pack, bytes-pack, bit-pack, unpack-ext, unpack-pack}
 use Rattle.key.specs.Kept.{padded}
 use Rattle.reading.specs.Parts.{mark, packed}
-
--- zeros behind a list
-zeros-behind : (s : List ℕ) (n k : ℕ) → getD (s ++ replicate n 0) k 0 ≡ getD s k 0
-zeros-behind [] n k = zeros-at n k
-zeros-behind (x ∷ s) n zero = refl
-zeros-behind (x ∷ s) n (suc k) = zeros-behind s n k
-
-pub padded-at : (n : ℕ) (s : List ℕ) (k : ℕ) → getD (padded n s) k 0 ≡ getD s k 0
-unfolding padded
-padded-at n s k = zeros-behind s (n - length s) k
-
-pub length-padded : (n : ℕ) (s : List ℕ) → length s ≤ n → length (padded n s) ≡ n
-unfolding padded
-length-padded n s h = omega (arith, length-append s (replicate (n - length s) 0), length-replicate {A = ℕ} (n - length s) 0)
-
-pub take-padded : (n : ℕ) (s : List ℕ) (k : ℕ) → length s ≡ k → take k (padded n s) ≡ s
-unfolding padded
-take-padded n s k e = take-at s (replicate (n - length s) 0) k e
+use Rattle.reading.proofs.Written.{padded-at, length-padded, take-padded}
 
 pub bytes-short : (n : ℕ) → n ≤ 8192 → bytesFor n ≤ 1024
 unfolding bytesFor

@@ -1,4 +1,5 @@
 // Reading and opening on a kept key (document 01, 'Reading and opening', the usual way).
+mod decoding;
 mod places;
 mod points;
 mod sums;

@@ -1,10 +1,13 @@
 // The places that a register gives.
+use poly::Registered;
 ghost use mathlib.Core.Path.{_≡_};
-ghost use mathlib.Core.List.{map};
+ghost use mathlib.Core.List.{[], map};
 ghost use Prim.Native.Nat.{_≤_};
 ghost use lib.ListN.{length};
+ghost use Rattle.poly.specs.Register.{register, registerNumber};
 ghost use Rattle.key.specs.Kept.{padded};
-ghost use Rattle.reading.specs.Parts.{backward as backwardOf, mark as markOf, packed};
+ghost use Rattle.decoder.specs.Decoding.{places};
+ghost use Rattle.reading.specs.Parts.{keyOf, backward as backwardOf, mark as markOf, packed};
 
 // The coefficients c_l, .., c_1, with zeros behind them.
 fn backward(c: [u16; 257], l: usize) -> [u16; 256]
@@ -39,4 +42,18 @@ fn marks(values: &[u16]) -> [u8; 1024]
         i += 1;
     }
     pattern
+}
+
+// The pattern with a one at each place of the support that the register of the sums s gives.
+pub fn located(m: u8, support: &[u16], s: &[u16]) -> [u8; 1024]
+    requires { ⌜ (length (now support) ≤ 8192) × (registerNumber m (now s) ≡ 0) ⌝ }
+    ensures { λ r. ⌜ r ≡ packed (places (keyOf m (now (support .entry)) []) (register m (now (s .entry)))) ⌝ }
+{
+    let r = Registered::of(m, s);
+    let l = r.length;
+    let c = r.c;
+    let q = backward(c, l);
+    let v = poly::values(m, &q[..l], support);
+    let n = support.len();
+    marks(&v[..n])
 }

@@ -22,7 +22,8 @@ loop-holds : tie.Need-loop-holds Inv-loop μ-loop
 loop-holds c = (omega arith, sym packed-none)
 
 slice-aggregate-set-bit : tie.Need-slice-aggregate-set-bit Inv-loop μ-loop
-slice-aggregate-set-bit c = let b = c .before .before .before .before in
+slice-aggregate-set-bit c =
+    let b = c .before .before .before .before in
     let l = c .before .before .loop in
     sym (ap length (l .inv .1) ∙ length-packed (row-take (row-marks (b .args .values .now)) (omega arith) (l .i) (omega arith)) (omega arith))
 
@@ -45,7 +46,8 @@ loop-less : tie.Need-loop-less Inv-loop μ-loop
 loop-less c = search needs
 
 loop-again : tie.Need-loop-again Inv-loop μ-loop
-loop-again c = let l = c .before .before .before .before .before .before .loop in
+loop-again c =
+    let l = c .before .before .before .before .before .before .loop in
     let a = c .before .before .before .before .before .before .before .before .args in (
       omega arith,
       c .before .set-bit .ensures
@@ -54,7 +56,8 @@ loop-again c = let l = c .before .before .before .before .before .before .loop i
     )
 
 returns : tie.Need-returns Inv-loop μ-loop
-returns c = let l = c .before .loop in
+returns c =
+    let l = c .before .loop in
     l .inv .1 ∙ ap packed (take-all (l .i) _ (rw length-map (omega arith)))
 
 pub marks-spec : {M : Type 1} → statement M

@@ -54,7 +54,8 @@ loop-less : tie.Need-loop-less Inv-loop μ-loop
 loop-less c = search needs
 
 loop-again : tie.Need-loop-again Inv-loop μ-loop
-loop-again c = let l = c .before .before .before .before .loop in
+loop-again c =
+    let l = c .before .before .before .before .loop in
     let a = c .before .before .before .before .before .before .before .args in
     let n : ℕ = length (a .support .now) in
     let b : c .before .bit-at .result < 2 = rw (c .before .bit-at .ensures) (bit-lt _ _) in
@@ -70,7 +71,8 @@ loop-again c = let l = c .before .before .before .before .loop in
     )
 
 returns : tie.Need-returns Inv-loop μ-loop
-returns c = let l = c .before .loop in
+returns c =
+    let l = c .before .loop in
     let a = c .before .before .before .before .args in
     let e : take (l .count) (l .at) ≡ chosenOf (unpack (length (a .support .now)) (a .word .now)) (a .support .now) =
     sym (gathered-all _ _ (l .count) (l .at) (l .i) (rw length-unpack (c .loop-test .left))) ∙ l .inv .3 in
