@@ -5,3 +5,5 @@ pub mod Packed
 pub mod Located
 pub mod PowerSums
 pub mod Explained
+pub mod Refusals
+pub mod Answered
