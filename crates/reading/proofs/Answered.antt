@@ -1,19 +1,16 @@
 -- What read and open answer and write, from what is found. Assumes nothing.
-use mathlib.Core.Path.{_≡_, refl, sym, ap, ap₂, _∙_}
-use mathlib.Core.Bool.{Bool, true, false, cond}
-use mathlib.Core.List.{List, [], _∷_, _++_, map}
+use mathlib.Core.Path.{_≡_, refl, sym, ap, _∙_}
+use mathlib.Core.Bool.{Bool, true, cond}
+use mathlib.Core.List.{List, _∷_, _++_, map}
 use mathlib.Core.Option.{Option, none, some}
-use Prim.Native.Nat.{ℕ, zero, suc, _+_, _-_, _*_, _≤_, _<_}
-use native.Mathlib.Nat.{zero-add}
+use Prim.Native.Nat.{ℕ, zero, suc, _+_, _-_, _*_, _≤_}
 use native.Mathlib.Omega.{arith}
-use lib.Dec.{eqb}
 use lib.ListN.{length, take, replicate}
 use borrow.Author.Tests.{eq-eqb, ne-eqb}
 use Rattle.bits.specs.Bits.{Row, from, bytesFor, bitAt, unpack, pack, ones, weight, wellFormed, over}
 use Rattle.bits.proofs.Lists.{map-from}
 use Rattle.bits.proofs.Pack.{length-unpack, unpack-add, well-formed-past}
 use Rattle.field.specs.Numbers.{firstOf}
-use Rattle.key.specs.Keys.{keyNumber}
 use Rattle.key.specs.Keys as Keys
 use Rattle.key.specs.Kept.{kept}
 use Rattle.key.specs.declared.kept.Key.{Key}
@@ -28,7 +25,7 @@ use Rattle.reading.specs.declared.calls.Answer.{Answer}
 use Rattle.reading.specs.declared.calls.Answer.the-variants.{Ones, Refused}
 use Rattle.reading.specs.declared.decoding.Found.{Found}
 use Rattle.reading.proofs.Packed.{take-packed, weight-packed}
-use Rattle.reading.proofs.Refusals.{read-clear, read-refused, read-number, open-clear, open-refused, open-number}
+use Rattle.reading.proofs.Refusals.{read-refused, read-number, open-clear, open-refused, open-number}
 
 -- the answer and the output for a number q and a pattern o
 module _ (q : ℕ) (o : Option (List ℕ)) (out : List ℕ) where

@@ -1,5 +1,5 @@
 -- The coefficients and the places of a register, as the code holds them. Assumes nothing.
-use mathlib.Core.Path.{_≡_, refl, sym, ap, ap₂, _∙_}
+use mathlib.Core.Path.{_≡_, ap, ap₂, _∙_}
 use mathlib.Core.List.{List, [], map, map-map}
 use Prim.Native.Nat.{ℕ, _-_, _≤_, _<_}
 use native.Mathlib.Nat.{zero-add}
@@ -9,7 +9,7 @@ use Rattle.bits.proofs.Lists.{length-map-from, map-from-at}
 use Rattle.field.specs.Poly.{value}
 use Rattle.field.proofs.Arrays.{every-elements}
 use Rattle.poly.specs.Polynomials.{monic, valuesAt}
-use Rattle.poly.specs.Register.{Register, register, registerNumber}
+use Rattle.poly.specs.Register.{register, registerNumber}
 use Rattle.poly.specs.Registered.{registered, registeredOf}
 use Rattle.poly.specs.declared.register.Registered.{Registered}
 use Rattle.poly.proofs.Answers.{accepted}

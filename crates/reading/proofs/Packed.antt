@@ -1,23 +1,19 @@
 -- A packed row with zeros behind it, written bit by bit. Assumes nothing.
 use mathlib.Core.Path.{_≡_, refl, sym, ap, _∙_, subst}
-use mathlib.Core.Bool.{Bool, true, false, cond}
-use mathlib.Core.Logic.{_≢_}
-use mathlib.Core.List.{List, [], _∷_, _++_, map}
-use Prim.Native.Nat.{ℕ, zero, suc, _+_, _-_, _*_, _/_, _%_, _≤_, _<_}
+use mathlib.Core.List.{List, [], _∷_, map}
+use Prim.Native.Nat.{ℕ, zero, suc, _+_, _≤_, _<_}
 use native.Mathlib.Nat.{mod-eq-of-lt, le-of-suc-le-suc, not-suc-le-zero}
-use native.Mathlib.Numerals.{add-one}
-use native.Mathlib.Decide.{ℕ-discrete, decLt}
+use native.Mathlib.Decide.{decLt}
 use native.Mathlib.Omega.{arith}
 use lib.Dec.{eqb}
-use lib.ListN.{length, getD, take, replicate, length-append, length-replicate, List·getD-eq-default, length-map}
-use lib.Seq.{getD-take, length-take-le, take-at, ext-getD}
-use Rattle.bits.specs.Bits.{Bytes, Row, end, from, bytesFor, bitAt, setBit, unpack, pack, ones, weight}
-use Rattle.bits.proofs.Xor.{Digit}
-use Rattle.bits.proofs.Xor as xor
-use Rattle.bits.proofs.Bits.{zeros-at, bit-past, bit-zeros, bytes-zeros, bits-determine, bytes-setBit, length-setBit, set-bit-same, set-bit-other}
+use lib.ListN.{length, getD, take, replicate, List·getD-eq-default}
+use lib.Seq.{getD-take, length-take-le}
+use Rattle.bits.specs.Bits.{Bytes, Row, from, bytesFor, bitAt, setBit, unpack, pack, ones, weight}
+use Rattle.bits.proofs.Bits.{bits-determine, bytes-setBit, length-setBit, set-bit-same, set-bit-other}
 use Rattle.bits.proofs.Lists.{take-below}
-use Rattle.bits.proofs.Pack.{row-cons, row-of, row-lt, row-length, length-pack, bytes-pack, bit-pack, unpack-ext, unpack-pack}
+use Rattle.bits.proofs.Pack.{row-of, row-lt, row-length, length-pack, bytes-pack, bit-pack, unpack-ext, unpack-pack}
 use Rattle.key.specs.Kept.{padded}
+use Rattle.decoder.proofs.Decoding.{row-marks as marks-row}
 use Rattle.reading.specs.Parts.{mark, packed}
 use Rattle.reading.proofs.Written.{padded-at, length-padded, take-padded}
 
@@ -49,67 +45,50 @@ module _ {n : ℕ} {e : List ℕ} (r : Row n e) where
   unfolding weight
   weight-packed = ap ones unpack-packed
 
+  -- the first i bits
+  pub row-take : (i : ℕ) → i ≤ n → Row i (take i e)
+  row-take i h =
+      let l : length (take i e) ≡ i = length-take-le i e (rw (row-length r) h) in
+      subst (λ (k : ℕ). Row k (take i e)) l (row-of (take i e) (take-below 2 i e (row-lt r)))
+
 -- no bits
 pub packed-none : packed [] ≡ replicate 1024 0
 unfolding packed padded pack bytesFor from
 packed-none = refl
 
 -- marks are bits
-mark-digit : (v : ℕ) → Digit (mark v)
-unfolding mark
-mark-digit v = go (eqb v 0)
-  where
-    go : (b : Bool) → Digit (cond b 1 0)
-    go true = xor.on
-    go false = xor.off
-
 pub map-at : (f : ℕ → ℕ) (l : List ℕ) (i : ℕ) → i < length l → getD (map f l) i 0 ≡ f (getD l i 0)
 map-at f [] i h = absurd (not-suc-le-zero h)
 map-at f (x ∷ l) zero h = refl
 map-at f (x ∷ l) (suc i) h = map-at f l i (le-of-suc-le-suc h)
 
 pub row-marks : (l : List ℕ) → Row (length l) (map mark l)
-row-marks [] = end
-row-marks (v ∷ l) = row-cons (mark-digit v) (row-marks l)
+unfolding mark
+row-marks l = marks-row (λ v. eqb v 0) l
 
 -- one bit more
 module _ {n : ℕ} {e : List ℕ} (r : Row n e) (short : n ≤ 8192) where
-  pub row-take : (i : ℕ) → i ≤ n → Row i (take i e)
-  row-take i h =
-      let l : length (take i e) ≡ i = length-take-le i e (rw (row-length r) h) in
-      subst (λ (k : ℕ). Row k (take i e)) l (row-of (take i e) (take-below 2 i e (row-lt r)))
-
-  bit-next : (i j : ℕ) → i < n → Dec (j ≡ i) → Dec (j < i) → bitAt (setBit (packed (take i e)) i (getD e i 0)) j ≡ getD (take (i + 1) e) j 0
-  bit-next i j h (yes q) d =
-      let l : length (packed (take i e)) ≡ 1024 = length-packed (row-take i (omega arith)) (omega arith) in
+  bit-next : (i j : ℕ) → i < n → Dec (j < i) → Dec (i < j) → bitAt (setBit (packed (take i e)) i (getD e i 0)) j ≡ getD (take (i + 1) e) j 0
+  bit-next i j h (yes l) d =
+      set-bit-other (packed (take i e)) i j (getD e i 0) (λ q. omega arith) ∙ bit-packed (row-take r i (omega arith)) j
+      ∙ getD-take i e j 0 l ∙ sym (getD-take (i + 1) e j 0 (omega arith))
+  bit-next i j h (no l) (yes d) =
+      let a : length (take i e) ≡ i = row-length (row-take r i (omega arith)) in
+      let b : length (take (i + 1) e) ≡ i + 1 = row-length (row-take r (i + 1) (omega arith)) in
+      set-bit-other (packed (take i e)) i j (getD e i 0) (λ q. omega arith) ∙ bit-packed (row-take r i (omega arith)) j
+      ∙ List·getD-eq-default (take i e) 0 (omega arith) ∙ sym (List·getD-eq-default (take (i + 1) e) 0 (omega arith))
+  bit-next i j h (no l) (no d) =
+      let q : j ≡ i = omega arith in
+      let a : length (packed (take i e)) ≡ 1024 = length-packed (row-take r i (omega arith)) (omega arith) in
       rw q
-      (set-bit-same (packed (take i e)) i (getD e i 0) (omega arith)
-      ∙ mod-eq-of-lt (row-lt r i)
-      ∙ sym (getD-take (i + 1) e i 0 (omega arith)))
-  bit-next i j h (no q) (yes d) =
-      set-bit-other (packed (take i e)) i j (getD e i 0) q
-      ∙ bit-packed (row-take i (omega arith)) j
-      ∙ getD-take i e j 0 d ∙ sym (getD-take (i + 1) e j 0 (omega arith))
-  bit-next i j h (no q) (no d) =
-      let a : length (take i e) ≡ i = row-length (row-take i (omega arith)) in
-      let b : length (take (i + 1) e) ≡ i + 1 = row-length (row-take (i + 1) (omega arith)) in
-      set-bit-other (packed (take i e)) i j (getD e i 0) q
-      ∙ bit-packed (row-take i (omega arith)) j
-      ∙ List·getD-eq-default (take i e) 0 (omega arith) ∙ sym (List·getD-eq-default (take (i + 1) e) 0 (below i j q d b))
-    where
-      below : (i j : ℕ) {k : ℕ} → j ≢ i → ¬ (j < i) → k ≡ i + 1 → k ≤ j
-      below i j q d b = rw b (go (decLt i j))
-        where
-          go : Dec (i < j) → i + 1 ≤ j
-          go (yes l) = omega arith
-          go (no l) = absurd (q (omega arith))
+      (set-bit-same (packed (take i e)) i (getD e i 0) (omega arith) ∙ mod-eq-of-lt (row-lt r i) ∙ sym (getD-take (i + 1) e i 0 (omega arith)))
 
   pub packed-next : (i : ℕ) → i < n → setBit (packed (take i e)) i (getD e i 0) ≡ packed (take (i + 1) e)
   packed-next i h =
-      let a : Row i (take i e) = row-take i (omega arith) in
-      let b : Row (i + 1) (take (i + 1) e) = row-take (i + 1) (omega arith) in
+      let a : Row i (take i e) = row-take r i (omega arith) in
+      let b : Row (i + 1) (take (i + 1) e) = row-take r (i + 1) (omega arith) in
       bits-determine (setBit (packed (take i e)) i (getD e i 0)) (packed (take (i + 1) e))
       (bytes-setBit (packed (take i e)) i (getD e i 0) (bytes-packed a))
       (bytes-packed b)
       (length-setBit (packed (take i e)) i (getD e i 0) ∙ length-packed a (omega arith) ∙ sym (length-packed b (omega arith)))
-      (λ j. bit-next i j h (ℕ-discrete j i) (decLt j i) ∙ sym (bit-packed b j))
+      (λ j. bit-next i j h (decLt j i) (decLt i j) ∙ sym (bit-packed b j))

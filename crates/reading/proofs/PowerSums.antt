@@ -2,7 +2,7 @@
 use mathlib.Core.Path.{_≡_, refl, sym, ap, ap₂, _∙_, fun-ext}
 use mathlib.Core.List.{List, [], _∷_, map, map-map, map-id}
 use Prim.Native.Nat.{ℕ, zero, suc, _+_, _*_, _≤_, _<_}
-use native.Mathlib.Nat.{zero-add, le-refl}
+use native.Mathlib.Nat.{zero-add}
 use native.Mathlib.Numerals.{add-one}
 use native.Mathlib.Omega.{arith}
 use lib.ListN.{length, getD, take, replicate, length-replicate}
@@ -24,9 +24,6 @@ use Rattle.key.specs.Keys.{goppaAt}
 use Rattle.decoder.specs.Decoding.{chosen, squareEntry, squareSums}
 use Rattle.decoder.proofs.Words.{dot-chosen}
 use Rattle.reading.specs.Parts.{keyOf, pointSums}
-
-map-same : {f g : ℕ → ℕ} → ((x : ℕ) → f x ≡ g x) → (l : List ℕ) → map f l ≡ map g l
-map-same h l = ap (λ f. map f l) (fun-ext h)
 
 take-map : (f : ℕ → ℕ) (n : ℕ) (l : List ℕ) → take n (map f l) ≡ map f (take n l)
 take-map f zero l = refl
@@ -59,7 +56,7 @@ module _ (m : ℕ) (w : Width m) (g s : List ℕ) where
       ∙ take-map (λ x. mul m (inv m x) (inv m x)) (length s) (valuesAt m g s)
       ∙ ap (map (λ x. mul m (inv m x) (inv m x))) (take-values m w g s l)
       ∙ map-map (λ x. mul m (inv m x) (inv m x)) (value m (monic g)) s
-      ∙ map-same (λ a. sym (one-mul m w (mul-lt m (inv m (value m (monic g) a)) (inv m (value m (monic g) a))))) s
+      ∙ ap (λ f. map f s) (fun-ext λ a. sym (one-mul m w (mul-lt m (inv m (value m (monic g) a)) (inv m (value m (monic g) a)))))
 
   entry-next : (k a : ℕ) → mul m (squareEntry (keyOf m s g) k a) a ⊕ 0 ≡ squareEntry (keyOf m s g) (k + 1) a
   unfolding squareEntry keyOf
@@ -77,7 +74,7 @@ module _ (m : ℕ) (w : Width m) (g s : List ℕ) where
       ∙ take-eachWith (λ x a. mul m x a ⊕ 0) (length s) p s
       ∙ ap₂ (eachWith (λ x a. mul m x a ⊕ 0)) e (sym (map-id s))
       ∙ each-map (λ x a. mul m x a ⊕ 0) (squareEntry (keyOf m s g) k) (λ x. x) s
-      ∙ map-same (entry-next k) s
+      ∙ ap (λ f. map f s) (fun-ext (entry-next k))
 
 module _ (m : ℕ) (g s : List ℕ) where
   pub length-pointSums : length (pointSums m g s) ≡ 2 * length g
@@ -93,4 +90,5 @@ module _ (m : ℕ) (g s : List ℕ) where
 -- the sums over a word's points are the word's
 pub chosen-sums : (m : ℕ) (support g : List ℕ) {n : ℕ} {c : List ℕ} → Row n c → pointSums m g (chosen c support) ≡ squareSums (keyOf m support g) c
 unfolding pointSums squareSums squareEntry goppaAt keyOf
-chosen-sums m support g r = map-same (λ k. sym (dot-chosen r (squareEntry (keyOf m support g) k) support)) (from 0 (2 * length g))
+chosen-sums m support g r =
+    ap (λ f. map f (from 0 (2 * length g))) (fun-ext λ k. sym (dot-chosen r (squareEntry (keyOf m support g) k) support))

@@ -1,10 +1,9 @@
 -- The terms of the decoder's parts, on lists as the code holds them. Assumes nothing.
 use Prim.Native.Nat.{ℕ, _-_, _*_}
-use mathlib.Core.Bool.{true, false, cond}
-use mathlib.Core.List.{List, [], map}
-use mathlib.Core.Option.{Option, none, some}
+use mathlib.Core.Bool.{cond}
+use mathlib.Core.List.{List, map}
 use lib.Dec.{eqb}
-use lib.ListN.{length, getD, replicate}
+use lib.ListN.{length, getD}
 use Rattle.bits.specs.Bits.{from, pack}
 use Rattle.poly.specs.Polynomials.{sum}
 use Rattle.key.specs.Keys.{Key}

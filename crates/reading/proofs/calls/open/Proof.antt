@@ -1,17 +1,17 @@
 -- The checks, the reading, its number of ones, then the output. Assumes nothing.
-use mathlib.Core.Path.{_≡_, refl, sym, ap, ap₂, _∙_}
-use native.Mathlib.Omega.{arith}
+use mathlib.Core.Path.{sym, _∙_}
 use mathlib.Core.Bool.{not}
+use native.Mathlib.Omega.{arith}
+use borrow.Author.Needs.{needs}
 use Rattle.key.specs.Kept.{kept}
 use Rattle.reading.proofs.Explained.{kept-sized}
 use Rattle.reading.proofs.Refusals.{open-clear}
 use Rattle.reading.proofs.Answered.{reading-none, reading-some, open-refusal, open-none, open-other, open-some}
-use borrow.Author.Needs.{needs}
 use Rattle.reading.proofs.calls.open.Statement.{statement}
 use Rattle.reading.proofs.calls.open.Tie as tie
 
 open-refusal-requires : tie.Need-open-refusal-requires
-open-refusal-requires c κs = search needs
+open-refusal-requires c κs = tt
 
 returns : tie.Need-returns
 returns c =
@@ -24,7 +24,7 @@ decode-requires c κs =
     open-clear (not (a .published)) (kept (a .key)) (a .capsule .now) (a .out .now) (sym (c .before .open-refusal .ensures) ∙ c .if1 .left) .0
 
 counted-requires : tie.Need-counted-requires
-counted-requires c κs = search needs
+counted-requires c κs = tt
 
 enum-known-answer : tie.Need-enum-known-answer
 enum-known-answer c = search needs
@@ -34,22 +34,33 @@ enum-told c = search needs
 
 returns-2 : tie.Need-returns-2
 returns-2 c =
-    let a = c .before .before .before .before .before .before .before .before .args in
-    open-none (not (a .published)) (a .key) (a .capsule .now) (a .out .now) (sym (c .before .before .before .before .before .open-refusal .ensures) ∙ c .before .before .before .before .if1 .left) (reading-none (a .key) (a .capsule .now) _ (c .before .before .before .decode .ensures) _ (c .before .before .counted .ensures) (c .enum-told .given .1))
+    let n = c .before .before in
+    let d = n .before in
+    let t = d .before in
+    let a = t .before .before .before .before .args in
+    open-none (not (a .published)) (a .key) (a .capsule .now) (a .out .now) (sym (t .before .open-refusal .ensures) ∙ t .if1 .left)
+    (reading-none (a .key) (a .capsule .now) _ (d .decode .ensures) _ (n .counted .ensures) (c .enum-told .given .1))
 
 returns-3 : tie.Need-returns-3
 returns-3 c =
-    let a = c .before .before .before .before .before .before .before .before .before .before .before .args in
-    open-other (not (a .published)) (a .key) (a .capsule .now) (a .out .now) (sym (c .before .before .before .before .before .before .before .before .open-refusal .ensures) ∙ c .before .before .before .before .before .before .before .if1 .left) (reading-some (a .key) (a .capsule .now) _ (c .before .before .before .before .before .before .decode .ensures) _ (c .before .before .before .before .before .counted .ensures) (c .before .before .before .answer .given .1)) (c .if2 .taken)
+    let v = c .before .before .before in
+    let n = v .before .before in
+    let d = n .before in
+    let t = d .before in
+    let a = t .before .before .before .before .args in
+    open-other (not (a .published)) (a .key) (a .capsule .now) (a .out .now) (sym (t .before .open-refusal .ensures) ∙ t .if1 .left)
+    (reading-some (a .key) (a .capsule .now) _ (d .decode .ensures) _ (n .counted .ensures) (v .answer .given .1))
+    (c .if2 .taken)
 
 cast-give : tie.Need-cast-give
-cast-give c = search needs
+cast-give c = omega arith
 
 give-requires : tie.Need-give-requires
 unfolding kept
 give-requires c κs =
-    let a = c .before .before .before .before .before .before .before .before .before .before .before .before .before .args in
-    let r = open-clear (not (a .published)) (kept (a .key)) (a .capsule .now) (a .out .now) (sym (c .before .before .before .before .before .before .before .before .before .before .open-refusal .ensures) ∙ c .before .before .before .before .before .before .before .before .before .if1 .left) in
+    let t = c .before .before .before .before .before .before .before .before .before in
+    let a = t .before .before .before .before .args in
+    let r = open-clear (not (a .published)) (kept (a .key)) (a .capsule .now) (a .out .now) (sym (t .before .open-refusal .ensures) ∙ t .if1 .left) in
     (kept-sized (a .key) (r .0) .0, r .2)
 
 same-length : tie.Need-same-length
@@ -57,9 +68,14 @@ same-length c = search needs
 
 returns-4 : tie.Need-returns-4
 returns-4 c =
-    let a = c .before .before .before .before .before .before .before .before .before .before .before .before .before .before .before .before .args in
-    let s = open-some (not (a .published)) (a .key) (a .capsule .now) (a .out .now) (sym (c .before .before .before .before .before .before .before .before .before .before .before .before .before .open-refusal .ensures) ∙ c .before .before .before .before .before .before .before .before .before .before .before .before .if1 .left)
-    (reading-some (a .key) (a .capsule .now) _ (c .before .before .before .before .before .before .before .before .before .before .before .decode .ensures) _ (c .before .before .before .before .before .before .before .before .before .before .counted .ensures) (c .before .before .before .before .before .before .before .before .answer .given .1)) (c .before .before .before .before .before .if2 .left) in
+    let v = c .before .before .before .before .before .before .before .before in
+    let n = v .before .before in
+    let d = n .before in
+    let t = d .before in
+    let a = t .before .before .before .before .args in
+    let s = open-some (not (a .published)) (a .key) (a .capsule .now) (a .out .now) (sym (t .before .open-refusal .ensures) ∙ t .if1 .left)
+    (reading-some (a .key) (a .capsule .now) _ (d .decode .ensures) _ (n .counted .ensures) (v .answer .given .1))
+    (c .before .before .before .before .before .if2 .left) in
     (s .0, c .before .before .give .ensures ∙ s .1)
 
 pub open-spec : {M : Type 1} → statement M

@@ -1,16 +1,16 @@
 -- The checks, the reading, then the output. Assumes nothing.
-use mathlib.Core.Path.{_≡_, refl, sym, ap, ap₂, _∙_}
+use mathlib.Core.Path.{sym, _∙_}
 use native.Mathlib.Omega.{arith}
+use borrow.Author.Needs.{needs}
 use Rattle.key.specs.Kept.{kept}
 use Rattle.reading.proofs.Explained.{kept-sized}
 use Rattle.reading.proofs.Refusals.{read-clear}
 use Rattle.reading.proofs.Answered.{reading-none, refused-none, reading-some, read-refusal, read-none, read-some}
-use borrow.Author.Needs.{needs}
 use Rattle.reading.proofs.calls.read.Statement.{statement}
 use Rattle.reading.proofs.calls.read.Tie as tie
 
 read-refusal-requires : tie.Need-read-refusal-requires
-read-refusal-requires c κs = search needs
+read-refusal-requires c κs = tt
 
 returns : tie.Need-returns
 returns c =
@@ -23,7 +23,7 @@ decode-requires c κs =
     read-clear (kept (a .key)) (a .word .now) (a .out .now) (sym (c .before .read-refusal .ensures) ∙ c .if1 .left) .0
 
 counted-requires : tie.Need-counted-requires
-counted-requires c κs = search needs
+counted-requires c κs = tt
 
 enum-known-answer : tie.Need-enum-known-answer
 enum-known-answer c = search needs
@@ -33,19 +33,23 @@ enum-told c = search needs
 
 returns-2 : tie.Need-returns-2
 returns-2 c =
-    let a = c .before .before .before .before .before .before .before .before .args in
-    let e = reading-none (a .key) (a .word .now) _ (c .before .before .before .decode .ensures) _ (c .before .before .counted .ensures) (c .enum-told .given .1) in
-    let n = read-none (a .key) (a .word .now) (a .out .now) (sym (c .before .before .before .before .before .read-refusal .ensures) ∙ c .before .before .before .before .if1 .left) e in
-    (refused-none (a .key) (a .word .now) _ (c .before .before .before .decode .ensures) _ (c .before .before .counted .ensures) e ∙ n .0, n .1)
+    let n = c .before .before in
+    let d = n .before in
+    let t = d .before in
+    let a = t .before .before .before .before .args in
+    let e = reading-none (a .key) (a .word .now) _ (d .decode .ensures) _ (n .counted .ensures) (c .enum-told .given .1) in
+    let r = read-none (a .key) (a .word .now) (a .out .now) (sym (t .before .read-refusal .ensures) ∙ t .if1 .left) e in
+    (refused-none (a .key) (a .word .now) _ (d .decode .ensures) _ (n .counted .ensures) e ∙ r .0, r .1)
 
 cast-give : tie.Need-cast-give
-cast-give c = search needs
+cast-give c = omega arith
 
 give-requires : tie.Need-give-requires
 unfolding kept
 give-requires c κs =
-    let a = c .before .before .before .before .before .before .before .before .before .before .before .args in
-    let r = read-clear (kept (a .key)) (a .word .now) (a .out .now) (sym (c .before .before .before .before .before .before .before .before .read-refusal .ensures) ∙ c .before .before .before .before .before .before .before .if1 .left) in
+    let t = c .before .before .before .before .before .before .before in
+    let a = t .before .before .before .before .args in
+    let r = read-clear (kept (a .key)) (a .word .now) (a .out .now) (sym (t .before .read-refusal .ensures) ∙ t .if1 .left) in
     (kept-sized (a .key) (r .0) .0, r .2)
 
 same-length : tie.Need-same-length
@@ -53,9 +57,13 @@ same-length c = search needs
 
 returns-3 : tie.Need-returns-3
 returns-3 c =
-    let a = c .before .before .before .before .before .before .before .before .before .before .before .before .before .before .args in
-    let s = read-some (a .key) (a .word .now) (a .out .now) (sym (c .before .before .before .before .before .before .before .before .before .before .before .read-refusal .ensures) ∙ c .before .before .before .before .before .before .before .before .before .before .if1 .left)
-    (reading-some (a .key) (a .word .now) _ (c .before .before .before .before .before .before .before .before .before .decode .ensures) _ (c .before .before .before .before .before .before .before .before .counted .ensures) (c .before .before .before .before .before .before .answer .given .1)) in
+    let v = c .before .before .before .before .before .before in
+    let n = v .before .before in
+    let d = n .before in
+    let t = d .before in
+    let a = t .before .before .before .before .args in
+    let s = read-some (a .key) (a .word .now) (a .out .now) (sym (t .before .read-refusal .ensures) ∙ t .if1 .left)
+    (reading-some (a .key) (a .word .now) _ (d .decode .ensures) _ (n .counted .ensures) (v .answer .given .1)) in
     (s .0, c .before .before .give .ensures ∙ s .1)
 
 pub read-spec : {M : Type 1} → statement M

@@ -1,6 +1,5 @@
 -- The key, then the buffers. Assumes nothing.
-use mathlib.Core.Path.{_≡_, refl, sym, ap, ap₂, _∙_}
-use native.Mathlib.Omega.{arith}
+use mathlib.Core.Path.{_∙_}
 use Rattle.key.specs.Kept.{kept}
 use borrow.Author.Needs.{needs}
 use Rattle.reading.proofs.Refusals.{read-unsound, read-sound}

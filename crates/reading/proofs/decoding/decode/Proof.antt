@@ -1,6 +1,5 @@
 -- `reading::decoding::decode` meets its contract. Assumes nothing.
-use mathlib.Core.Path.{_≡_, sym, ap, _∙_}
-use native.Mathlib.Omega.{arith}
+use mathlib.Core.Path.{ap, _∙_}
 use borrow.Author.Needs.{needs}
 use Rattle.reading.specs.Answers.{foundOf}
 use Rattle.reading.proofs.Explained.{kept-sized, kept-reading}

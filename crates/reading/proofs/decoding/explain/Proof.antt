@@ -1,5 +1,5 @@
 -- The tests of the places found. Assumes nothing.
-use mathlib.Core.Path.{_≡_, sym, ap, _∙_}
+use mathlib.Core.Path.{_≡_, sym}
 use native.Mathlib.Omega.{arith}
 use borrow.Author.Needs.{needs}
 use lib.ListN.{length}
@@ -46,13 +46,15 @@ slice-aggregate-weight : tie.Need-slice-aggregate-weight
 slice-aggregate-weight c = search needs
 
 weight-requires : tie.Need-weight-requires
-weight-requires c κs = search needs
+weight-requires c κs = tt
 
 returns : tie.Need-returns
 returns c =
-    let b = c .before .before .before .before .before .before .before .before .before in
+    let p = c .before .before .before in
+    let s = p .before .before in
+    let b = s .before .before .before .before in
     let a = b .args in
-    found-many (a .m) (a .support .now) (a .g .now) (b .pre) (a .word .now) _ (c .before .before .before .before .before .word-sums .ensures) _ (c .before .before .before .located .ensures)
+    found-many (a .m) (a .support .now) (a .g .now) (b .pre) (a .word .now) _ (s .word-sums .ensures) _ (p .located .ensures)
     (rw (sym (c .before .weight .ensures)) (c .if1 .taken))
 
 slice-aggregate-word-sums : tie.Need-slice-aggregate-word-sums
@@ -73,23 +75,33 @@ slice-aggregate-same-2 c = search needs
 
 same-requires : tie.Need-same-requires
 same-requires c κs =
-    let l : length (c .before .before .word-sums2 .result) ≡ 256 = search needs in
-    let k : length (c .before .before .before .before .before .before .before .before .before .word-sums .result) ≡ 256 = search needs in
+    let o = c .before .before in
+    let s = o .before .before .before .before .before .before .before in
+    let l : length (o .word-sums2 .result) ≡ 256 = search needs in
+    let k : length (s .word-sums .result) ≡ 256 = search needs in
     omega arith
 
 returns-2 : tie.Need-returns-2
 returns-2 c =
-    let b = c .before .before .before .before .before .before .before .before .before .before .before .before .before .before .before in
+    let o = c .before .before .before .before in
+    let w = o .before .before in
+    let p = w .before .before .before in
+    let s = p .before .before in
+    let b = s .before .before .before .before in
     let a = b .args in
-    found-other (a .m) (a .support .now) (a .g .now) (b .pre) (a .word .now) _ (c .before .before .before .before .before .before .before .before .before .before .before .word-sums .ensures) _ (c .before .before .before .before .before .before .before .before .before .located .ensures)
-    (rw (sym (c .before .before .before .before .before .before .before .weight .ensures)) (c .before .before .before .before .before .before .if1 .left)) _ (c .before .before .before .before .word-sums2 .ensures) (failed (c .before .same .ensures) (c .if2 .taken))
+    found-other (a .m) (a .support .now) (a .g .now) (b .pre) (a .word .now) _ (s .word-sums .ensures) _ (p .located .ensures)
+    (rw (sym (w .before .weight .ensures)) (w .if1 .left)) _ (o .word-sums2 .ensures) (failed (c .before .same .ensures) (c .if2 .taken))
 
 returns-3 : tie.Need-returns-3
 returns-3 c =
-    let b = c .before .before .before .before .before .before .before .before .before .before .before .before .before .before .before in
+    let o = c .before .before .before .before in
+    let w = o .before .before in
+    let p = w .before .before .before in
+    let s = p .before .before in
+    let b = s .before .before .before .before in
     let a = b .args in
-    found-pattern (a .m) (a .support .now) (a .g .now) (b .pre) (a .word .now) _ (c .before .before .before .before .before .before .before .before .before .before .before .word-sums .ensures) _ (c .before .before .before .before .before .before .before .before .before .located .ensures)
-    (rw (sym (c .before .before .before .before .before .before .before .weight .ensures)) (c .before .before .before .before .before .before .if1 .left)) _ (c .before .before .before .before .word-sums2 .ensures) (passed (c .before .same .ensures) (c .if2 .left))
+    found-pattern (a .m) (a .support .now) (a .g .now) (b .pre) (a .word .now) _ (s .word-sums .ensures) _ (p .located .ensures)
+    (rw (sym (w .before .weight .ensures)) (w .if1 .left)) _ (o .word-sums2 .ensures) (passed (c .before .same .ensures) (c .if2 .left))
 
 pub explain-spec : {M : Type 1} → statement M
 explain-spec =

@@ -1,10 +1,10 @@
 -- The loop's invariant: the marks of the first i places are written. Assumes nothing.
-use mathlib.Core.Path.{_≡_, refl, sym, ap, ap₂, _∙_}
-use mathlib.Core.List.{List, [], _∷_, _++_, map}
-use Prim.Native.Nat.{ℕ, _+_, _-_, _*_, _≤_, _<_}
+use mathlib.Core.Path.{_≡_, sym, ap, ap₂, _∙_}
+use mathlib.Core.List.{List, map}
+use Prim.Native.Nat.{ℕ, _-_, _≤_}
 use native.Mathlib.Omega.{arith}
 use borrow.Author.Needs.{needs}
-use lib.ListN.{length, getD, take, length-map}
+use lib.ListN.{length, take, length-map}
 use Rattle.bits.specs.Bits.{setBit}
 use Rattle.reading.specs.Parts.{mark, packed}
 use Rattle.reading.proofs.Packed.{packed-none, packed-next, row-marks, map-at, row-take, length-packed}
@@ -25,7 +25,7 @@ slice-aggregate-set-bit : tie.Need-slice-aggregate-set-bit Inv-loop μ-loop
 slice-aggregate-set-bit c =
     let b = c .before .before .before .before in
     let l = c .before .before .loop in
-    sym (ap length (l .inv .1) ∙ length-packed (row-take (row-marks (b .args .values .now)) (omega arith) (l .i) (omega arith)) (omega arith))
+    sym (ap length (l .inv .1) ∙ length-packed (row-take (row-marks (b .args .values .now)) (l .i) (omega arith)) (omega arith))
 
 mul-mark : tie.Need-mul-mark Inv-loop μ-loop
 mul-mark c = search needs

@@ -1,13 +1,12 @@
 -- The loop's invariant: the points found so far, with those of the places from i on, are all. Assumes nothing.
-use mathlib.Core.Path.{_≡_, refl, sym, ap, ap₂, _∙_}
-use mathlib.Core.List.{List, [], _∷_, _++_, map}
-use Prim.Native.Nat.{ℕ, _+_, _-_, _*_, _≤_, _<_}
+use mathlib.Core.Path.{_≡_, sym, ap, _∙_}
+use Prim.Native.Nat.{ℕ, _+_, _-_, _≤_, _<_}
 use native.Mathlib.Omega.{arith}
 use borrow.Author.Needs.{needs}
-use lib.ListN.{length, getD, take, drop, set, length-set, length-replicate}
+use lib.ListN.{length, getD, take, set, length-set, length-replicate}
 use lib.Seq.{length-take-le}
 use Rattle.bits.specs.Bits.{unpack}
-use Rattle.bits.proofs.Bits.{bit-lt, bit-digit}
+use Rattle.bits.proofs.Bits.{bit-lt}
 use Rattle.bits.proofs.Pack.{length-unpack, unpack-at, row-unpack, row-digit}
 use Rattle.decoder.specs.Decoding.{chosen as chosenOf}
 use Rattle.reading.proofs.Gathered.{gathered, gathered-start, gathered-next, gathered-all}
