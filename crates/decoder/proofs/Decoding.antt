@@ -51,10 +51,10 @@ no-mark false h = refl
 
 -- a one at each member of a list that passes
 module _ (p : ℕ → Bool) where
-  abbrev marks : List ℕ → List ℕ
+  abbrev pub marks : List ℕ → List ℕ
   marks l = map (λ a. cond (p a) 1 0) l
 
-  row-marks : (l : List ℕ) → Row (length l) (marks l)
+  pub row-marks : (l : List ℕ) → Row (length l) (marks l)
   row-marks [] = end
   row-marks (a ∷ l) = row-cons (mark-digit (p a)) (row-marks l)
 

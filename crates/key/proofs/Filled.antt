@@ -35,7 +35,7 @@ module _ (file : List ℕ) (at : ℕ) where
       ∙ sym (append-assoc (elements file at i) (pair file (at + 2 * i) ∷ []) (drop (suc i) out))
       ∙ ap₂ _++_ (sym (elements-next i)) (ap (λ (k : ℕ). drop k out) (sym (add-one i)))
 
-drop-zeros : (n k : ℕ) → drop n (replicate {A = ℕ} k 0) ≡ replicate (k - n) 0
+pub drop-zeros : (n k : ℕ) → drop n (replicate {A = ℕ} k 0) ≡ replicate (k - n) 0
 drop-zeros zero k = rw (sub-zero k)
 drop-zeros (suc n) zero = let e : 0 - suc n ≡ zero = omega arith in rw e
 drop-zeros (suc n) (suc k) = let e : suc k - suc n ≡ k - n = omega arith in rw e (drop-zeros n k)

@@ -1,0 +1,9 @@
+pub mod Written
+pub mod Gathered
+pub mod Scan
+pub mod Packed
+pub mod Located
+pub mod PowerSums
+pub mod Explained
+pub mod Refusals
+pub mod Answered

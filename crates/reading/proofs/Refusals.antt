@@ -1,0 +1,120 @@
+-- The numbers of read and open, by the tests of the code. Assumes nothing.
+use mathlib.Core.Path.{_≡_, refl, sym, ap, _∙_}
+use mathlib.Core.Bool.{Bool, true, false, cond, not}
+use mathlib.Core.List.{List, [], _∷_}
+use Prim.Native.Nat.{ℕ, _≤_, _<_}
+use lib.Dec.{eqb, ltb}
+use lib.ListN.{length}
+use borrow.Author.Tests.{eq-eqb, ne-eqb, lt-ltb, le-ltb, eqb-true, ltb-false, not-false}
+use Rattle.bits.specs.Bits.{bytesFor, unpack, fillerClear, wellFormed}
+use Rattle.bits.proofs.Pack.{well-formed}
+use Rattle.field.specs.Numbers.{firstOf}
+use Rattle.field.proofs.Numbers.{numbered, first-clear, first-append}
+use Rattle.key.specs.Keys.{Key, keyNumber, unsound}
+use Rattle.key.proofs.Conditions.{first-take}
+use Rattle.code.specs.Publish.{capsuleBits}
+use Rattle.decoder.specs.Reading.{reading, opening}
+use Rattle.decoder.specs.Calls.{isNone, openConditions, readConditions, openNumber, readNumber}
+use Rattle.reading.specs.Answers.{bufferChecks, openChecks, readChecks}
+
+-- 8, 9, 10
+module _ (k n : ℕ) (row : List ℕ) (len : ℕ) where
+  pub wrong-length : (length row ≡ bytesFor k → ⊥) → 8 ≡ firstOf (bufferChecks k n row len)
+  unfolding bufferChecks firstOf
+  wrong-length h = rw (ne-eqb _ _ h)
+
+  module _ (a : length row ≡ bytesFor k) where
+    pub wrong-filler : fillerClear k row ≡ false → 9 ≡ firstOf (bufferChecks k n row len)
+    unfolding bufferChecks firstOf
+    wrong-filler h = rw (eq-eqb _ _ a, h)
+
+    module _ (b : fillerClear k row ≡ true) where
+      pub short-output : len < bytesFor n → 10 ≡ firstOf (bufferChecks k n row len)
+      unfolding bufferChecks firstOf
+      short-output h = rw (eq-eqb _ _ a, b, lt-ltb _ _ h)
+
+      pub buffers-right : bytesFor n ≤ len → 0 ≡ firstOf (bufferChecks k n row len)
+      unfolding bufferChecks firstOf
+      buffers-right h = rw (eq-eqb _ _ a, b, le-ltb _ _ h)
+
+  -- where none holds
+  pub buffers-clear : firstOf (bufferChecks k n row len) ≡ 0 → (wellFormed k row ≡ true) × (bytesFor n ≤ len)
+  unfolding bufferChecks
+  buffers-clear e =
+      let c8 = first-clear (not (eqb (length row) (bytesFor k))) 7 _ e in
+      let c9 = first-clear (not (fillerClear k row)) 8 _ (c8 .1) in
+      let c10 = first-clear (ltb len (bytesFor n)) 9 _ (c9 .1) in
+      (well-formed k row (eqb-true _ _ (not-false _ (c8 .0))) (not-false _ (c9 .0)), ltb-false _ _ (c10 .0))
+
+-- 25 by the key's number x
+module _ (k : Key) {x : ℕ} (e : x ≡ keyNumber k) where
+  unsound-some : (x ≡ 0 → ⊥) → unsound k ≡ true
+  unfolding unsound
+  unsound-some h = ap not (ne-eqb _ _ (λ z. h (e ∙ z)))
+
+  unsound-none : x ≡ 0 → unsound k ≡ false
+  unfolding unsound
+  unsound-none z = ap not (eq-eqb _ _ (sym e ∙ z))
+
+  module _ (word : List ℕ) (len : ℕ) where
+    pub read-unsound : (x ≡ 0 → ⊥) → 25 ≡ firstOf (readChecks k word len)
+    unfolding readChecks firstOf
+    read-unsound h = rw (unsound-some h)
+
+    pub read-sound : x ≡ 0 → firstOf (bufferChecks (k .n) (k .n) word len) ≡ firstOf (readChecks k word len)
+    unfolding readChecks firstOf
+    read-sound z = rw (unsound-none z)
+
+    pub open-unsound : (unpublished : Bool) → (x ≡ 0 → ⊥) → 25 ≡ firstOf (openChecks unpublished k word len)
+    unfolding openChecks firstOf
+    open-unsound unpublished h = rw (unsound-some h)
+
+    pub open-unpublished : (unpublished : Bool) → x ≡ 0 → unpublished ≡ true → 24 ≡ firstOf (openChecks unpublished k word len)
+    unfolding openChecks firstOf
+    open-unpublished unpublished z p = rw (unsound-none z, p)
+
+    pub open-sound : (unpublished : Bool) → x ≡ 0 → unpublished ≡ false
+        → firstOf (bufferChecks (capsuleBits k) (k .n) word len) ≡ firstOf (openChecks unpublished k word len)
+    unfolding openChecks firstOf
+    open-sound unpublished z p = rw (unsound-none z, p)
+
+-- 0 of the checks: the key is sound and the buffers are right
+pub sound-key : (k : Key) → unsound k ≡ false → keyNumber k ≡ 0
+unfolding unsound
+sound-key k e = eqb-true _ _ (not-false _ e)
+
+module _ (k : Key) (word out : List ℕ) where
+  pub read-clear : firstOf (readChecks k word (length out)) ≡ 0 → (keyNumber k ≡ 0) × (wellFormed (k .n) word ≡ true) × (bytesFor (k .n) ≤ length out)
+  unfolding readChecks
+  read-clear e =
+      let c = first-clear (unsound k) 24 _ e in
+      let b = buffers-clear (k .n) (k .n) word (length out) (c .1) in (sound-key k (c .0), b .0, b .1)
+
+  -- the number: that of the checks, or 14
+  pub read-refused : {x : ℕ} → x ≡ firstOf (readChecks k word (length out)) → (x ≡ 0 → ⊥) → x ≡ readNumber k word out
+  unfolding readNumber readConditions readChecks bufferChecks
+  read-refused e h = e ∙ first-take 4 (readConditions (unsound k) k word out) (λ z. h (e ∙ z))
+
+  pub read-number : firstOf (readChecks k word (length out)) ≡ 0 → readNumber k word out ≡ cond (isNone (reading k (unpack (k .n) word))) 14 0
+  unfolding readNumber readConditions readChecks bufferChecks firstOf numbered
+  read-number e = first-append (readChecks k word (length out)) ((isNone (reading k (unpack (k .n) word)), 14) ∷ []) refl e
+
+module _ (unpublished : Bool) (k : Key) (capsule out : List ℕ) where
+  pub open-clear : firstOf (openChecks unpublished k capsule (length out)) ≡ 0
+      → (keyNumber k ≡ 0) × (wellFormed (capsuleBits k) capsule ≡ true) × (bytesFor (k .n) ≤ length out)
+  unfolding openChecks
+  open-clear e =
+      let c = first-clear (unsound k) 24 _ e in
+      let d = first-clear unpublished 23 _ (c .1) in
+      let b = buffers-clear (capsuleBits k) (k .n) capsule (length out) (d .1) in (sound-key k (c .0), b .0, b .1)
+
+  -- the number: that of the checks, or 13
+  pub open-refused : {x : ℕ} → x ≡ firstOf (openChecks unpublished k capsule (length out)) → (x ≡ 0 → ⊥) → x ≡ openNumber unpublished k capsule out
+  unfolding openNumber openConditions openChecks bufferChecks
+  open-refused e h = e ∙ first-take 5 (openConditions (unsound k) unpublished k capsule out) (λ z. h (e ∙ z))
+
+  pub open-number : firstOf (openChecks unpublished k capsule (length out)) ≡ 0
+      → openNumber unpublished k capsule out ≡ cond (isNone (opening k (unpack (capsuleBits k) capsule))) 13 0
+  unfolding openNumber openConditions openChecks bufferChecks firstOf numbered
+  open-number e =
+      first-append (openChecks unpublished k capsule (length out)) ((isNone (opening k (unpack (capsuleBits k) capsule)), 13) ∷ []) refl e

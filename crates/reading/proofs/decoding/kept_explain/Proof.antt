@@ -1,0 +1,41 @@
+-- The first n and t numbers are those of the lent parts. Assumes nothing.
+use mathlib.Core.Path.{_≡_, sym, ap, _∙_}
+use native.Mathlib.Omega.{arith}
+use borrow.Author.Needs.{needs}
+use Prim.Native.Nat.{ℕ}
+use lib.ListN.{length, take}
+use lib.Seq.{length-take-le}
+use Rattle.bits.specs.Bits.{unpack}
+use Rattle.decoder.specs.Decoding.{explained}
+use Rattle.reading.specs.Parts.{keyOf}
+use Rattle.reading.specs.Answers.{foundOf}
+use Rattle.reading.proofs.decoding.kept_explain.Statement.{statement}
+use Rattle.reading.proofs.decoding.kept_explain.Tie as tie
+
+slice-aggregate-explain : tie.Need-slice-aggregate-explain
+slice-aggregate-explain c =
+    let b = c .before .before .before .before in
+    let e : length (b .args .support .now) ≡ 8192 = search needs in
+    sym (length-take-le (b .args .n) (b .args .support .now) (omega arith))
+
+slice-aggregate-explain-2 : tie.Need-slice-aggregate-explain-2
+slice-aggregate-explain-2 c =
+    let b = c .before .before .before .before .before in
+    let e : length (b .args .g .now) ≡ 128 = search needs in
+    sym (length-take-le (b .args .t) (b .args .g .now) (omega arith))
+
+explain-requires : tie.Need-explain-requires
+explain-requires c κs = c .before .before .before .before .before .pre .2
+
+returns : tie.Need-returns
+returns c =
+    let b = c .before .before .before .before .before .before in
+    let a = b .args in
+    let e : length (a .support .now) ≡ 8192 = search needs in
+    c .explain .ensures
+    ∙ ap (λ (i : ℕ). foundOf (explained (keyOf (a .m) (take (a .n) (a .support .now)) (take (a .t) (a .g .now))) (unpack i (a .word .now))))
+    (length-take-le (a .n) (a .support .now) (omega arith))
+
+pub kept-explain-spec : {M : Type 1} → statement M
+kept-explain-spec =
+    tie.close (tie.spec slice-aggregate-explain slice-aggregate-explain-2 explain-requires returns)

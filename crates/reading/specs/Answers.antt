@@ -1,0 +1,50 @@
+-- What the calls answer, and the terms of their private functions. Assumes nothing.
+use Prim.Native.Nat.{ℕ, zero, suc}
+use mathlib.Core.Bool.{Bool, true, false, cond, not}
+use mathlib.Core.List.{List, [], _∷_}
+use mathlib.Core.Option.{Option, none, some}
+use lib.Dec.{eqb, ltb}
+use lib.ListN.{length, replicate}
+use Rattle.bits.specs.Bits.{bytesFor, unpack, ones, weight, fillerClear}
+use Rattle.key.specs.Keys.{Key, unsound}
+use Rattle.code.specs.Publish.{capsuleBits}
+use Rattle.decoder.specs.Reading.{reading, opening}
+use Rattle.decoder.specs.Calls.{found, openNumber, readNumber}
+use Rattle.reading.specs.Parts.{packed}
+use Rattle.reading.specs.declared.calls.Answer.{Answer}
+use Rattle.reading.specs.declared.calls.Answer.the-variants as variants
+use Rattle.reading.specs.declared.decoding.Found.{Found}
+
+-- the number of ones where the number is 0, else the refusal with that number
+unfoldable pub answerOf : ℕ → ℕ → Answer
+answerOf zero w = variants.Ones w
+answerOf (suc x) w = variants.Refused (suc x)
+
+-- what read and open answer; the ones are those of the pattern
+unfoldable pub readOf : Key → List ℕ → List ℕ → Answer
+readOf k word out = answerOf (readNumber k word out) (ones (found (reading k (unpack (k .n) word))))
+
+unfoldable pub openOf : Bool → Key → List ℕ → List ℕ → Answer
+openOf unpublished k capsule out =
+    answerOf (openNumber unpublished k capsule out) (ones (found (opening k (unpack (capsuleBits k) capsule))))
+
+-- 8, 9, 10 for a row of k bits and an output of len bytes for n bits
+unfoldable pub bufferChecks : ℕ → ℕ → List ℕ → ℕ → List (Bool × ℕ)
+bufferChecks k n row len = (not (eqb (length row) (bytesFor k)), 8) ∷ (not (fillerClear k row), 9) ∷ (ltb len (bytesFor n), 10) ∷ []
+
+-- 25, and these of a word
+unfoldable pub readChecks : Key → List ℕ → ℕ → List (Bool × ℕ)
+readChecks k word len = (unsound k, 25) ∷ bufferChecks (k .n) (k .n) word len
+
+-- 25, 24, and these of a capsule
+unfoldable pub openChecks : Bool → Key → List ℕ → ℕ → List (Bool × ℕ)
+openChecks unpublished k capsule len = (unsound k, 25) ∷ (unpublished, 24) ∷ bufferChecks (capsuleBits k) (k .n) capsule len
+
+-- the pattern packed, or zeros where there is none
+unfoldable pub foundOf : Option (List ℕ) → Found
+foundOf none = record { found = false; pattern = replicate 1024 0 }
+foundOf (some e) = record { found = true; pattern = packed e }
+
+-- the ones among the first n bits of a pattern that is found, else 14
+unfoldable pub countedOf : Found → ℕ → Answer
+countedOf e n = cond (e .found) (variants.Ones (weight n (e .pattern))) (variants.Refused 14)

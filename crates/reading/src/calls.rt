@@ -1,0 +1,134 @@
+// The calls read and open on a kept key.
+use super::decoding::Found;
+use super::decoding::decode;
+use key::checks::check;
+use key::kept::Key;
+ghost use mathlib.Core.Path.{_≡_};
+ghost use mathlib.Core.Bool.{not};
+ghost use Prim.Native.Nat.{_≤_};
+ghost use lib.ListN.{length, take};
+ghost use Rattle.bits.specs.Bits.{bytesFor, over};
+ghost use Rattle.field.specs.Numbers.{firstOf};
+ghost use Rattle.key.specs.Kept.{kept};
+ghost use Rattle.decoder.specs.Calls.{openOutput, readOutput};
+ghost use Rattle.reading.specs.Answers.{bufferChecks, openChecks, readChecks, countedOf, openOf, readOf};
+
+// The number of ones of the pattern that is written, or the number of a refusal.
+pub enum Answer {
+    Ones(u16),
+    Refused(u8),
+}
+
+// The first of 8, 9 and 10 for a row of k bits and an output of len bytes for n bits, and 0 where there is none.
+fn buffers(k: usize, n: usize, row: &[u8], len: usize) -> u8
+    ensures { λ r. ⌜ r ≡ firstOf (bufferChecks k n (now (row .entry)) len) ⌝ }
+{
+    if row.len() != bits::bytes_for(k) {
+        return 8;
+    }
+    if !bits::filler_clear(row, k) {
+        return 9;
+    }
+    if len < bits::bytes_for(n) {
+        return 10;
+    }
+    0
+}
+
+// The first of 25, 8, 9 and 10 for a word, and 0 where there is none.
+fn read_refusal(key: Key, word: &[u8], len: usize) -> u8
+    ensures { λ r. ⌜ r ≡ firstOf (readChecks (kept key) (now (word .entry)) len) ⌝ }
+{
+    if check(key) != 0 {
+        return 25;
+    }
+    let n = key.n as usize;
+    buffers(n, n, word, len)
+}
+
+// The first of 25, 24, 8, 9 and 10 for a capsule, and 0 where there is none.
+fn open_refusal(key: Key, published: bool, capsule: &[u8], len: usize) -> u8
+    ensures { λ r. ⌜ r ≡ firstOf (openChecks (not published) (kept key) (now (capsule .entry)) len) ⌝ }
+{
+    if check(key) != 0 {
+        return 25;
+    }
+    if !published {
+        return 24;
+    }
+    let k = (key.m as usize) * (key.t as usize);
+    let n = key.n as usize;
+    buffers(k, n, capsule, len)
+}
+
+// The number of ones of the pattern found, or 14 where there is none.
+fn counted(e: Found, n: u16) -> Answer
+    ensures { λ r. ⌜ r ≡ countedOf e n ⌝ }
+{
+    if !e.found {
+        return Answer::Refused(14);
+    }
+    let p = e.pattern;
+    Answer::Ones(bits::weight(&p, n as usize) as u16)
+}
+
+// The bytes from the output's start.
+fn copy(out: &mut [u8], bytes: &[u8])
+    requires { ⌜ length (now bytes) ≤ length (now out) ⌝ }
+    ensures { λ _. ⌜ now (out .exit) ≡ over (now (bytes .entry)) (now (out .entry)) ⌝ }
+{
+    let mut i = 0;
+    while i < bytes.len() {
+        out[i] = bytes[i];
+        i += 1;
+    }
+}
+
+// The pattern of n bits from the output's start.
+fn give(out: &mut [u8], e: Found, n: usize)
+    requires { ⌜ (n ≤ 8192) × (bytesFor n ≤ length (now out)) ⌝ }
+    ensures { λ _. ⌜ now (out .exit) ≡ over (take (bytesFor n) (e .pattern)) (now (out .entry)) ⌝ }
+{
+    let b = bits::bytes_for(n);
+    let p = e.pattern;
+    copy(out, &p[..b]);
+}
+
+// Reading a word: its pattern is written from the output's start, and nothing on refusal, with 25, 8, 9, 10 or 14.
+pub fn read(key: Key, word: &[u8], out: &mut [u8]) -> Answer
+    ensures answer { λ r. ⌜ r ≡ readOf (kept key) (now (word .entry)) (now (out .entry)) ⌝ }
+    ensures output { λ _. ⌜ now (out .exit) ≡ readOutput (kept key) (now (word .entry)) (now (out .entry)) ⌝ }
+{
+    let x = read_refusal(key, word, out.len());
+    if x != 0 {
+        return Answer::Refused(x);
+    }
+    let e = decode(key, word);
+    let answer = counted(e, key.n);
+    let Answer::Ones(w) = answer else {
+        return answer;
+    };
+    give(out, e, key.n as usize);
+    Answer::Ones(w)
+}
+
+// Opening a capsule, the word whose other bits are 0, where the pattern has t ones; 25, 24, 8, 9, 10 or 13 on refusal.
+pub fn open(key: Key, published: bool, capsule: &[u8], out: &mut [u8]) -> Answer
+    ensures answer { λ r. ⌜ r ≡ openOf (not published) (kept key) (now (capsule .entry)) (now (out .entry)) ⌝ }
+    ensures output { λ _. ⌜ now (out .exit) ≡ openOutput (not published) (kept key) (now (capsule .entry)) (now (out .entry)) ⌝ }
+{
+    let x = open_refusal(key, published, capsule, out.len());
+    if x != 0 {
+        return Answer::Refused(x);
+    }
+    let e = decode(key, capsule);
+    let answer = counted(e, key.n);
+    let Answer::Ones(w) = answer else {
+        return Answer::Refused(13);
+    };
+    if w != key.t {
+        return Answer::Refused(13);
+    }
+    give(out, e, key.n as usize);
+    Answer::Ones(w)
+}
