@@ -1,7 +1,7 @@
 // Calls under C names, for the benchmarks.
 ghost use mathlib.Core.Path.{_≡_};
 ghost use Rattle.field.specs.Poly.{hornerEach};
-ghost use Rattle.poly.specs.SquareTest.{squareTest};
+ghost use Rattle.euclid.specs.Euclid.{squareTest};
 ghost use Rattle.key.specs.Kept.{loadedOf};
 ghost use Rattle.bench_calls.specs.Chain.{chain};
 
@@ -32,7 +32,7 @@ pub extern "C" fn bench_horner(m: u8, r: &mut [u16], a: &[u16], c: u16)
 pub extern "C" fn bench_square(m: u8, g: &[u16]) -> bool
     ensures { λ r. ⌜ r ≡ squareTest m (now (g .entry)) ⌝ }
 {
-    poly::has_square(m, g)
+    euclid::has_square(m, g)
 }
 
 // Load's number of a key file.

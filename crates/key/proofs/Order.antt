@@ -2,20 +2,19 @@
 use mathlib.Core.Path.{_≡_, sym, _∙_}
 use mathlib.Core.Bool.{Bool, true, false, not}
 use mathlib.Core.List.{List}
-use Prim.Native.Nat.{ℕ, _^_, _≤_, _<_}
+use Prim.Native.Nat.{ℕ, _^_, _<_}
 use native.Mathlib.Nat.{zero-lt-suc, le-of-suc-le-suc}
 use native.Mathlib.Omega.{arith}
 use native.Mathlib.Decide.{decLt}
 use lib.ListN.{length, getD, List·getD-eq-default}
 use lib.Pow.{pow-mono}
-use borrow.Author.Tests.{le-leb, ltb-true, not-true, not-false}
+use borrow.Author.Tests.{ltb-true, not-true, not-false}
 use Rattle.bits.specs.Bits.{every}
 use Rattle.bits.proofs.Lists.{every-at}
 use Rattle.field.specs.Numbers.{firstOf}
 use Rattle.field.specs.Field.{isElement}
 use Rattle.field.proofs.Table.{Width, width-narrow}
 use Rattle.poly.specs.Polynomials.{hasSquare}
-use Rattle.poly.specs.SquareTest.{squareTest}
 use Rattle.key.specs.Keys.{distinct}
 use Rattle.key.specs.Parts.{noRoot, faults}
 use Rattle.key.proofs.Scan.{every-append}
@@ -34,11 +33,6 @@ elements-lt m s w e k = elim (decLt k (length s)) [
   | yes h ↦ omega (arith, ltb-true (getD s k 0) (2 ^ m) (every-at (isElement m) s e k 0 h), pow-mono (le-of-suc-le-suc (width-narrow m w)))
   | no h ↦ rw (List·getD-eq-default s 0 {n = k} (omega arith)) (zero-lt-suc 8191)
 ]
-
--- the test answers where a square divides g
-pub square-right : (m : ℕ) (g : List ℕ) → Width m → length g ≤ 128 → every (isElement m) g ≡ true → squareTest m g ≡ hasSquare m g
-unfolding squareTest
-square-right m g w l e = rw (w, le-leb (length g) 128 l, e)
 
 module _ (m : ℕ) (s g : List ℕ) where
   pub fault-support : every (isElement m) s ≡ false → 4 ≡ firstOf (faults m s g)

@@ -68,7 +68,7 @@ fn faults(m: u8, s: &[u16], g: &[u16]) -> u8
     if !distinct(s) {
         return 5;
     }
-    if poly::has_square(m, g) {
+    if euclid::has_square(m, g) {
         return 6;
     }
     if !no_root(m, g, s) {

@@ -1,7 +1,8 @@
 -- The tests in order. Assumes nothing.
 use mathlib.Core.Path.{sym, _∙_}
 use native.Mathlib.Omega.{arith}
-use Rattle.key.proofs.Order.{failed, passed, elements-lt, square-right, fault-support, fault-coefficient, fault-twice, fault-square, fault-root, fault-none}
+use Rattle.euclid.proofs.Answers.{square-in-bounds}
+use Rattle.key.proofs.Order.{failed, passed, elements-lt, fault-support, fault-coefficient, fault-twice, fault-square, fault-root, fault-none}
 use Rattle.key.proofs.checks.faults.Statement.{statement}
 use Rattle.key.proofs.checks.faults.Tie as tie
 
@@ -40,7 +41,7 @@ returns-4 c =
     (passed (c .before .before .before .before .before .before .before .elements .ensures) (c .before .before .before .before .before .before .if1 .left))
     g
     (passed (c .before .before .before .distinct .ensures) (c .before .before .if3 .left))
-    (sym (square-right _ _ (pre .0) (pre .2) g) ∙ sym (c .before .has-square .ensures) ∙ c .if4 .taken)
+    (sym (square-in-bounds _ _ (pre .0) (pre .2) g) ∙ sym (c .before .has-square .ensures) ∙ c .if4 .taken)
 
 no-root-requires : tie.Need-no-root-requires
 no-root-requires c κs = (c .before .before .before .before .before .before .before .before .before .before .pre .0, omega arith)
@@ -53,7 +54,7 @@ returns-5 c =
     (passed (c .before .before .before .before .before .before .before .before .before .elements .ensures) (c .before .before .before .before .before .before .before .before .if1 .left))
     g
     (passed (c .before .before .before .before .before .distinct .ensures) (c .before .before .before .before .if3 .left))
-    (sym (square-right _ _ (pre .0) (pre .2) g) ∙ sym (c .before .before .before .has-square .ensures) ∙ c .before .before .if4 .left)
+    (sym (square-in-bounds _ _ (pre .0) (pre .2) g) ∙ sym (c .before .before .before .has-square .ensures) ∙ c .before .before .if4 .left)
     (failed (c .before .no-root .ensures) (c .if5 .taken))
 
 returns-6 : tie.Need-returns-6
@@ -64,7 +65,7 @@ returns-6 c =
     (passed (c .before .before .before .before .before .before .before .before .before .elements .ensures) (c .before .before .before .before .before .before .before .before .if1 .left))
     g
     (passed (c .before .before .before .before .before .distinct .ensures) (c .before .before .before .before .if3 .left))
-    (sym (square-right _ _ (pre .0) (pre .2) g) ∙ sym (c .before .before .before .has-square .ensures) ∙ c .before .before .if4 .left)
+    (sym (square-in-bounds _ _ (pre .0) (pre .2) g) ∙ sym (c .before .before .before .has-square .ensures) ∙ c .before .before .if4 .left)
     (passed (c .before .no-root .ensures) (c .if5 .left))
 
 pub faults-spec : {M : Type 1} → statement M
