@@ -1,8 +1,8 @@
 -- A greatest common divisor of g and g' is a constant exactly where no square divides g. Assumes nothing.
-use mathlib.Core.Path.{_≡_, refl, sym, ap, ap₂, _∙_, fun-ext, subst}
+use mathlib.Core.Path.{_≡_, refl, sym, ap, _∙_, fun-ext, subst}
 use mathlib.Core.Bool.{Bool, true, false, _&&_}
 use mathlib.Core.List.{List, [], _∷_, _++_}
-use Prim.Native.Nat.{ℕ, zero, suc, _-_, _^_, _≤_, _<_}
+use Prim.Native.Nat.{ℕ, zero, suc, _-_, _≤_, _<_}
 use native.Mathlib.Omega.{arith}
 use native.Mathlib.Decide.{decLt}
 use borrow.Author.Tests.{lt-leb, le-leb, lt-ltb}
@@ -10,6 +10,7 @@ use lib.Dec.{leb}
 use lib.Pow.{pow-pos}
 use lib.ListN.{length, replicate}
 use Rattle.bits.specs.Bits.{every}
+use Rattle.bits.proofs.Bits.{zeros-at}
 use Rattle.bits.proofs.Lists.{every-all}
 use Rattle.algebra.proofs.Ring.{ring, mul-zero}
 use Rattle.algebra.proofs.Field.{Field}
@@ -163,17 +164,16 @@ unfolding isElement
 elements-every m l e = every-all (isElement m) l 0 (λ i h. lt-ltb _ _ (e i))
 
 -- the leading 1 and the zeros behind it are elements
-zeros-every : (p : ℕ → Bool) → p 0 ≡ true → (n : ℕ) → every p (replicate n 0) ≡ true
-unfolding every
-zeros-every p z zero = refl
-zeros-every p z (suc n) = ap₂ _&&_ z (zeros-every p z n)
-
 whole-every : (m : ℕ) → Width m → (g : List ℕ) → every (isElement m) (whole g) ≡ every (isElement m) g
-unfolding isElement every padded monic
+unfolding every padded monic
 whole-every m W g = go (129 - length (monic g)) g
   where
     go : (n : ℕ) (l : List ℕ) → every (isElement m) ((l ++ 1 ∷ []) ++ replicate n 0) ≡ every (isElement m) l
-    go n [] = ap₂ _&&_ (lt-ltb 1 (2 ^ m) (one-lt m W)) (zeros-every (isElement m) (lt-ltb 0 (2 ^ m) (pow-pos m)) n)
+    go n [] = elements-every m (1 ∷ replicate n 0) at
+      where
+        at : Elements m (1 ∷ replicate n 0)
+        at zero = one-lt m W
+        at (suc k) = rw (zeros-at n k) (pow-pos m)
     go n (x ∷ l) = ap (_&&_ (isElement m x)) (go n l)
 
 -- the square test, by the divisor's length
