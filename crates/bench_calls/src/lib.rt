@@ -3,6 +3,7 @@ ghost use mathlib.Core.Path.{_≡_};
 ghost use Rattle.field.specs.Poly.{hornerEach};
 ghost use Rattle.euclid.specs.Euclid.{squareTest};
 ghost use Rattle.key.specs.Kept.{loadedOf};
+ghost use Rattle.key.specs.Parts.{distinctBelow};
 ghost use Rattle.bench_calls.specs.Chain.{chain};
 
 // b·a^n: n products, each of which waits for the one before.
@@ -33,6 +34,14 @@ pub extern "C" fn bench_square(m: u8, g: &[u16]) -> bool
     ensures { λ r. ⌜ r ≡ squareTest m (now (g .entry)) ⌝ }
 {
     euclid::has_square(m, g)
+}
+
+// The distinctness pass.
+#[no_mangle]
+pub extern "C" fn bench_distinct(s: &[u16]) -> bool
+    ensures { λ r. ⌜ r ≡ distinctBelow 8192 (now (s .entry)) ⌝ }
+{
+    key::checks::distinct(s)
 }
 
 // Load's number of a key file.
