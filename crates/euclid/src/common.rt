@@ -78,7 +78,7 @@ fn size(p: &[u16]) -> usize
 }
 
 // The coefficients of p, with zeros behind them.
-pub fn load(p: &[u16]) -> [u16; 129]
+pub(crate) fn load(p: &[u16]) -> [u16; 129]
     requires { ⌜ length (now p) ≤ 129 ⌝ }
     ensures { λ r. ⌜ r ≡ padded (now (p .entry)) ⌝ }
 {
