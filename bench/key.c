@@ -7,10 +7,11 @@
 
 uint8_t bench_load(const uint8_t *file, size_t file_len);
 bool bench_square(uint8_t m, const uint16_t *g, size_t g_len);
+bool bench_distinct(const uint16_t *s, size_t s_len);
 void bench_horner(uint8_t m, uint16_t *r, size_t r_len, const uint16_t *a, size_t a_len, uint16_t c);
 
 enum { N = 8192, T = 128, BYTES = 5 + 2 * N + 2 * T, TRIES = 31 };
-static uint8_t file[BYTES + 1];
+static uint8_t file[BYTES + 1], refused[BYTES];
 static uint16_t support[N], g[T], ours[N], theirs[N];
 
 static double now(void)
@@ -43,8 +44,8 @@ static double least(double x, double y) { return x < y ? x : y; }
 
 int main(void)
 {
-    FILE *f = fopen("crates/key_vectors/data/mceliece8192128.key", "rb");
-    if (!f || fread(file, 1, sizeof file, f) != BYTES) {
+    FILE *key = fopen("crates/key_vectors/data/mceliece8192128.key", "rb");
+    if (!key || fread(file, 1, sizeof file, key) != BYTES) {
         fprintf(stderr, "the key cannot be read\n");
         return 1;
     }
@@ -52,7 +53,11 @@ int main(void)
         support[i] = (uint16_t)(file[3 + 2 * i] + 256 * file[4 + 2 * i]);
     for (int i = 0; i < T; i++)
         g[i] = (uint16_t)(file[5 + 2 * N + 2 * i] + 256 * file[6 + 2 * N + 2 * i]);
-    double load = 1e18, square = 1e18, values = 1e18, scalar = 1e18;
+    /* The same file with a first number that is no element: load reads it, and refuses it with 4 before the other checks. */
+    for (int i = 0; i < BYTES; i++)
+        refused[i] = file[i];
+    refused[3] = refused[4] = 255;
+    double load = 1e18, reading = 1e18, distinct = 1e18, square = 1e18, values = 1e18, scalar = 1e18;
     int wrong = 0;
     for (int try = 0; try < TRIES; try++) {
         double a = now();
@@ -68,15 +73,21 @@ int main(void)
         for (int i = 0; i < N; i++)
             theirs[i] = value(support[i]);
         double e = now();
+        wrong += bench_load(refused, BYTES) != 4;
+        double f = now();
+        wrong += !bench_distinct(support, N);
+        double h = now();
         for (int i = 0; i < N; i++)
             wrong += ours[i] != theirs[i] || ours[i] == 0;
         load = least(load, b - a);
+        reading = least(reading, f - e);
+        distinct = least(distinct, h - f);
         square = least(square, c - b);
         values = least(values, d - c);
         scalar = least(scalar, e - d);
     }
-    printf("load and check %.2f ms: g at %d places %.2f, square test %.2f, the rest %.2f; g by scalar C %.2f ms, %.2f times load\n",
-           load, N, values, square, load - values - square, scalar, scalar / load);
+    printf("load and check %.2f ms: g at %d places %.2f, square test %.2f, distinctness %.3f, reading %.3f, the rest %.3f; g by scalar C %.2f ms, %.2f times load\n",
+           load, N, values, square, distinct, reading, load - values - square - distinct - reading, scalar, scalar / load);
     printf("%d differences\n", wrong);
     return wrong != 0;
 }

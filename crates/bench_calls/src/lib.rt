@@ -1,8 +1,9 @@
 // Calls under C names, for the benchmarks.
 ghost use mathlib.Core.Path.{_≡_};
 ghost use Rattle.field.specs.Poly.{hornerEach};
-ghost use Rattle.poly.specs.SquareTest.{squareTest};
+ghost use Rattle.euclid.specs.Euclid.{squareTest};
 ghost use Rattle.key.specs.Kept.{loadedOf};
+ghost use Rattle.key.specs.Parts.{distinctBelow};
 ghost use Rattle.bench_calls.specs.Chain.{chain};
 
 // b·a^n: n products, each of which waits for the one before.
@@ -32,7 +33,15 @@ pub extern "C" fn bench_horner(m: u8, r: &mut [u16], a: &[u16], c: u16)
 pub extern "C" fn bench_square(m: u8, g: &[u16]) -> bool
     ensures { λ r. ⌜ r ≡ squareTest m (now (g .entry)) ⌝ }
 {
-    poly::has_square(m, g)
+    euclid::has_square(m, g)
+}
+
+// The distinctness pass.
+#[no_mangle]
+pub extern "C" fn bench_distinct(s: &[u16]) -> bool
+    ensures { λ r. ⌜ r ≡ distinctBelow 8192 (now (s .entry)) ⌝ }
+{
+    key::checks::distinct(s)
 }
 
 // Load's number of a key file.

@@ -2,22 +2,21 @@
 use mathlib.Core.Path.{_≡_, sym, _∙_}
 use mathlib.Core.Bool.{Bool, true, false, not}
 use mathlib.Core.List.{List}
-use Prim.Native.Nat.{ℕ, _^_, _≤_, _<_}
-use native.Mathlib.Nat.{zero-lt-suc, le-of-suc-le-suc}
+use Prim.Native.Nat.{ℕ, _^_}
+use native.Mathlib.Nat.{le-of-suc-le-suc}
 use native.Mathlib.Omega.{arith}
-use native.Mathlib.Decide.{decLt}
-use lib.ListN.{length, getD, List·getD-eq-default}
+use lib.Dec.{ltb}
+use lib.ListN.{getD}
 use lib.Pow.{pow-mono}
-use borrow.Author.Tests.{le-leb, ltb-true, not-true, not-false}
+use borrow.Author.Tests.{lt-ltb, ltb-true, not-true, not-false}
 use Rattle.bits.specs.Bits.{every}
-use Rattle.bits.proofs.Lists.{every-at}
+use Rattle.bits.proofs.Lists.{every-at, every-all}
 use Rattle.field.specs.Numbers.{firstOf}
 use Rattle.field.specs.Field.{isElement}
 use Rattle.field.proofs.Table.{Width, width-narrow}
 use Rattle.poly.specs.Polynomials.{hasSquare}
-use Rattle.poly.specs.SquareTest.{squareTest}
 use Rattle.key.specs.Keys.{distinct}
-use Rattle.key.specs.Parts.{noRoot, faults}
+use Rattle.key.specs.Parts.{distinctBelow, noRoot, faults}
 use Rattle.key.proofs.Scan.{every-append}
 
 -- the code's test of an answer r, for the value q
@@ -27,18 +26,16 @@ failed {r} e h = sym e ∙ not-true r h
 pub passed : {r q : Bool} → r ≡ q → not r ≡ false → q ≡ true
 passed {r} e h = sym e ∙ not-false r h
 
--- elements have 13 digits
-pub elements-lt : (m : ℕ) (s : List ℕ) → Width m → every (isElement m) s ≡ true → (k : ℕ) → getD s k 0 < 8192
-unfolding isElement
-elements-lt m s w e k = elim (decLt k (length s)) [
-  | yes h ↦ omega (arith, ltb-true (getD s k 0) (2 ^ m) (every-at (isElement m) s e k 0 h), pow-mono (le-of-suc-le-suc (width-narrow m w)))
-  | no h ↦ rw (List·getD-eq-default s 0 {n = k} (omega arith)) (zero-lt-suc 8191)
-]
-
--- the test answers where a square divides g
-pub square-right : (m : ℕ) (g : List ℕ) → Width m → length g ≤ 128 → every (isElement m) g ≡ true → squareTest m g ≡ hasSquare m g
-unfolding squareTest
-square-right m g w l e = rw (w, le-leb (length g) 128 l, e)
+-- elements have 13 digits, so they are distinct where the table says so
+pub distinct-elements : (m : ℕ) (s : List ℕ) → Width m → every (isElement m) s ≡ true → distinctBelow 8192 s ≡ distinct s
+unfolding distinctBelow isElement
+distinct-elements m s w e = rw small
+  where
+    small : every (λ x. ltb x 8192) s ≡ true
+    small =
+        every-all (λ x. ltb x 8192) s 0
+        (λ i h. lt-ltb (getD s i 0) 8192
+        (omega (arith, ltb-true (getD s i 0) (2 ^ m) (every-at (isElement m) s e i 0 h), pow-mono (le-of-suc-le-suc (width-narrow m w)))))
 
 module _ (m : ℕ) (s g : List ℕ) where
   pub fault-support : every (isElement m) s ≡ false → 4 ≡ firstOf (faults m s g)

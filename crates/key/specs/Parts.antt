@@ -1,13 +1,17 @@
 -- The parts of a key's check. Assumes nothing.
 use Prim.Native.Nat.{ℕ}
-use mathlib.Core.Bool.{Bool, not}
+use mathlib.Core.Bool.{Bool, not, _&&_}
 use mathlib.Core.List.{List, [], _∷_, _++_}
-use lib.Dec.{eqb}
+use lib.Dec.{eqb, ltb}
 use Rattle.bits.specs.Bits.{every}
 use Rattle.field.specs.Field.{isElement}
 use Rattle.field.specs.Poly.{value}
 use Rattle.poly.specs.Polynomials.{monic, hasSquare}
 use Rattle.key.specs.Keys.{distinct}
+
+-- each number is below n, and none stands twice
+unfoldable pub distinctBelow : ℕ → List ℕ → Bool
+distinctBelow n s = every (λ x. ltb x n) s && distinct s
 
 -- no g(a) is 0, a from the list
 unfoldable pub noRoot : ℕ → List ℕ → List ℕ → Bool

@@ -4,28 +4,30 @@ use super::shape::in_limits;
 ghost use mathlib.Core.Path.{_≡_};
 ghost use mathlib.Core.Bool.{true, not};
 ghost use lib.Dec.{eqb};
-ghost use lib.ListN.{length, take, getD};
-ghost use Prim.Native.Nat.{ℕ, _≤_, _<_};
+ghost use lib.ListN.{length, take};
+ghost use Prim.Native.Nat.{_≤_};
 ghost use Rattle.bits.specs.Bits.{every};
 ghost use Rattle.field.specs.Field.{isWidth};
 ghost use Rattle.field.specs.Numbers.{firstOf};
-ghost use Rattle.key.specs.Keys.{distinct as allDistinct, keyNumber};
-ghost use Rattle.key.specs.Parts.{noRoot, faults as faultsOf};
+ghost use Rattle.key.specs.Keys.{keyNumber};
+ghost use Rattle.key.specs.Parts.{distinctBelow, noRoot, faults as faultsOf};
 ghost use Rattle.key.specs.Kept.{kept};
 
-// No number stands twice: seen[x] is 1 for each x passed.
-fn distinct(s: &[u16]) -> bool
-    requires { ⌜ ((k : ℕ) → getD (now s) k 0 < 8192) ⌝ }
-    ensures { λ r. ⌜ r ≡ allDistinct (now (s .entry)) ⌝ }
+// Each number is below 8192, and none stands twice: bit x of seen is 1 for each x passed.
+pub fn distinct(s: &[u16]) -> bool
+    ensures { λ r. ⌜ r ≡ distinctBelow 8192 (now (s .entry)) ⌝ }
 {
-    let mut seen = [0u8; 8192];
+    let mut seen = [0u8; 1024];
     let mut i = 0;
     while i < s.len() {
         let x = s[i] as usize;
-        if seen[x] != 0 {
+        if 8192 <= x {
             return false;
         }
-        seen[x] = 1;
+        if bits::bit_at(&seen, x) != 0 {
+            return false;
+        }
+        bits::set_bit(&mut seen, x, 1);
         i += 1;
     }
     true
@@ -68,7 +70,7 @@ fn faults(m: u8, s: &[u16], g: &[u16]) -> u8
     if !distinct(s) {
         return 5;
     }
-    if poly::has_square(m, g) {
+    if euclid::has_square(m, g) {
         return 6;
     }
     if !no_root(m, g, s) {

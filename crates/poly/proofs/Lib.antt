@@ -6,7 +6,3 @@ pub mod Answers
 pub mod RegisterLaws
 pub mod Product
 pub mod SquareSearch
-pub mod Coefficients
-pub mod Combination
-pub mod Euclid
-pub mod Ideal

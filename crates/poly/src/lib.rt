@@ -1,9 +1,7 @@
 // Registers (document 004's Figure 1) and polynomials over GF(2^m).
 mod horner;
 mod register;
-mod square;
 
 pub use horner::value;
 pub use horner::values;
 pub use register::Registered;
-pub use square::has_square;
