@@ -17,7 +17,8 @@ fn backward(c: [u16; 257], l: usize) -> [u16; 256]
     let mut q = [0u16; 256];
     let mut i = 0;
     while i < l {
-        q[i] = c[l - i];
+        let j = l - i;
+        q[i] = c[j];
         i += 1;
     }
     q

@@ -1,12 +1,12 @@
 -- `reading::calls::give` meets its contract. Assumes nothing.
 use mathlib.Core.Path.{_≡_, sym, ap, _∙_}
-use native.Mathlib.Omega.{arith}
 use Prim.Native.Nat.{ℕ}
+use native.Mathlib.Omega.{arith}
+use borrow.Author.Needs.{needs}
 use lib.ListN.{length, take}
 use lib.Seq.{length-take-le}
 use Rattle.bits.specs.Bits.{over}
 use Rattle.reading.proofs.Packed.{bytes-short}
-use borrow.Author.Needs.{needs}
 use Rattle.reading.proofs.calls.give.Statement.{statement}
 use Rattle.reading.proofs.calls.give.Tie as tie
 
