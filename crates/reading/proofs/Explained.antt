@@ -13,7 +13,7 @@ use Rattle.field.proofs.Table.{Width, width-narrow}
 use Rattle.poly.specs.Polynomials.{same}
 use Rattle.poly.specs.Register.{register, registerNumber}
 use Rattle.poly.proofs.Laws.{same-eq, eq-same}
-use Rattle.key.specs.Keys.{keyNumber}
+use Rattle.key.specs.Keys.{keyNumber, keyOf}
 use Rattle.key.specs.Keys as Keys
 use Rattle.key.specs.Kept.{kept, padded}
 use Rattle.key.specs.declared.kept.Key.{Key}
@@ -22,7 +22,7 @@ use Rattle.decoder.specs.Reading.{reading}
 use Rattle.decoder.specs.Decoding.{squareSums, places, located, explained}
 use Rattle.decoder.proofs.Sums.{length-squareSums, squareSums-number}
 use Rattle.decoder.proofs.Decoding.{row-located, explained-some, explained-none, reading-explained}
-use Rattle.reading.specs.Parts.{keyOf, packed}
+use Rattle.reading.specs.Parts.{packed}
 use Rattle.reading.specs.Answers.{foundOf}
 use Rattle.reading.specs.declared.decoding.Found.{Found}
 use Rattle.reading.proofs.Written.{take-padded}

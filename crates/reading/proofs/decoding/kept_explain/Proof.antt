@@ -6,8 +6,8 @@ use borrow.Author.Needs.{needs}
 use lib.ListN.{length, take}
 use lib.Seq.{length-take-le}
 use Rattle.bits.specs.Bits.{unpack}
+use Rattle.key.specs.Keys.{keyOf}
 use Rattle.decoder.specs.Decoding.{explained}
-use Rattle.reading.specs.Parts.{keyOf}
 use Rattle.reading.specs.Answers.{foundOf}
 use Rattle.reading.proofs.decoding.kept_explain.Statement.{statement}
 use Rattle.reading.proofs.decoding.kept_explain.Tie as tie
