@@ -8,3 +8,4 @@ pub mod Ones
 pub mod Product
 pub mod PutBits
 pub mod Parts
+pub mod Padded

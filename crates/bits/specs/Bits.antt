@@ -3,7 +3,7 @@ use Prim.Native.Nat.{ℕ, zero, suc, _+_, _-_, _*_, _/_, _%_, _^_, _<_}
 use mathlib.Core.Bool.{Bool, true, cond, _&&_, _||_}
 use mathlib.Core.List.{List, [], _∷_, _++_, map}
 use lib.Dec.{eqb, leb}
-use lib.ListN.{length, getD, take, drop, set}
+use lib.ListN.{length, getD, take, drop, set, replicate}
 use Rattle.bits.specs.Xor.{_⊕_}
 
 -- every number of the list is a byte
@@ -94,6 +94,10 @@ onPart a f l = take a l ++ f (drop a l)
 -- the bytes from the output's start; bytes beyond keep their contents
 unfoldable pub over : List ℕ → List ℕ → List ℕ
 over bytes out = bytes ++ drop (length bytes) out
+
+-- the list with zeros behind it, n numbers in all
+unfoldable pub padded : ℕ → List ℕ → List ℕ
+padded n l = l ++ replicate (n - length l) 0
 
 -- the w bits of s from bit b on as a packed row at the output's start; nothing changes where it has no room
 unfoldable pub rowWritten : List ℕ → ℕ → ℕ → List ℕ → List ℕ

@@ -11,11 +11,11 @@ use borrow.Author.Tests.{eq-eqb, ne-eqb}
 use lib.Dec.{eqb}
 use lib.Pow.{pow-pos}
 use lib.ListN.{length, getD, take, drop, set, replicate, length-append, length-replicate, List·getD-eq-default, length-take}
-use lib.Seq.{length-take-le, take-suc, take-length, take-at, set-at, drop-cons, drop-length, getD-append-add, getD-drop, getD-take}
+use lib.Seq.{take-at, set-at, drop-cons, drop-length, getD-append-add, getD-drop, getD-take}
+use Rattle.bits.proofs.Padded.{padded-at}
 use Rattle.bits.specs.Xor.{_⊕_}
-use Rattle.bits.specs.Bits.{from, eachWith, xorRow}
+use Rattle.bits.specs.Bits.{from, eachWith, xorRow, padded}
 use Rattle.bits.proofs.Xor.{xor-zero, xor-lt}
-use Rattle.bits.proofs.Bits.{zeros-at}
 use Rattle.bits.proofs.Lists.{cons-eq, length-map-from, from-add, map-append, take-below, map-from-at, map-from-past}
 use Rattle.bits.proofs.Rows.{xorRow-zeros, xorRow-suc, length-xorRow, getD-xorRow}
 use Rattle.algebra.proofs.Ring.{add-pair}
@@ -31,7 +31,7 @@ use Rattle.field.proofs.Arrays.{Elements, poly, poly-below, poly-xor, poly-scal
 use Rattle.field.proofs.Places.{hornerEach-width}
 use Rattle.poly.specs.Polynomials.{monic}
 use Rattle.poly.proofs.Product.{length-monic}
-use Rattle.euclid.specs.Euclid.{derivativeAt, derivative, padded, added}
+use Rattle.euclid.specs.Euclid.{derivativeAt, derivative, added}
 
 -- a list with zeros behind it, n entries in all: one entry more
 put : (n i v : ℕ) (l : List ℕ) → length l ≡ i → i < n → set (l ++ replicate (n - i) 0) i v ≡ (l ++ v ∷ []) ++ replicate (n - (i + 1)) 0
@@ -39,35 +39,12 @@ put n i v l e h =
     let s : n - i ≡ suc (n - (i + 1)) = omega arith in
     ap (λ (k : ℕ). set (l ++ replicate k 0) i v) s ∙ set-at l 0 (replicate (n - (i + 1)) 0) v i e ∙ sym (append-assoc l (v ∷ []) _)
 
-pub load-step : (p : List ℕ) (i : ℕ) → i < length p → i < 129
-    → set (take i p ++ replicate (129 - i) 0) i (getD p i 0) ≡ take (i + 1) p ++ replicate (129 - (i + 1)) 0
-load-step p i h k =
-    put 129 i (getD p i 0) (take i p) (length-take-le i p (omega arith)) k
-    ∙ ap (λ (l : List ℕ). l ++ replicate (129 - (i + 1)) 0) (sym (take-suc p i 0 h) ∙ ap (λ (j : ℕ). take j p) (sym (add-one i)))
-
-pub load-done : (p : List ℕ) (i : ℕ) → i ≡ length p → take i p ++ replicate (129 - i) 0 ≡ padded p
-unfolding padded
-load-done p i e = ap (λ (j : ℕ). take j p ++ replicate (129 - j) 0) e ∙ ap (λ (l : List ℕ). l ++ replicate (129 - length p) 0) (take-length p)
-
 -- the leading 1
-pub load-lead : (g : List ℕ) → length g ≤ 128 → set (padded g) (length g) 1 ≡ padded (monic g)
+pub load-lead : (g : List ℕ) → length g ≤ 128 → set (padded 129 g) (length g) 1 ≡ padded 129 (monic g)
 unfolding padded monic
 load-lead g h =
     let s : 129 - (length g + 1) ≡ 129 - length (monic g) = omega (arith, length-monic g) in
     put 129 (length g) 1 g refl (omega arith) ∙ ap (λ (k : ℕ). (g ++ 1 ∷ []) ++ replicate k 0) s
-
-pub length-padded : (p : List ℕ) → length p ≤ 129 → length (padded p) ≡ 129
-unfolding padded
-length-padded p h = length-append p (replicate (129 - length p) 0) ∙ omega (arith, length-replicate {A = ℕ} (129 - length p) 0)
-
-pub padded-at : (p : List ℕ) (k : ℕ) → getD (padded p) k 0 ≡ getD p k 0
-unfolding padded
-padded-at p k = go p k
-  where
-    go : (l : List ℕ) (k : ℕ) → getD (l ++ replicate (129 - length p) 0) k 0 ≡ getD l k 0
-    go [] k = zeros-at (129 - length p) k
-    go (x ∷ l) zero = refl
-    go (x ∷ l) (suc k) = go l k
 
 -- the derivative, coefficient by coefficient
 pub derivative-even : (p : List ℕ) (k : ℕ) → k % 2 ≡ 0 → derivativeAt p k ≡ getD p (k + 1) 0
@@ -212,11 +189,11 @@ module _ (m : ℕ) (W : Width m) where
       go false = pow-pos m
 
   -- zeros behind change nothing
-  pub padded-poly : (p : List ℕ) → poly m (padded p) ≡ poly m p
-  padded-poly p = fun-ext λ k. ap (val m) (padded-at p k)
+  pub padded-poly : (p : List ℕ) → poly m (padded 129 p) ≡ poly m p
+  padded-poly p = fun-ext λ k. ap (val m) (padded-at 129 p k)
 
-  pub padded-elements : (p : List ℕ) → Elements m p → Elements m (padded p)
-  padded-elements p e k = rw (padded-at p k) (e k)
+  pub padded-elements : (p : List ℕ) → Elements m p → Elements m (padded 129 p)
+  padded-elements p e k = rw (padded-at 129 p k) (e k)
 
   -- a + c·x^y·b
   module _ (c y n : ℕ) (a b : List ℕ) (h : n ≤ length a) where

@@ -4,10 +4,10 @@ use mathlib.Core.Path.{_≡_, refl}
 use mathlib.Core.List.{List, [], _∷_, _++_, map}
 use lib.ListN.{take, replicate}
 use Rattle.bits.specs.Xor.{_⊕_}
-use Rattle.bits.specs.Bits.{from, every, eachWith, xorRow}
+use Rattle.bits.specs.Bits.{from, every, eachWith, xorRow, padded}
 use Rattle.field.specs.Field.{isWidth, isElement, modulusOf, polyMul, reduced as remainder, mulMod, mul, lastBelow, inv}
 use Rattle.euclid.specs.declared.common.Divisor.{Divisor}
-use Rattle.euclid.specs.Euclid.{derivativeAt, derivative, size, padded, started, added, step, steps, accepted, commonDivisor}
+use Rattle.euclid.specs.Euclid.{derivativeAt, derivative, size, started, added, step, steps, accepted, commonDivisor}
 
 -- a polynomial and its derivative: of a constant, x, 9·x², x³ + 3·x² + x + 3
 unfoldable pub derivatives : List (List ℕ × List ℕ)

@@ -10,6 +10,8 @@ use native.Mathlib.Omega.{arith}
 use native.Mathlib.Decide.{decLt}
 use lib.Pow.{pow-pos}
 use lib.ListN.{length, getD}
+use Rattle.bits.proofs.Padded.{padded-at, length-padded}
+use Rattle.bits.specs.Bits.{padded}
 use Rattle.algebra.proofs.Field.{Field, inv-mul}
 use Rattle.algebra.proofs.Series as S
 use Rattle.algebra.proofs.Series.{Series, Operations, operations, C-at, shift, shift-mul, shift-at}
@@ -19,9 +21,9 @@ use Rattle.field.proofs.Gf.{Elem, val, val-zero, val-inj, val-mul, val-inv, zer
 use Rattle.field.proofs.Arrays.{Elements, poly, every-elements}
 use Rattle.euclid.specs.declared.common.Divisor.{Divisor}
 use Rattle.euclid.specs.declared.common.Pair.{Pair}
-use Rattle.euclid.specs.Euclid.{size, padded, started, lowered, swapped, quotient, reduced, step, steps, accepted, commonDivisor}
+use Rattle.euclid.specs.Euclid.{size, started, lowered, swapped, quotient, reduced, step, steps, accepted, commonDivisor}
 use Rattle.euclid.proofs.Size.{size-le, size-past, size-top}
-use Rattle.euclid.proofs.Coefficients.{padded-at, length-padded, padded-poly, padded-elements, added-elements, length-added, added-poly}
+use Rattle.euclid.proofs.Coefficients.{padded-poly, padded-elements, added-elements, length-added, added-poly}
 use Rattle.euclid.proofs.Combination.{Combination, first, swap, add, change, Multiple, with-zero, of-multiples}
 use Rattle.euclid.proofs.Answers.{accepted-parts, divisor-found}
 use Rattle.euclid.proofs.Steps.{Low, by-step, at-end}
@@ -78,12 +80,12 @@ module _ (m : ℕ) (W : Width m) (P Q : Series (Elem m)) where
     q-of = swap L (first L Q P);
   }
 
-  side-start : (l : List ℕ) → length l ≤ 129 → Elements m l → Side (padded l) (size l)
+  side-start : (l : List ℕ) → length l ≤ 129 → Elements m l → Side (padded 129 l) (size l)
   side-start l h e = record {
-    places = length-padded l h;
+    places = length-padded 129 l h;
     fit = omega (arith, size-le l);
     elements = padded-elements m W l e;
-    below = λ i b. ap (val m) (padded-at l i ∙ size-past l i b) ∙ val-zero m;
+    below = λ i b. ap (val m) (padded-at 129 l i ∙ size-past l i b) ∙ val-zero m;
   }
 
   -- the three kinds of step
@@ -198,9 +200,9 @@ module _ (m : ℕ) (W : Width m) (P Q : Series (Elem m)) where
 tops-start : (a b : List ℕ) → Tops (started a b)
 unfolding started
 tops-start a b = elim (decLt 0 (size a)) [
-  | yes h ↦ of-a (record { some = h; nonzero = λ z. size-top a h (sym (padded-at a (size a - 1)) ∙ z) })
+  | yes h ↦ of-a (record { some = h; nonzero = λ z. size-top a h (sym (padded-at 129 a (size a - 1)) ∙ z) })
   | no h ↦ elim (decLt 0 (size b)) [
-    | yes l ↦ of-b (record { some = l; nonzero = λ z. size-top b l (sym (padded-at b (size b - 1)) ∙ z) })
+    | yes l ↦ of-b (record { some = l; nonzero = λ z. size-top b l (sym (padded-at 129 b (size b - 1)) ∙ z) })
     | no l ↦ none (omega arith) (omega arith)
   ]
 ]
@@ -226,7 +228,7 @@ module _ (m : ℕ) (W : Width m) where
     side-a = side-start m W _ _ a ha ea;
     side-b = side-start m W _ _ b hb eb;
     tops = tops-start a b;
-    ideal = subst (λ x. Ideal m W (poly m a) (poly m b) x (poly m (padded b))) (sym (padded-poly m W a))
+    ideal = subst (λ x. Ideal m W (poly m a) (poly m b) x (poly m (padded 129 b))) (sym (padded-poly m W a))
         (subst (λ x. Ideal m W (poly m a) (poly m b) (poly m a) x) (sym (padded-poly m W b)) (ideal-start m W (poly m a) (poly m b)));
   }
 

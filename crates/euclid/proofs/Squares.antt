@@ -9,7 +9,8 @@ use borrow.Author.Tests.{lt-leb, le-leb, lt-ltb}
 use lib.Dec.{leb}
 use lib.Pow.{pow-pos}
 use lib.ListN.{length, replicate}
-use Rattle.bits.specs.Bits.{every}
+use Rattle.bits.proofs.Padded.{length-padded}
+use Rattle.bits.specs.Bits.{every, padded}
 use Rattle.bits.proofs.Bits.{zeros-at}
 use Rattle.bits.proofs.Lists.{every-all}
 use Rattle.algebra.proofs.Ring.{ring, mul-zero}
@@ -29,15 +30,15 @@ use Rattle.poly.specs.Polynomials.{monic, hasSquare}
 use Rattle.poly.proofs.Product.{length-monic, monic-elements, poly-monic}
 use Rattle.poly.proofs.SquareSearch.{hasSquare-separable, separable-hasSquare}
 use Rattle.euclid.specs.declared.common.Divisor.{Divisor}
-use Rattle.euclid.specs.Euclid.{derivative, padded, accepted, commonDivisor, squareTest}
-use Rattle.euclid.proofs.Coefficients.{length-padded, length-derivative, derivative-poly, derivative-elements, padded-poly, padded-elements}
+use Rattle.euclid.specs.Euclid.{derivative, accepted, commonDivisor, squareTest}
+use Rattle.euclid.proofs.Coefficients.{length-derivative, derivative-poly, derivative-elements, padded-poly, padded-elements}
 use Rattle.euclid.proofs.Combination.{Combination, Multiple, of-multiples}
 use Rattle.euclid.proofs.Answers.{accepted-no-width, accepted-short, divisor-not-a, square-no-width, square-no-element, square-in-bounds}
 use Rattle.euclid.proofs.Ideal.{top-nonzero, Greatest, common-divisor}
 
 -- g with its leading 1
 abbrev pub whole : List ℕ → List ℕ
-whole g = padded (monic g)
+whole g = padded 129 (monic g)
 
 module _ (m : ℕ) (W : Width m) (g : List ℕ) (d : Divisor) (t : Greatest m W (whole g) (derivative (whole g)) d) where
   open Field (gf m W) using (F, 𝟙, inv, laws as L)
@@ -182,7 +183,7 @@ module _ (m : ℕ) (g : List ℕ) (h : length g ≤ 128) where
   divisor = commonDivisor m (whole g) (derivative (whole g))
 
   long : length (whole g) ≡ 129
-  long = length-padded (monic g) (omega (arith, length-monic g))
+  long = length-padded 129 (monic g) (omega (arith, length-monic g))
 
   pub square-test : leb 2 (divisor .length) ≡ squareTest m g
   square-test = by-width m (λ w. go w (every (isElement m) g) refl) (λ n. none (accepted-no-width m (whole g) n) (square-no-width m g n))

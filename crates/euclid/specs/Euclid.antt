@@ -4,7 +4,7 @@ use mathlib.Core.Bool.{Bool, cond, _&&_}
 use mathlib.Core.List.{List, [], _∷_, _++_, map}
 use lib.Dec.{eqb, ltb, leb}
 use lib.ListN.{length, getD, take, replicate}
-use Rattle.bits.specs.Bits.{from, every, xorRow}
+use Rattle.bits.specs.Bits.{from, every, xorRow, padded}
 use Rattle.field.specs.Field.{isWidth, isElement, mul, inv}
 use Rattle.poly.specs.Polynomials.{hasSquare}
 use Rattle.euclid.specs.declared.common.Divisor.{Divisor}
@@ -23,13 +23,9 @@ unfoldable pub size : List ℕ → ℕ
 size [] = 0
 size (x ∷ xs) = let rest : ℕ = size xs in cond (eqb x 0 && eqb rest 0) 0 (suc rest)
 
--- with zeros behind, 129 coefficients in all
-unfoldable pub padded : List ℕ → List ℕ
-padded p = p ++ replicate (129 - length p) 0
-
 -- a and b before the first step
 unfoldable pub started : List ℕ → List ℕ → Pair
-started a b = record { a = padded a; b = padded b; da = size a; db = size b }
+started a b = record { a = padded 129 a; b = padded 129 b; da = size a; db = size b }
 
 -- a + x^y·b, in the first n coefficients
 unfoldable pub added : ℕ → ℕ → List ℕ → List ℕ → List ℕ

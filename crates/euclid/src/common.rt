@@ -4,10 +4,10 @@ ghost use mathlib.Core.Bool.{true};
 ghost use mathlib.Core.List.{map};
 ghost use Prim.Native.Nat.{_+_, _*_, _<_, _≤_};
 ghost use lib.ListN.{length};
+ghost use Rattle.bits.specs.Bits.{padded};
 ghost use Rattle.field.specs.Field.{isWidth, mul};
 ghost use Rattle.euclid.specs.Euclid.{
   size as sizeOf,
-  padded,
   started,
   added,
   step as stepOf,
@@ -80,7 +80,7 @@ fn size(p: &[u16]) -> usize
 // The coefficients of p, with zeros behind them.
 pub(crate) fn load(p: &[u16]) -> [u16; 129]
     requires { ⌜ length (now p) ≤ 129 ⌝ }
-    ensures { λ r. ⌜ r ≡ padded (now (p .entry)) ⌝ }
+    ensures { λ r. ⌜ r ≡ padded 129 (now (p .entry)) ⌝ }
 {
     let mut a = [0u16; 129];
     let mut i = 0;

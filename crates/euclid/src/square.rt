@@ -5,13 +5,14 @@ use super::derivative;
 ghost use mathlib.Core.Path.{_≡_};
 ghost use Prim.Native.Nat.{_≤_};
 ghost use lib.ListN.{length};
+ghost use Rattle.bits.specs.Bits.{padded};
 ghost use Rattle.poly.specs.Polynomials.{monic as monicOf};
-ghost use Rattle.euclid.specs.Euclid.{padded, squareTest};
+ghost use Rattle.euclid.specs.Euclid.{squareTest};
 
 // g with its leading 1, and zeros behind it.
 fn monic(g: &[u16]) -> [u16; 129]
     requires { ⌜ length (now g) ≤ 128 ⌝ }
-    ensures { λ r. ⌜ r ≡ padded (monicOf (now (g .entry))) ⌝ }
+    ensures { λ r. ⌜ r ≡ padded 129 (monicOf (now (g .entry))) ⌝ }
 {
     let n = g.len();
     let mut a = load(g);

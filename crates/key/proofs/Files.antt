@@ -7,12 +7,13 @@ use native.Mathlib.Decide.{ℕ-discrete}
 use lib.Dec.{eqb}
 use lib.ListN.{length, take, drop, getD, replicate}
 use borrow.Author.Tests.{eq-eqb, ne-eqb}
+use Rattle.bits.specs.Bits.{padded}
 use Rattle.field.specs.Numbers.{firstOf}
 use Rattle.field.specs.Field.{isWidth}
 use Rattle.field.proofs.Table.{Width}
 use Rattle.key.specs.Shapes.{inLimits}
 use Rattle.key.specs.Keys.{pair, elements, parse, conditions, fileConditions, keyNumber}
-use Rattle.key.specs.Kept.{kept, padded, keep, noKey, sizesOf, loadedOf}
+use Rattle.key.specs.Kept.{kept, keep, noKey, sizesOf, loadedOf}
 use Rattle.key.specs.declared.shape.Sizes.{Sizes}
 use Rattle.key.specs.declared.kept.Key.{Key}
 use Rattle.key.specs.declared.file.Loaded.{Loaded}

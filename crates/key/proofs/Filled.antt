@@ -1,17 +1,18 @@
 -- Elements read from a file into an array of zeros. Assumes nothing.
 use mathlib.Core.Path.{_≡_, refl, sym, ap, ap₂, _∙_}
 use mathlib.Core.List.{List, [], _∷_, _++_, map, append-assoc}
-use Prim.Native.Nat.{ℕ, zero, suc, _+_, _-_, _*_, _<_}
-use native.Mathlib.Nat.{zero-add, sub-zero}
+use Prim.Native.Nat.{ℕ, suc, _+_, _-_, _*_, _<_}
+use native.Mathlib.Nat.{zero-add}
 use native.Mathlib.Numerals.{add-one}
-use native.Mathlib.Omega.{arith}
 use lib.ListN.{length, getD, drop, set, replicate}
 use lib.Seq.{drop-cons, set-at, take-at}
 use Rattle.bits.specs.Bits.{from}
 use Rattle.bits.proofs.Lists.{from-add, map-append}
+use Rattle.bits.specs.Bits.{padded}
+use Rattle.bits.proofs.Padded.{drop-zeros}
 use Rattle.key.specs.Keys.{pair, elements}
 use Rattle.key.specs.Keys as Keys
-use Rattle.key.specs.Kept.{kept, keep, padded}
+use Rattle.key.specs.Kept.{kept, keep}
 use Rattle.key.proofs.Parse.{length-elements}
 
 module _ (file : List ℕ) (at : ℕ) where
@@ -34,11 +35,6 @@ module _ (file : List ℕ) (at : ℕ) where
       ∙ set-at (elements file at i) (getD out i 0) (drop (suc i) out) (pair file (at + 2 * i)) i (length-elements file at i)
       ∙ sym (append-assoc (elements file at i) (pair file (at + 2 * i) ∷ []) (drop (suc i) out))
       ∙ ap₂ _++_ (sym (elements-next i)) (ap (λ (k : ℕ). drop k out) (sym (add-one i)))
-
-pub drop-zeros : (n k : ℕ) → drop n (replicate {A = ℕ} k 0) ≡ replicate (k - n) 0
-drop-zeros zero k = rw (sub-zero k)
-drop-zeros (suc n) zero = let e : 0 - suc n ≡ zero = omega arith in rw e
-drop-zeros (suc n) (suc k) = let e : suc k - suc n ≡ k - n = omega arith in rw e (drop-zeros n k)
 
 -- an array of zeros, filled from its start
 pub filled-zeros : (file : List ℕ) (at n k : ℕ) → elements file at n ++ drop n (replicate k 0) ≡ padded k (elements file at n)

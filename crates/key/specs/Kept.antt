@@ -1,9 +1,10 @@
 -- The key that is kept: arrays whose first n and t numbers are the key's. Assumes nothing.
-use Prim.Native.Nat.{ℕ, _-_}
+use Prim.Native.Nat.{ℕ}
 use mathlib.Core.Bool.{cond}
-use mathlib.Core.List.{List, _++_}
+use mathlib.Core.List.{List}
 use lib.Dec.{eqb}
-use lib.ListN.{length, take, replicate}
+use lib.ListN.{take, replicate}
+use Rattle.bits.specs.Bits.{padded}
 use Rattle.field.specs.Numbers.{firstOf}
 use Rattle.key.specs.Keys.{parse, fileConditions}
 use Rattle.key.specs.Keys as Keys
@@ -14,10 +15,6 @@ use Rattle.key.specs.declared.file.Loaded.{Loaded}
 -- the key of a kept one
 unfoldable pub kept : Key → Keys.Key
 kept k = record { m = k .m; n = k .n; t = k .t; support = take (k .n) (k .support); g = take (k .t) (k .g) }
-
--- the list with zeros behind it, n numbers in all
-unfoldable pub padded : ℕ → List ℕ → List ℕ
-padded n l = l ++ replicate (n - length l) 0
 
 -- the kept key of a key, with zeros past n and past t
 unfoldable pub keep : Keys.Key → Key

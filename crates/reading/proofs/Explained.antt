@@ -7,7 +7,7 @@ use native.Mathlib.Nat.{le-of-suc-le-suc}
 use native.Mathlib.Omega.{arith}
 use lib.ListN.{length, take, replicate}
 use lib.Pow.{pow-mono}
-use Rattle.bits.specs.Bits.{Row, unpack, ones, weight}
+use Rattle.bits.specs.Bits.{Row, unpack, ones, weight, padded}
 use Rattle.bits.proofs.Pack.{row-unpack}
 use Rattle.field.proofs.Table.{Width, width-narrow}
 use Rattle.poly.specs.Polynomials.{same}
@@ -15,7 +15,7 @@ use Rattle.poly.specs.Register.{register, registerNumber}
 use Rattle.poly.proofs.Laws.{same-eq, eq-same}
 use Rattle.key.specs.Keys.{keyNumber, keyOf}
 use Rattle.key.specs.Keys as Keys
-use Rattle.key.specs.Kept.{kept, padded}
+use Rattle.key.specs.Kept.{kept}
 use Rattle.key.specs.declared.kept.Key.{Key}
 use Rattle.key.proofs.Accepted.{Accepted, accepted}
 use Rattle.decoder.specs.Reading.{reading}
@@ -25,7 +25,7 @@ use Rattle.decoder.proofs.Decoding.{row-located, explained-some, explained-none
 use Rattle.reading.specs.Parts.{packed}
 use Rattle.reading.specs.Answers.{foundOf}
 use Rattle.reading.specs.declared.decoding.Found.{Found}
-use Rattle.reading.proofs.Written.{take-padded}
+use Rattle.bits.proofs.Padded.{take-padded}
 use Rattle.reading.proofs.Packed.{unpack-packed, weight-packed}
 
 -- no pattern

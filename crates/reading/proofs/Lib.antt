@@ -1,4 +1,3 @@
-pub mod Written
 pub mod Gathered
 pub mod Scan
 pub mod Packed

@@ -5,6 +5,7 @@ use Prim.Native.Nat.{ℕ, _-_, _≤_, _<_}
 use native.Mathlib.Nat.{zero-add}
 use native.Mathlib.Omega.{arith}
 use lib.ListN.{length, getD, take}
+use Rattle.bits.specs.Bits.{padded}
 use Rattle.bits.proofs.Lists.{length-map-from, map-from-at}
 use Rattle.field.specs.Poly.{value}
 use Rattle.field.proofs.Arrays.{every-elements}
@@ -14,11 +15,10 @@ use Rattle.poly.specs.Registered.{registered, registeredOf}
 use Rattle.poly.specs.declared.register.Registered.{Registered}
 use Rattle.poly.proofs.Answers.{accepted}
 use Rattle.poly.proofs.RegisterLaws.{register-length}
-use Rattle.key.specs.Kept.{padded}
 use Rattle.key.specs.Keys.{keyOf}
 use Rattle.decoder.specs.Decoding.{reversed, places}
 use Rattle.reading.specs.Parts.{backward, mark, packed}
-use Rattle.reading.proofs.Written.{take-padded}
+use Rattle.bits.proofs.Padded.{take-padded}
 use Rattle.reading.proofs.PowerSums.{take-values}
 
 module _ (c : List ℕ) (l : ℕ) where

@@ -8,15 +8,14 @@ use native.Mathlib.Omega.{arith}
 use lib.Dec.{eqb}
 use lib.ListN.{length, getD, take, replicate, List·getD-eq-default}
 use lib.Seq.{getD-take, length-take-le}
-use Rattle.bits.specs.Bits.{Bytes, Row, from, bytesFor, bitAt, setBit, unpack, pack, ones, weight}
+use Rattle.bits.specs.Bits.{Bytes, Row, from, bytesFor, bitAt, setBit, unpack, pack, ones, weight, padded}
 use Rattle.bits.proofs.Bits.{bits-determine, bytes-setBit, length-setBit, set-bit-same, set-bit-other}
 use Rattle.bits.proofs.Lists.{take-below}
 use Rattle.bits.proofs.Pack.{row-of, row-lt, row-length, length-pack, bytes-pack, bit-pack, unpack-ext, unpack-pack}
-use Rattle.key.specs.Kept.{padded}
 use Rattle.decoder.proofs.Decoding.{row-marks as marks-row}
 use Rattle.bits.proofs.Parts.{row-size}
 use Rattle.reading.specs.Parts.{mark, packed}
-use Rattle.reading.proofs.Written.{padded-at, length-padded, take-padded}
+use Rattle.bits.proofs.Padded.{padded-at, length-padded, take-padded}
 
 module _ {n : ℕ} {e : List ℕ} (r : Row n e) where
   pub length-packed : n ≤ 8192 → length (packed e) ≡ 1024

@@ -4,10 +4,9 @@ use mathlib.Core.List.{List, map}
 use Prim.Native.Nat.{ℕ, _-_, _*_}
 use lib.Dec.{eqb}
 use lib.ListN.{length, getD}
-use Rattle.bits.specs.Bits.{from, pack}
+use Rattle.bits.specs.Bits.{from, pack, padded}
 use Rattle.poly.specs.Polynomials.{sum}
 use Rattle.key.specs.Keys.{keyOf}
-use Rattle.key.specs.Kept.{padded}
 use Rattle.decoder.specs.Decoding.{squareEntry}
 
 -- the 2t sums of a^s / g(a)² over a list of points

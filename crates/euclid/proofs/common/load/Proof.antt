@@ -1,22 +1,24 @@
 -- The loop's invariant: the first i coefficients, and zeros behind them. Assumes nothing.
 use mathlib.Core.Path.{_≡_, ap, _∙_}
-use mathlib.Core.List.{List, _++_}
+use mathlib.Core.List.{List}
 use Prim.Native.Nat.{ℕ, _-_, _≤_}
 use native.Mathlib.Omega.{arith}
 use borrow.Author.Needs.{needs}
-use lib.ListN.{replicate, length, take, getD, set}
-use Rattle.euclid.proofs.Coefficients.{load-step, load-done}
+use lib.ListN.{length, take, getD, set}
+use lib.Seq.{take-all}
+use Rattle.bits.specs.Bits.{padded}
+use Rattle.bits.proofs.Padded.{padded-start, padded-next}
 use Rattle.euclid.proofs.common.load.Statement.{statement}
 use Rattle.euclid.proofs.common.load.Tie as tie
 
 abbrev Inv-loop : tie.InvT-loop
-Inv-loop p a₀ i₀ a i = (i ≤ length p) × (a ≡ take i p ++ replicate (129 - i) 0)
+Inv-loop p a₀ i₀ a i = (i ≤ length p) × (a ≡ padded 129 (take i p))
 
 abbrev μ-loop : tie.MeasureT-loop
 μ-loop p a₀ i₀ a i = length p - i
 
 loop-holds : tie.Need-loop-holds Inv-loop μ-loop
-loop-holds c = search needs
+loop-holds c = (omega arith, padded-start 129 (c .args .p .now))
 
 mul-a : tie.Need-mul-a Inv-loop μ-loop
 mul-a c = search needs
@@ -40,14 +42,13 @@ loop-again : tie.Need-loop-again Inv-loop μ-loop
 loop-again c =
     let l = c .before .before .loop in
     let p = c .before .before .before .args .p .now in
-    (omega arith, ap (λ (a : List ℕ). set a (l .i) (getD p (l .i) 0)) (l .inv .1) ∙ load-step p (l .i) (omega arith) (omega arith))
+    (omega arith, ap (λ (a : List ℕ). set a (l .i) (getD p (l .i) 0)) (l .inv .1) ∙ padded-next 129 p (l .i) (omega arith) (omega arith))
 
 returns : tie.Need-returns Inv-loop μ-loop
 returns c =
     let l = c .before .loop in
     let p = c .before .before .args .p .now in
-    let e : l .i ≡ length p = omega arith in
-    l .inv .1 ∙ load-done p (l .i) e
+    l .inv .1 ∙ ap (padded 129) (take-all (l .i) p (omega arith))
 
 pub load-spec : {M : Type 1} → statement M
 load-spec =

@@ -7,7 +7,7 @@ use borrow.Author.Needs.{needs}
 use lib.ListN.{length, getD, take, set, length-set}
 use lib.Seq.{take-all}
 use Rattle.bits.specs.Bits.{over}
-use Rattle.reading.proofs.Written.{over-start, over-next}
+use Rattle.bits.proofs.Padded.{over-start, over-next}
 use Rattle.reading.proofs.calls.copy.Statement.{statement}
 use Rattle.reading.proofs.calls.copy.Tie as tie
 

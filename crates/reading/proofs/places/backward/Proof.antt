@@ -6,9 +6,9 @@ use native.Mathlib.Omega.{arith}
 use borrow.Author.Needs.{needs}
 use lib.ListN.{length, take, set, length-set}
 use lib.Seq.{take-all}
-use Rattle.key.specs.Kept.{padded}
+use Rattle.bits.specs.Bits.{padded}
 use Rattle.reading.specs.Parts.{backward}
-use Rattle.reading.proofs.Written.{padded-start, padded-next}
+use Rattle.bits.proofs.Padded.{padded-start, padded-next}
 use Rattle.reading.proofs.Located.{length-backward, backward-at}
 use Rattle.reading.proofs.places.backward.Statement.{statement}
 use Rattle.reading.proofs.places.backward.Tie as tie

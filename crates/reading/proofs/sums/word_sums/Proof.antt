@@ -3,9 +3,8 @@ use mathlib.Core.Path.{_≡_, sym, ap, _∙_}
 use native.Mathlib.Omega.{arith}
 use borrow.Author.Needs.{needs}
 use lib.ListN.{length}
-use Rattle.bits.specs.Bits.{unpack}
+use Rattle.bits.specs.Bits.{unpack, padded}
 use Rattle.bits.proofs.Pack.{row-unpack}
-use Rattle.key.specs.Kept.{padded}
 use Rattle.reading.specs.Parts.{pointSums}
 use Rattle.reading.proofs.Gathered.{length-chosen-le}
 use Rattle.reading.proofs.PowerSums.{chosen-sums}

@@ -2,15 +2,13 @@
 use mathlib.Core.Path.{_≡_, refl, sym, ap, _∙_}
 use mathlib.Core.List.{List, [], _∷_, _++_}
 use Prim.Native.Nat.{ℕ, zero, suc, _+_, _-_, _≤_, _<_}
-use native.Mathlib.Nat.{le-of-lt}
+use native.Mathlib.Nat.{le-of-lt, sub-zero}
 use native.Mathlib.Numerals.{add-one}
 use native.Mathlib.Omega.{arith}
 use lib.ListN.{length, getD, take, drop, set, replicate, length-append, length-replicate}
 use lib.Seq.{drop-cons, set-at, take-at, take-suc, append-snoc, length-take-le}
-use Rattle.bits.specs.Bits.{over}
+use Rattle.bits.specs.Bits.{over, padded}
 use Rattle.bits.proofs.Bits.{zeros-at}
-use Rattle.key.specs.Kept.{padded}
-use Rattle.key.proofs.Filled.{drop-zeros}
 
 -- over another list: the first i numbers, then one more
 pub over-start : (l d : List ℕ) → d ≡ over (take 0 l) d
@@ -31,6 +29,11 @@ over-next i l d h k =
     ∙ ap (λ (j : ℕ). over (take j l) d) (sym (add-one i))
 
 -- over zeros
+pub drop-zeros : (n k : ℕ) → drop n (replicate {A = ℕ} k 0) ≡ replicate (k - n) 0
+drop-zeros zero k = rw (sub-zero k)
+drop-zeros (suc n) zero = let e : 0 - suc n ≡ zero = omega arith in rw e
+drop-zeros (suc n) (suc k) = let e : suc k - suc n ≡ k - n = omega arith in rw e (drop-zeros n k)
+
 over-zeros : (n : ℕ) (l : List ℕ) → over l (replicate n 0) ≡ padded n l
 unfolding over padded
 over-zeros n l = ap (_++_ l) (drop-zeros (length l) n)
