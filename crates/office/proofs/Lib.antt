@@ -1,2 +1,4 @@
 pub mod ReplyLaws
 pub mod LowerLaws
+pub mod StepView
+pub mod Demand3
