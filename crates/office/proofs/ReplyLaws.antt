@@ -98,7 +98,7 @@ tally s (open-capsule capsule out) = ones (found (opening (s .key) (unpack (caps
 tally s (read-word word out) = ones (found (reading (s .key) (unpack (s .key .n) word)))
 tally s drop-key = 0
 
-count-accepted : (s : Definition.Station) (c : Call) → callNumber s c ≡ 0 → tally s c ≡ step s c .count
+pub count-accepted : (s : Definition.Station) (c : Call) → callNumber s c ≡ 0 → tally s c ≡ step s c .count
 unfolding tally step conditionsOf loadOf publishOf openOf readOf dropOf gives
 count-accepted s (load file) z = sym (ap (λ (r : Result). r .count) (unless-accepted s [] _ _ z))
 count-accepted s (publish out work) z = sym (ap (λ (r : Result). r .count) (unless-accepted s out _ _ z))

@@ -37,12 +37,12 @@ view-moved s (read-word word out) = refl
 view-moved s drop-key = view-fresh
 
 -- station, number and ones
-record Same (a : Reply) (r : Result) : Type 0 where
-  station : view (a .station) ≡ r .station
-  number : a .refused ≡ r .number
-  count : a .ones ≡ r .count
+pub record Same (a : Reply) (r : Result) : Type 0 where
+  pub station : view (a .station) ≡ r .station
+  pub number : a .refused ≡ r .number
+  pub count : a .ones ≡ r .count
 
-same : (s : Station) (c : Call) → Same (handed s c .reply) (step (view s) c)
+pub same : (s : Station) (c : Call) → Same (handed s c .reply) (step (view s) c)
 unfolding handed replyOf refusal acceptance
 same s c = go (step (view s) c .number) refl
   where
