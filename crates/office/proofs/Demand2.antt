@@ -1,6 +1,6 @@
 -- Demand 2 of the code's calls: publish writes T, and locking and opening undo each other. Assumes nothing.
 use Prim.Native.Nat.{ℕ, _≤_}
-use mathlib.Core.Path.{_≡_, refl, sym, ap, _∙_}
+use mathlib.Core.Path.{_≡_, sym, _∙_}
 use mathlib.Core.Bool.{true, false}
 use mathlib.Core.List.{List, flatMap}
 use mathlib.Core.Option.{some}

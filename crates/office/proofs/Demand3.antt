@@ -1,19 +1,18 @@
 -- Demand 3 of the code's calls: after every list of calls the ledger says which key is held, and open and read decide.
 -- Assumes nothing.
-use mathlib.Core.Path.{_≡_, sym, ap, _∙_}
+use mathlib.Core.Path.{_≡_, ap, _∙_}
 use mathlib.Core.List.{List}
 use Rattle.station.specs.Station.{fresh}
 use Rattle.station.specs.Station as Definition
 use Rattle.station.specs.Calls.{Call, open-capsule, read-word}
 use Rattle.station.specs.Calls as Calls
-use Rattle.station.specs.Ledger.{Ledger}
 use Rattle.station.specs.Demands as Station
 use Rattle.station.proofs.Demand3 as Definitions
 use Rattle.office.specs.Replies.{view, freshStation, run, answered}
-use Rattle.office.specs.Demands.{After, AfterEveryList}
+use Rattle.office.specs.Demands.{AfterEveryList}
 use Rattle.office.proofs.StepView.{view-fresh, reply-step, view-run, view-answered}
 
-run-fresh : (calls : List Call) → view (run freshStation calls) ≡ Calls.run fresh calls
+pub run-fresh : (calls : List Call) → view (run freshStation calls) ≡ Calls.run fresh calls
 run-fresh calls = view-run freshStation calls ∙ ap (λ (s : Definition.Station). Calls.run s calls) view-fresh
 
 answered-fresh : (calls : List Call) → answered freshStation calls ≡ Calls.answered fresh calls

@@ -3,7 +3,7 @@ use Prim.Native.Nat.{ℕ, zero, suc}
 use mathlib.Core.Path.{_≡_, refl, sym, ap, ap₂, _∙_}
 use mathlib.Core.Bool.{Bool}
 use mathlib.Core.List.{List, [], _∷_}
-use Rattle.key.specs.Keys.{Key, pair, parse}
+use Rattle.key.specs.Keys.{Key, parse}
 use Rattle.key.specs.Kept.{kept, keep, noKey}
 use Rattle.key.proofs.Parse.{length-elements}
 use Rattle.key.proofs.Filled.{kept-keep}
