@@ -36,7 +36,7 @@ unfolding over
 begins {n} {e} r out = take-at (pack e) (drop (length (pack e)) out) (bytesFor n) (length-pack e ∙ ap bytesFor (row-length r))
 
 -- a capsule that is opened is well-formed, and the output has room for its pattern
-opened : (k : Key) (capsule out : List ℕ) → step (at published k) (open-capsule capsule out) .number ≡ 0
+pub opened : (k : Key) (capsule out : List ℕ) → step (at published k) (open-capsule capsule out) .number ≡ 0
     → (wellFormed (capsuleBits k) capsule ≡ true) × (bytesFor (k .n) ≤ length out)
 unfolding at heldBy conditionsOf openConditions Calls.openConditions
 opened k capsule out e =

@@ -1,0 +1,12 @@
+-- `office::Station::refuse` meets its contract. Assumes nothing.
+use mathlib.Core.Path.{refl}
+use Rattle.office.specs.Replies.{refusal}
+use Rattle.office.proofs.Station.refuse.Statement.{statement}
+use Rattle.office.proofs.Station.refuse.Tie as tie
+
+returns : tie.Need-returns
+unfolding refusal
+returns c = refl
+
+pub refuse-spec : {M : Type 1} → statement M
+refuse-spec = tie.close (tie.spec returns)

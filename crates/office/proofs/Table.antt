@@ -1,0 +1,108 @@
+-- Document 01's rows P1 to P13, its facts by running and the orders of the numbers hold of the code's calls. Assumes nothing.
+use mathlib.Core.Path.{_≡_, refl, ap, ap₂, _∙_}
+use mathlib.Core.Bool.{Bool, true, _&&_}
+use mathlib.Core.List.{List, [], _∷_, map, flatMap}
+use lib.Dec.{eqb}
+use lib.ListN.{length}
+use borrow.Author.Tests.{eqb-true}
+use Rattle.bits.specs.Bits.{from}
+use Rattle.bits.proofs.Lists.{and-left, and-right}
+use Rattle.key.specs.Keys.{Key, pair, elements, parse, twoBytes, fileOf}
+use Rattle.key.specs.Kept.{keep}
+use Rattle.key.specs.Bench.{K1-with}
+use Rattle.key.proofs.Filled.{kept-keep}
+use Rattle.station.specs.Station.{empty, loaded, published, Result}
+use Rattle.station.specs.Station as Definition
+use Rattle.station.specs.Calls.{step}
+use Rattle.station.specs.Calls as Calls
+use Rattle.station.proofs.Table.{Asked, after, on, frees, lock-shape, locks, times, Outcome, free, outcomeOf, rows, running, orders, bad}
+use Rattle.station.proofs.Table as Definitions
+use Rattle.office.specs.Replies.{stateOf, view, freshStation, handed, run}
+use Rattle.office.specs.Demands.{viewed}
+use Rattle.office.specs.declared.State.{State}
+use Rattle.office.specs.declared.State.the-variants as states
+use Rattle.office.specs.declared.Station.{Station}
+use Rattle.office.proofs.StepView.{reply-step}
+use Rattle.office.proofs.Demand3.{run-fresh}
+
+-- the code's station for one of the definitions
+unfoldable pub stateFor : Definition.State → State
+stateFor empty = states.Empty
+stateFor loaded = states.Loaded
+stateFor published = states.Published
+
+unfoldable pub stored : Definition.Station → Station
+stored s = record { state = stateFor (s .state); key = keep (s .key) }
+
+-- what a row asks, of the code's calls; locking and products are no calls of the station
+unfoldable pub answer : Asked → Outcome
+answer (after calls c) = outcomeOf (viewed (handed (run freshStation calls) c))
+answer (on s c) = outcomeOf (viewed (handed (stored s) c))
+answer (frees s c) = free (handed (stored s) c .free)
+answer (lock-shape m n t public pattern out) = Definitions.answer (lock-shape m n t public pattern out)
+answer (locks file pattern out) = Definitions.answer (locks file pattern out)
+answer (times m a b) = Definitions.answer (times m a b)
+
+-- every row of the table has its outcome
+abbrev pub Holds : List (Asked × Outcome) → Type 0
+Holds table = map (λ r. answer (r .0)) table ≡ map (λ r. r .1) table
+
+-- the key's lists have the lengths n and t, so that it can be kept
+unfoldable sized : Definition.Station → Bool
+sized s = eqb (length (s .key .support)) (s .key .n) && eqb (length (s .key .g)) (s .key .t)
+
+unfoldable fits : Asked → Bool
+fits (after calls c) = true
+fits (on s c) = sized s
+fits (frees s c) = sized s
+fits (lock-shape m n t public pattern out) = true
+fits (locks file pattern out) = true
+fits (times m a b) = true
+
+unfoldable allFit : List (Asked × Outcome) → Bool
+allFit [] = true
+allFit (r ∷ rs) = fits (r .0) && allFit rs
+
+state-for : (t : Definition.State) → stateOf (stateFor t) ≡ t
+unfolding stateOf stateFor
+state-for empty = refl
+state-for loaded = refl
+state-for published = refl
+
+view-stored : (s : Definition.Station) → sized s ≡ true → view (stored s) ≡ s
+unfolding sized view stored
+view-stored s h =
+    let k = s .key in
+    let a : eqb (length (k .support)) (k .n) ≡ true = and-left (eqb (length (k .support)) (k .n)) (eqb (length (k .g)) (k .t)) h in
+    let b : eqb (length (k .g)) (k .t) ≡ true = and-right (eqb (length (k .support)) (k .n)) (eqb (length (k .g)) (k .t)) h in
+    ap₂ (λ (t : Definition.State) (j : Key). record { state = t; key = j }) (state-for (s .state)) (kept-keep k (eqb-true _ _ a) (eqb-true _ _ b))
+
+same-answer : (a : Asked) → fits a ≡ true → answer a ≡ Definitions.answer a
+unfolding answer fits Definitions.answer viewed
+same-answer (after calls c) h =
+    ap outcomeOf (reply-step (run freshStation calls) c ∙ ap (λ (s : Definition.Station). step s c) (run-fresh calls))
+same-answer (on s c) h = ap outcomeOf (reply-step (stored s) c ∙ ap (λ (t : Definition.Station). step t c) (view-stored s h))
+same-answer (frees s c) h =
+    ap (λ (r : Result). free (r .free)) (reply-step (stored s) c ∙ ap (λ (t : Definition.Station). step t c) (view-stored s h))
+same-answer (lock-shape m n t public pattern out) h = refl
+same-answer (locks file pattern out) h = refl
+same-answer (times m a b) h = refl
+
+-- a table of rows that fit has the same outcomes
+same-answers : (table : List (Asked × Outcome)) → allFit table ≡ true → map (λ r. answer (r .0)) table ≡ map (λ r. Definitions.answer (r .0)) table
+unfolding allFit
+same-answers [] h = refl
+same-answers (r ∷ rs) h =
+    ap₂ _∷_ (same-answer (r .0) (and-left (fits (r .0)) (allFit rs) h)) (same-answers rs (and-right (fits (r .0)) (allFit rs) h))
+
+pub rows-hold : Holds rows
+unfolding allFit fits rows
+rows-hold = same-answers rows refl ∙ Definitions.rows-hold
+
+pub running-holds : Holds running
+unfolding allFit fits running
+running-holds = same-answers running refl ∙ Definitions.running-holds
+
+pub orders-hold : Holds orders
+unfolding allFit fits sized orders bad parse elements pair from K1-with fileOf twoBytes flatMap
+orders-hold = same-answers orders refl ∙ Definitions.orders-hold
