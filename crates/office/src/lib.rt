@@ -98,6 +98,7 @@ impl Station {
         }
     }
 
+    // The new station, and the number of ones that were written.
     fn accept(self, ones: u16) -> Reply
         ensures { λ r. ⌜ r ≡ acceptance self ones ⌝ }
     {
