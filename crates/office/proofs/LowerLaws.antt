@@ -21,7 +21,6 @@ use Rattle.reading.specs.Answers as Answers
 use Rattle.reading.specs.declared.calls.Answer.{Answer}
 use Rattle.reading.specs.declared.calls.Answer.the-variants as answers
 use Rattle.station.specs.Station.{isEmpty, isUnpublished, heldBy, publishChecks, openOf, readOf}
-use Rattle.station.specs.Station as Definition
 use Rattle.station.specs.Calls.{Call, load, publish, open-capsule, read-word}
 use Rattle.station.specs.Demands.{outputOf}
 use Rattle.station.proofs.StepLaws.{step-free, freed}

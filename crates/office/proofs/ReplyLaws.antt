@@ -12,13 +12,8 @@ use Rattle.key.specs.Keys.{fileConditions}
 use Rattle.key.specs.Kept.{kept}
 use Rattle.code.specs.PublicKey.{publicKey, written}
 use Rattle.code.specs.Publish.{capsuleBits, publishNumber}
-use Rattle.code.specs.Publish as Publish
 use Rattle.decoder.specs.Reading.{reading, opening}
 use Rattle.decoder.specs.Calls.{found, openNumber, readNumber}
-use Rattle.decoder.specs.Calls as Calls
-use Rattle.publishing.specs.declared.Published.the-variants as published
-use Rattle.reading.specs.Answers as Answers
-use Rattle.reading.specs.declared.calls.Answer.the-variants as answers
 use Rattle.station.specs.Station.{isEmpty, isUnpublished, heldBy, loadConditions, publishChecks, publishConditions, openConditions, readConditions, dropConditions, Result, loadOf, publishOf, gives, openOf, readOf, dropOf}
 use Rattle.station.specs.Station as Definition
 use Rattle.station.specs.Calls.{Call, load, publish, open-capsule, read-word, drop-key, conditionsOf, step}

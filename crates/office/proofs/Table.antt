@@ -14,7 +14,6 @@ use Rattle.key.proofs.Filled.{kept-keep}
 use Rattle.station.specs.Station.{empty, loaded, published, Result}
 use Rattle.station.specs.Station as Definition
 use Rattle.station.specs.Calls.{step}
-use Rattle.station.specs.Calls as Calls
 use Rattle.station.proofs.Table.{Asked, after, on, frees, lock-shape, locks, times, Outcome, free, outcomeOf, rows, running, orders, bad}
 use Rattle.station.proofs.Table as Definitions
 use Rattle.office.specs.Replies.{stateOf, view, freshStation, handed, run}

@@ -74,8 +74,8 @@ impl Station {
     // The limit on t.
     pub const MOST_ERRORS: usize = 128;
 
-    // The limit on the register's list.
-    pub const LONGEST: usize = 256;
+    // The limit on the register's list, 256.
+    pub const LONGEST: usize = poly::Registered::LONGEST;
 
     // The empty station.
     pub fn fresh() -> Station
