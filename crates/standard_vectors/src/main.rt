@@ -1,0 +1,154 @@
+// Runs the published vector 0 of mceliece348864 through the station's calls and lock: the key is loaded, T is
+// compared with the public key byte for byte, the capsule opened and read, the pattern locked, a changed capsule refused.
+ghost use Rattle.io.specs.Counts.{Counts};
+use libc::STDOUT_FILENO;
+use locking::Locked;
+use office::Reply;
+use office::Station;
+
+// The bytes of a public key, of the workspace, and of every other file at most.
+const PUBLIC: usize = 261120;
+
+const WORK: usize = 334848;
+
+const FILE: usize = 20000;
+
+// A file's bytes from the start of out, and their number.
+fn read_file(name: &[u8], out: &mut [u8]) -> usize
+    ensures { λ n. ⌜ Counts n (now (out .exit)) ⌝ }
+{
+    let fd = os::open_read(name);
+    if fd < 0 {
+        os::fail(name);
+        return 0;
+    }
+    let n = io::read_full(fd, out);
+    libc::close(fd);
+    n
+}
+
+// The first n bytes are the same.
+fn same(a: &[u8], b: &[u8], n: usize) -> bool {
+    if a.len() < n {
+        return false;
+    }
+    if b.len() < n {
+        return false;
+    }
+    let mut i = 0;
+    while i < n {
+        if a[i] != b[i] {
+            return false;
+        }
+        i += 1;
+    }
+    true
+}
+
+fn print(what: &[u8], right: bool) {
+    io::write_all(STDOUT_FILENO, what);
+    if right {
+        io::write_all(STDOUT_FILENO, b": right\n");
+    } else {
+        io::write_all(STDOUT_FILENO, b": wrong\n");
+    }
+}
+
+// Publish writes the public key.
+fn publishes(s: Station, name: &[u8]) -> Reply {
+    let mut public = [0u8; PUBLIC];
+    let n = read_file(name, &mut public);
+    let mut out = [0u8; PUBLIC];
+    let mut work = [0u8; WORK];
+    let r = s.publish(&mut out, &mut work);
+    print(
+        b"public key",
+        r.refused == 0 && 0 < n && same(&out, &public, n),
+    );
+    r
+}
+
+// Lock makes the capsule of the pattern under the public key.
+fn locks(m: u8, n: u16, t: u16, name: &[u8], pattern: &[u8], capsule: &[u8]) {
+    let mut public = [0u8; PUBLIC];
+    let k = read_file(name, &mut public);
+    let mut out = [0u8; 256];
+    match locking::lock(m, n, t, &public[..k], pattern, &mut out) {
+        Locked::Done => print(b"locked", same(&out, capsule, capsule.len())),
+        Locked::Refused(_) => print(b"locked", false),
+    }
+}
+
+// Open gives the pattern with t ones.
+fn opens(s: Station, t: u16, capsule: &[u8], pattern: &[u8]) {
+    let mut out = [0u8; 1024];
+    let r = s.open(capsule, &mut out);
+    print(
+        b"opened",
+        r.refused == 0 && r.ones == t && same(&out, pattern, pattern.len()),
+    );
+}
+
+// So does read, of the capsule filled up with zeros.
+fn reads(s: Station, t: u16, word: &[u8], pattern: &[u8]) {
+    let mut out = [0u8; 1024];
+    let r = s.read(word, &mut out);
+    print(
+        b"read",
+        r.refused == 0 && r.ones == t && same(&out, pattern, pattern.len()),
+    );
+}
+
+// A capsule with one bit changed is refused with 13.
+fn refuses(s: Station, name: &[u8]) {
+    let mut capsule = [0u8; FILE];
+    let n = read_file(name, &mut capsule);
+    let mut out = [0u8; 1024];
+    let r = s.open(&capsule[..n], &mut out);
+    print(b"refused with 13", r.refused == 13);
+}
+
+// The calls of one shape.
+fn shape(
+    key: &[u8],
+    public: &[u8],
+    capsule: &[u8],
+    pattern: &[u8],
+    reject: &[u8],
+    m: u8,
+    n: u16,
+    t: u16,
+) {
+    let mut file = [0u8; FILE];
+    let k = read_file(key, &mut file);
+    let fresh = Station::fresh();
+    let loaded = fresh.load(&file[..k]);
+    print(b"key", loaded.refused == 0);
+    let a = loaded.station;
+    let r = publishes(a, public);
+    let s = r.station;
+    let mut c = [0u8; FILE];
+    let cn = read_file(capsule, &mut c);
+    let mut p = [0u8; FILE];
+    let pn = read_file(pattern, &mut p);
+    opens(s, t, &c[..cn], &p[..pn]);
+    let mut word = [0u8; 436];
+    read_file(capsule, &mut word);
+    reads(s, t, &word, &p[..pn]);
+    locks(m, n, t, public, &p[..pn], &c[..cn]);
+    refuses(s, reject);
+}
+
+fn main() {
+    io::write_all(STDOUT_FILENO, b"mceliece348864\n");
+    shape(
+        b"mceliece348864.key",
+        b"mceliece348864.public",
+        b"mceliece348864.capsule",
+        b"mceliece348864.pattern",
+        b"mceliece348864.capsule_reject",
+        12,
+        3488,
+        64,
+    );
+}
