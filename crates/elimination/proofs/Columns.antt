@@ -14,6 +14,7 @@ use Rattle.poly.specs.Polynomials.{same}
 use Rattle.poly.proofs.Laws.{same-eq, eq-same}
 use Rattle.code.specs.PublicKey.{Matrix, Pivot, missing, pivot, findPivot, Echelon, withPivot, columns, echelon}
 use Rattle.code.specs.Lock.{rowsOf}
+use Rattle.code.proofs.Identity.{columns-none}
 use Rattle.elimination.specs.Elimination.{stage}
 
 -- one column more
@@ -23,13 +24,6 @@ columns-next i n e h =
     let k : n - i ≡ suc (n - (i + 1)) = omega arith in
     ap (λ (l : ℕ). columns l i e) k
     ∙ ap (λ (j : ℕ). columns (n - (i + 1)) j (withPivot i e (findPivot i (e .rest)))) (sym (add-one i))
-
--- no row is left without a pivot
-columns-none : (k j : ℕ) (e : Echelon) → e .rest ≡ [] → columns k j e ≡ e
-unfolding columns findPivot withPivot
-columns-none zero j e h = refl
-columns-none (suc k) j e h =
-    ap (λ (r : Matrix). columns k (suc j) (withPivot j e (findPivot j r))) h ∙ columns-none k (suc j) e h
 
 -- the pivots there are stay in their places, and those that columns from j on add are j or more
 with-length : (j : ℕ) (e : Echelon) (q : Pivot) → length (e .pivots) ≤ length (withPivot j e q .pivots)

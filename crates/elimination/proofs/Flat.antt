@@ -3,43 +3,27 @@ use mathlib.Core.Path.{_≡_, refl, sym, ap, ap₂, _∙_}
 use mathlib.Core.List.{List, [], _∷_, _++_, map, map-append, append-nil, append-assoc}
 use borrow.Rule.Slice.PartMut.{putMid}
 use Prim.Native.Nat.{ℕ, zero, suc, _+_, _-_, _*_, _/_, _%_, _^_, _≤_, _<_}
-use native.Mathlib.Nat.{zero-add, zero-mul, one-mul, suc-mul, add-mul, add-suc, add-comm, le-trans, le-of-eq, mul-le-mul-right}
+use native.Mathlib.Nat.{zero-add, zero-mul, one-mul, suc-mul, add-mul, add-suc, add-comm, le-trans}
 use native.Mathlib.Numerals.{add-one}
 use native.Mathlib.Omega.{arith}
 use lib.ListN.{length, getD, take, drop, set, length-map, length-drop, length-append, List·getD-append, take-append-drop, drop-of-length-le}
-use lib.Seq.{getD-take, drop-drop, drop-append-le, drop-at, take-at, take-all, drop-cons, set-at, set-split, take-set-le, length-take-le, append-snoc, take-suc}
+use lib.Seq.{drop-drop, drop-append-le, drop-at, take-at, drop-cons, set-at, set-split, take-set-le, length-take-le, append-snoc, take-suc}
 use Rattle.bits.specs.Bits.{from, bytesFor, bitAt, unpack}
 use Rattle.bits.proofs.Lists.{length-from, from-add}
-use Rattle.bits.proofs.Pack.{unpack-ext, byte-below}
+use Rattle.bits.proofs.Pack.{unpack-ext, unpack-take, byte-below}
+use Rattle.bits.proofs.Parts.{rows-in, part-all}
 use Rattle.code.specs.PublicKey.{Matrix}
 use Rattle.code.specs.Lock.{rowOf, rowsOf}
 use Rattle.elimination.specs.Elimination.{movedUp, toFront}
 
--- indices of rows of b bytes: row r of more rows lies within them
-pub rows-in : (r rows b : ℕ) → r < rows → r * b + b ≤ rows * b
-rows-in r rows b h = le-trans (le-of-eq (sym (suc-mul r b))) (mul-le-mul-right b h)
-
+-- row r of more rows of b bytes, and where the rows from row i on begin
 pub row-room : (r rows n b len : ℕ) → b ≡ bytesFor n → r < rows → rows * bytesFor n ≤ len → r * b + b ≤ len
 row-room r rows n b len e h l = rw e (le-trans (rows-in r rows (bytesFor n) h) l)
-
-pub next-row : (r b : ℕ) → r * b + b ≡ (r + 1) * b
-next-row r b = sym (ap (λ (x : ℕ). x * b) (add-one r) ∙ suc-mul r b)
 
 pub rows-split : (i rows b : ℕ) → i ≤ rows → i * b + (rows - i) * b ≡ rows * b
 rows-split i rows b h = let e : i + (rows - i) ≡ rows = omega arith in sym (add-mul i (rows - i) b) ∙ ap (λ (k : ℕ). k * b) e
 
--- a row of at most 8192 bits
-pub row-size : (n : ℕ) → n ≤ 8192 → bytesFor n ≤ 1024
-unfolding bytesFor
-row-size n h = omega arith
-
 -- n bits are in the first bytesFor n bytes
-pub unpack-take : (n m : ℕ) (s : List ℕ) → bytesFor n ≤ m → unpack n (take m s) ≡ unpack n s
-unfolding bitAt
-unpack-take n m s h =
-    unpack-ext n (take m s) s
-    (λ i l. let e : i / 8 < m = omega (arith, byte-below n i l) in ap (λ (x : ℕ). x / 2 ^ (i % 8) % 2) (getD-take m s (i / 8) 0 e))
-
 pub unpack-append : (n : ℕ) (s u : List ℕ) → bytesFor n ≤ length s → unpack n (s ++ u) ≡ unpack n s
 unfolding bitAt
 unpack-append n s u h =
@@ -106,9 +90,6 @@ rows-front k n at w y h l =
     rows-append k n (take at w) y e ∙ sym (rows-append k n (take at w) (drop at w) e) ∙ ap (rowsOf k n) (take-append-drop at w)
 
 -- a part that goes to the end is lent, and comes back as y
-pub part-all : (at : ℕ) (l : List ℕ) → take (length l - at) (drop at l) ≡ drop at l
-part-all at l = take-all (length l - at) (drop at l) (omega (arith, length-drop at l))
-
 pub part-back : (at : ℕ) (l y : List ℕ) → putMid at (length l - at) l y ≡ take at l ++ y
 part-back at l y =
     ap (λ (t : List ℕ). take at l ++ (y ++ t)) (drop-of-length-le (drop at l) {i = length l - at} (omega (arith, length-drop at l)))

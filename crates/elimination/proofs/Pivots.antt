@@ -9,11 +9,12 @@ use lib.ListN.{length, getD, take, drop, length-drop}
 use lib.Seq.{length-take-le, drop-at, drop-drop}
 use borrow.Author.Tests.{eq-eqb, ne-eqb}
 use Rattle.bits.specs.Bits.{bytesFor, bitAt, unpack}
-use Rattle.bits.proofs.Pack.{unpack-at}
+use Rattle.bits.proofs.Pack.{unpack-at, unpack-take}
+use Rattle.bits.proofs.Parts.{rows-in}
 use Rattle.code.specs.PublicKey.{Matrix, Pivot, missing, pivot, withRow, findPivot}
 use Rattle.code.specs.Lock.{rowsOf}
 use Rattle.elimination.specs.Elimination.{pivotRow, toFront, firstRow}
-use Rattle.elimination.proofs.Flat.{rows-in, length-rows, rows-add, rows-cons, rows-front, unpack-take, unpack-append}
+use Rattle.elimination.proofs.Flat.{length-rows, rows-add, rows-cons, rows-front, unpack-append}
 
 -- the row with number p taken out of the rows
 unfoldable takenOut : ℕ → Matrix → Pivot

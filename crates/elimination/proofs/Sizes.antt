@@ -9,10 +9,10 @@ use lib.ListN.{length}
 use borrow.Author.Tests.{le-leb, lt-leb}
 use Rattle.bits.specs.Bits.{from, bytesFor}
 use Rattle.poly.specs.Polynomials.{same}
+use Rattle.bits.proofs.Parts.{row-size}
 use Rattle.code.specs.PublicKey.{echelon}
 use Rattle.code.specs.Lock.{rowsOf}
 use Rattle.elimination.specs.Elimination.{fits, eliminates}
-use Rattle.elimination.proofs.Flat.{row-size}
 
 pub sizes-le : (rows n b : ℕ) → rows ≤ 8192 → n ≤ 8192 → b ≡ bytesFor n → rows * b ≤ 8192 * 1024
 sizes-le rows n b h l e = rw e (le-trans (mul-le-mul-right (bytesFor n) h) (mul-le-mul-left 8192 (row-size n l)))

@@ -3,25 +3,24 @@ use mathlib.Core.Path.{_≡_, refl, sym, ap, ap₂, _∙_}
 use mathlib.Core.Bool.{true, false}
 use mathlib.Core.List.{List, [], _∷_, _++_, map}
 use Prim.Native.Nat.{ℕ, _+_, _-_, _*_, _≤_, _<_}
+use native.Mathlib.Numerals.{add-one}
 use native.Mathlib.Omega.{arith}
 use lib.ListN.{length, take, drop, take-append-drop}
 use lib.Seq.{length-take-le, drop-at, drop-drop}
 use borrow.Rule.Slice.PartMut.{putMid}
 use Rattle.bits.specs.Bits.{from, bytesFor, unpack}
-use Rattle.bits.proofs.Lists.{from-add}
+use Rattle.bits.proofs.Parts.{rows-in, next-row, part-all}
+use Rattle.bits.proofs.Pack.{unpack-take}
 use Rattle.code.specs.PublicKey.{Matrix, findPivot, clear, Echelon, withPivot}
 use Rattle.code.specs.Lock.{rowOf, rowsOf}
+use Rattle.code.proofs.Identity.{from-end}
 use Rattle.elimination.specs.Elimination.{firstRow, stage, pivoted, stepped, next}
-use Rattle.elimination.proofs.Flat.{rows-in, next-row, rows-split, rows-snoc, rows-front, unpack-take, part-all, part-back}
+use Rattle.elimination.proofs.Flat.{rows-split, rows-snoc, rows-front, part-back}
 
 -- three equal parts
 echelon-eq : {x y : Matrix} {u v : Matrix} {p q : List ℕ} → x ≡ y → u ≡ v → p ≡ q
     → _≡_ {A = Echelon} (record { done = x; rest = u; pivots = p }) (record { done = y; rest = v; pivots = q })
 echelon-eq e f g = cc
-
-from-snoc : (i : ℕ) → from 0 (i + 1) ≡ from 0 i ++ (i ∷ [])
-unfolding from
-from-snoc i = from-add 0 i 1 ∙ ap (λ (k : ℕ). from 0 i ++ (k ∷ [])) (omega arith)
 
 -- a part that starts at row i is lent and comes back as y, with what lies past the rows as it was
 past-rows : (i rows b : ℕ) (w y : List ℕ) → i ≤ rows → rows * b ≤ length w
@@ -64,7 +63,7 @@ module _ (i rows n : ℕ) (t w w₁ z : List ℕ) (within : rows * bytesFor n �
       ∙ ap₂ (λ (xs : Matrix) (x : List ℕ). xs ++ (x ∷ [])) (before ∙ ap (λ (p : List ℕ). map (clear i p) (rowsOf i n w)) pivot-bits) (ap (unpack n) kept))
       (ap (rowsOf (rows - (i + 1)) n) (drop-at (take at w₁) z at (length-take-le at w₁ room))
       ∙ behind ∙ ap₂ (λ (p : List ℕ) (xs : Matrix). map (clear i p) xs) pivot-bits others)
-      (from-snoc i)
+      (ap (from 0) (add-one i) ∙ sym (from-end i))
 
   pub around-past : drop (rows * bytesFor n) (take ((i + 1) * bytesFor n) w₁ ++ z) ≡ drop (rows * bytesFor n) w
   around-past =

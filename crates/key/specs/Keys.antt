@@ -19,6 +19,10 @@ pub record Key : Type 0 where
   pub support : List ℕ
   pub g : List ℕ
 
+-- the key with this support and these coefficients
+unfoldable pub keyOf : ℕ → List ℕ → List ℕ → Key
+keyOf m support g = record { m = m; n = length support; t = length g; support = support; g = g }
+
 -- The key file: one byte m; n in two bytes, low byte first, then n elements of two bytes; t likewise, then t elements.
 
 -- two bytes at i, the low one first

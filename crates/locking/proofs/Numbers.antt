@@ -1,7 +1,7 @@
 -- Lock's numbers, in the order of their conditions. Assumes nothing.
 use mathlib.Core.Path.{_≡_, refl, sym, ap, _∙_}
 use mathlib.Core.Bool.{Bool, true, false, not, cond, _&&_}
-use mathlib.Core.List.{List, [], _∷_}
+use mathlib.Core.List.{List}
 use Prim.Native.Nat.{ℕ, zero, suc, _-_, _*_, _≤_, _<_}
 use lib.Dec.{eqb, ltb}
 use lib.ListN.{length}
@@ -17,7 +17,6 @@ use Rattle.key.proofs.Conditions.{limits-fit}
 use Rattle.code.specs.Lock.{rowOf, lockNumber}
 use Rattle.code.specs.Lock as Lock
 use Rattle.locking.specs.Locking.{lockedOf, lockOutput}
-use Rattle.locking.specs.declared.Locked.{Locked}
 use Rattle.locking.specs.declared.Locked.the-variants.{Done, Refused}
 
 -- the bytes of the public key

@@ -11,9 +11,10 @@ use Rattle.bits.proofs.Xor.{low}
 use Rattle.bits.proofs.Lists.{from-add}
 use Rattle.bits.proofs.Pack.{row-cons, bytes-enough}
 use Rattle.bits.proofs.PutBits.{unpack-putBits}
+use Rattle.bits.proofs.Parts.{rows-in, next-row}
 use Rattle.code.specs.PublicKey.{Matrix}
 use Rattle.code.specs.Lock.{rowsOf}
-use Rattle.elimination.proofs.Flat.{rows-in, next-row, rows-add, rows-front}
+use Rattle.elimination.proofs.Flat.{rows-add, rows-front}
 use Rattle.publishing.specs.Rows.{digitRow, digitRows}
 
 pub length-digitRow : (p : List ℕ) (k : ℕ) → length (digitRow p k) ≡ length p

@@ -18,12 +18,12 @@ use Rattle.field.proofs.Laws as field
 use Rattle.field.proofs.Places.{hornerEach-width}
 use Rattle.poly.specs.Polynomials.{monic, valuesAt}
 use Rattle.poly.proofs.AtPoints.{values-width}
-use Rattle.key.specs.Keys.{Key, goppaAt}
+use Rattle.key.specs.Keys.{Key, goppaAt, keyOf}
 use Rattle.code.specs.Code.{entry, parityRow, parityRows}
 use Rattle.code.specs.PublicKey.{Matrix}
 use Rattle.code.specs.Lock.{rowsOf}
 use Rattle.code.proofs.Parity.{row-power, row-digit}
-use Rattle.publishing.specs.Rows.{digitRow, digitRows, keyOf}
+use Rattle.publishing.specs.Rows.{digitRow, digitRows}
 
 -- a function of the places' numbers, over a list that is as long or longer
 each-start : (f h e : ℕ → ℕ) → ((a : ℕ) → f (h a) ≡ e a) → (n : ℕ) (s : List ℕ) → length s ≤ n

@@ -12,13 +12,13 @@ use Rattle.poly.specs.Polynomials.{same}
 use Rattle.key.specs.Keys as Keys
 use Rattle.key.specs.Kept.{kept}
 use Rattle.key.specs.declared.kept.Key.{Key}
+use Rattle.key.specs.Keys.{keyOf}
 use Rattle.code.specs.Code.{parityRows}
 use Rattle.code.specs.PublicKey.{Matrix, echelon, publicKey, dependent, written}
 use Rattle.code.specs.Lock.{rowsOf}
 use Rattle.code.proofs.PublicKey.{public-none, public-some}
 use Rattle.elimination.specs.Elimination.{eliminates}
 use Rattle.elimination.proofs.Sizes.{sizes-fit, eliminated}
-use Rattle.publishing.specs.Rows.{keyOf}
 use Rattle.publishing.proofs.Checks.{Sizes}
 
 -- the key of a kept one, by its parts

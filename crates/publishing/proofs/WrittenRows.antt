@@ -10,9 +10,10 @@ use lib.Seq.{getD-drop, take-at, drop-at, drop-drop}
 use Rattle.bits.specs.Bits.{from, bytesFor, bitAt, unpack, pack, over}
 use Rattle.bits.proofs.Lists.{map-from, length-map-from}
 use Rattle.bits.proofs.Pack.{length-unpack, unpack-add, length-pack}
+use Rattle.bits.proofs.Parts.{rows-in, next-row}
 use Rattle.code.specs.PublicKey.{Matrix}
 use Rattle.code.specs.Lock.{rowsOf}
-use Rattle.elimination.proofs.Flat.{rows-in, next-row, rows-snoc}
+use Rattle.elimination.proofs.Flat.{rows-snoc}
 
 -- bytes written behind those that were written from the start
 over-next : (at : ℕ) (a b out : List ℕ) → length a ≡ at

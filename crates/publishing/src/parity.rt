@@ -5,9 +5,10 @@ ghost use Prim.Native.Nat.{_*_, _≤_, _<_};
 ghost use lib.ListN.{length, take};
 ghost use Rattle.bits.specs.Bits.{bytesFor, putBits};
 ghost use Rattle.field.specs.Field.{isWidth};
+ghost use Rattle.key.specs.Keys.{keyOf};
 ghost use Rattle.code.specs.Code.{parityRows};
 ghost use Rattle.code.specs.Lock.{rowsOf};
-ghost use Rattle.publishing.specs.Rows.{digitRow, digitRows, keyOf};
+ghost use Rattle.publishing.specs.Rows.{digitRow, digitRows};
 
 // Digit k of the first n numbers of p, bit after bit from the start of row.
 fn digit_row(row: &mut [u8], p: &[u16], n: usize, k: u8)

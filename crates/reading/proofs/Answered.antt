@@ -5,8 +5,8 @@ use mathlib.Core.List.{List, _∷_, _++_, map}
 use mathlib.Core.Option.{Option, none, some}
 use Prim.Native.Nat.{ℕ, zero, suc, _+_, _-_, _*_, _≤_}
 use native.Mathlib.Omega.{arith}
-use lib.ListN.{length, take, replicate}
 use borrow.Author.Tests.{eq-eqb, ne-eqb}
+use lib.ListN.{length, take, replicate}
 use Rattle.bits.specs.Bits.{Row, from, bytesFor, bitAt, unpack, pack, ones, weight, wellFormed, over}
 use Rattle.bits.proofs.Lists.{map-from}
 use Rattle.bits.proofs.Pack.{length-unpack, unpack-add, well-formed-past}

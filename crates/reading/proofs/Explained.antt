@@ -13,7 +13,7 @@ use Rattle.field.proofs.Table.{Width, width-narrow}
 use Rattle.poly.specs.Polynomials.{same}
 use Rattle.poly.specs.Register.{register, registerNumber}
 use Rattle.poly.proofs.Laws.{same-eq, eq-same}
-use Rattle.key.specs.Keys.{keyNumber}
+use Rattle.key.specs.Keys.{keyNumber, keyOf}
 use Rattle.key.specs.Keys as Keys
 use Rattle.key.specs.Kept.{kept, padded}
 use Rattle.key.specs.declared.kept.Key.{Key}
@@ -22,11 +22,11 @@ use Rattle.decoder.specs.Reading.{reading}
 use Rattle.decoder.specs.Decoding.{squareSums, places, located, explained}
 use Rattle.decoder.proofs.Sums.{length-squareSums, squareSums-number}
 use Rattle.decoder.proofs.Decoding.{row-located, explained-some, explained-none, reading-explained}
-use Rattle.reading.specs.Parts.{keyOf, packed}
+use Rattle.reading.specs.Parts.{packed}
 use Rattle.reading.specs.Answers.{foundOf}
 use Rattle.reading.specs.declared.decoding.Found.{Found}
 use Rattle.reading.proofs.Written.{take-padded}
-use Rattle.reading.proofs.Packed.{length-packed, unpack-packed, weight-packed}
+use Rattle.reading.proofs.Packed.{unpack-packed, weight-packed}
 
 -- no pattern
 abbrev nothing : Found
@@ -73,9 +73,6 @@ module _ (m : ℕ) (support g : List ℕ) (z : keyNumber (keyOf m support g) ≡
       pub pattern-located : pattern ≡ packed (located (keyOf m support g) (unpack (length support) word))
       unfolding keyOf located places
       pattern-located = ep ∙ ap (λ (l : List ℕ). packed (places (keyOf m support g) (register m l))) sums-whole
-
-      pub pattern-length : length pattern ≡ 1024
-      pattern-length = ap length pattern-located ∙ length-packed row (sized .support-few)
 
       pub pattern-weight : weight (length support) pattern ≡ ones (located (keyOf m support g) (unpack (length support) word))
       pattern-weight = ap (weight (length support)) pattern-located ∙ weight-packed row

@@ -15,8 +15,9 @@ use Rattle.poly.specs.declared.register.Registered.{Registered}
 use Rattle.poly.proofs.Answers.{accepted}
 use Rattle.poly.proofs.RegisterLaws.{register-length}
 use Rattle.key.specs.Kept.{padded}
+use Rattle.key.specs.Keys.{keyOf}
 use Rattle.decoder.specs.Decoding.{reversed, places}
-use Rattle.reading.specs.Parts.{keyOf, backward, mark, packed}
+use Rattle.reading.specs.Parts.{backward, mark, packed}
 use Rattle.reading.proofs.Written.{take-padded}
 use Rattle.reading.proofs.PowerSums.{take-values}
 

@@ -14,17 +14,14 @@ use Rattle.bits.proofs.Lists.{take-below}
 use Rattle.bits.proofs.Pack.{row-of, row-lt, row-length, length-pack, bytes-pack, bit-pack, unpack-ext, unpack-pack}
 use Rattle.key.specs.Kept.{padded}
 use Rattle.decoder.proofs.Decoding.{row-marks as marks-row}
+use Rattle.bits.proofs.Parts.{row-size}
 use Rattle.reading.specs.Parts.{mark, packed}
 use Rattle.reading.proofs.Written.{padded-at, length-padded, take-padded}
-
-pub bytes-short : (n : ℕ) → n ≤ 8192 → bytesFor n ≤ 1024
-unfolding bytesFor
-bytes-short n h = omega arith
 
 module _ {n : ℕ} {e : List ℕ} (r : Row n e) where
   pub length-packed : n ≤ 8192 → length (packed e) ≡ 1024
   unfolding packed
-  length-packed h = length-padded 1024 (pack e) (rw (length-pack e, row-length r) (bytes-short n h))
+  length-packed h = length-padded 1024 (pack e) (rw (length-pack e, row-length r) (row-size n h))
 
   pub take-packed : take (bytesFor n) (packed e) ≡ pack e
   unfolding packed

@@ -20,10 +20,10 @@ use Rattle.field.proofs.Places.{hornerEach-width}
 use Rattle.field.proofs.Reciprocals.{each-map, square-each}
 use Rattle.poly.specs.Polynomials.{sum, monic, valuesAt}
 use Rattle.poly.proofs.AtPoints.{values-width}
-use Rattle.key.specs.Keys.{goppaAt}
+use Rattle.key.specs.Keys.{goppaAt, keyOf}
 use Rattle.decoder.specs.Decoding.{chosen, squareEntry, squareSums}
 use Rattle.decoder.proofs.Words.{dot-chosen}
-use Rattle.reading.specs.Parts.{keyOf, pointSums}
+use Rattle.reading.specs.Parts.{pointSums}
 
 take-map : (f : ℕ → ℕ) (n : ℕ) (l : List ℕ) → take n (map f l) ≡ map f (take n l)
 take-map f zero l = refl

@@ -1,18 +1,14 @@
 -- The terms of the decoder's parts, on lists as the code holds them. Assumes nothing.
-use Prim.Native.Nat.{ℕ, _-_, _*_}
 use mathlib.Core.Bool.{cond}
 use mathlib.Core.List.{List, map}
+use Prim.Native.Nat.{ℕ, _-_, _*_}
 use lib.Dec.{eqb}
 use lib.ListN.{length, getD}
 use Rattle.bits.specs.Bits.{from, pack}
 use Rattle.poly.specs.Polynomials.{sum}
-use Rattle.key.specs.Keys.{Key}
+use Rattle.key.specs.Keys.{keyOf}
 use Rattle.key.specs.Kept.{padded}
 use Rattle.decoder.specs.Decoding.{squareEntry}
-
--- the key with these numbers
-unfoldable pub keyOf : ℕ → List ℕ → List ℕ → Key
-keyOf m support g = record { m = m; n = length support; t = length g; support = support; g = g }
 
 -- the 2t sums of a^s / g(a)² over a list of points
 unfoldable pub pointSums : ℕ → List ℕ → List ℕ → List ℕ

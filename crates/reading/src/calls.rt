@@ -123,12 +123,12 @@ pub fn open(key: Key, published: bool, capsule: &[u8], out: &mut [u8]) -> Answer
     }
     let e = decode(key, capsule);
     let answer = counted(e, key.n);
-    let Answer::Ones(w) = answer else {
+    let Answer::Ones(ones) = answer else {
         return Answer::Refused(13);
     };
-    if w != key.t {
+    if ones != key.t {
         return Answer::Refused(13);
     }
     give(out, e, key.n as usize);
-    Answer::Ones(w)
+    Answer::Ones(ones)
 }

@@ -7,11 +7,10 @@ ghost use mathlib.Core.Path.{_≡_};
 ghost use Prim.Native.Nat.{_≤_};
 ghost use lib.ListN.{length, take};
 ghost use Rattle.bits.specs.Bits.{unpack};
-ghost use Rattle.key.specs.Keys.{keyNumber};
+ghost use Rattle.key.specs.Keys.{keyNumber, keyOf};
 ghost use Rattle.key.specs.Kept.{kept};
 ghost use Rattle.decoder.specs.Reading.{reading};
 ghost use Rattle.decoder.specs.Decoding.{explained};
-ghost use Rattle.reading.specs.Parts.{keyOf};
 ghost use Rattle.reading.specs.Answers.{foundOf};
 
 // A packed pattern of n bits with zeros behind it; zeros only where none is found.

@@ -6,8 +6,9 @@ ghost use Prim.Native.Nat.{_≤_};
 ghost use lib.ListN.{length};
 ghost use Rattle.poly.specs.Register.{register, registerNumber};
 ghost use Rattle.key.specs.Kept.{padded};
+ghost use Rattle.key.specs.Keys.{keyOf};
 ghost use Rattle.decoder.specs.Decoding.{places};
-ghost use Rattle.reading.specs.Parts.{keyOf, backward as backwardOf, mark as markOf, packed};
+ghost use Rattle.reading.specs.Parts.{backward as backwardOf, mark as markOf, packed};
 
 // The coefficients c_l, .., c_1, with zeros behind them.
 fn backward(c: [u16; 257], l: usize) -> [u16; 256]
@@ -17,7 +18,8 @@ fn backward(c: [u16; 257], l: usize) -> [u16; 256]
     let mut q = [0u16; 256];
     let mut i = 0;
     while i < l {
-        q[i] = c[l - i];
+        let j = l - i;
+        q[i] = c[j];
         i += 1;
     }
     q

@@ -9,8 +9,9 @@ ghost use Rattle.bits.specs.Bits.{unpack};
 ghost use Rattle.field.specs.Field.{isWidth};
 ghost use Rattle.poly.specs.Polynomials.{sum, same as sameAs};
 ghost use Rattle.key.specs.Kept.{padded};
+ghost use Rattle.key.specs.Keys.{keyOf};
 ghost use Rattle.decoder.specs.Decoding.{squareEntry, squareSums};
-ghost use Rattle.reading.specs.Parts.{keyOf, pointSums};
+ghost use Rattle.reading.specs.Parts.{pointSums};
 
 // 1 / g(a)² at each point a, by one inverse at all points.
 fn weights(m: u8, g: &[u16], points: &[u16]) -> [u16; 8192]

@@ -6,7 +6,8 @@ use borrow.Author.Needs.{needs}
 use lib.ListN.{length, take, drop, replicate, length-drop}
 use lib.Seq.{length-take-le}
 use Rattle.bits.specs.Bits.{bytesFor}
-use Rattle.elimination.proofs.Flat.{row-room, row-size, row-copied, part-all}
+use Rattle.bits.proofs.Parts.{row-size, part-all}
+use Rattle.elimination.proofs.Flat.{row-room, row-copied}
 use Rattle.elimination.proofs.clear_others.Statement.{statement}
 use Rattle.elimination.proofs.clear_others.Tie as tie
 

@@ -8,8 +8,9 @@ use borrow.Author.Needs.{needs}
 use borrow.Author.Tests.{not-true, not-false}
 use lib.ListN.{length, take, drop, length-drop}
 use Rattle.bits.specs.Bits.{bytesFor}
+use Rattle.bits.proofs.Parts.{part-all}
 use Rattle.elimination.specs.Elimination.{firstRow}
-use Rattle.elimination.proofs.Flat.{row-room, rows-split, part-all}
+use Rattle.elimination.proofs.Flat.{row-room, rows-split}
 use Rattle.elimination.proofs.Stages.{lift-past, lift-missing, lift-pivot}
 use Rattle.elimination.proofs.column.Statement.{statement}
 use Rattle.elimination.proofs.column.Tie as tie

@@ -8,9 +8,9 @@ use borrow.Author.Needs.{needs}
 use lib.ListN.{length, drop}
 use lib.Seq.{drop-drop}
 use Rattle.bits.specs.Bits.{from, bytesFor, bitAt}
+use Rattle.bits.proofs.Parts.{rows-in, next-row, part-all}
 use Rattle.code.specs.Lock.{rowsOf}
 use Rattle.elimination.specs.Elimination.{pivotRow}
-use Rattle.elimination.proofs.Flat.{rows-in, next-row, part-all}
 use Rattle.elimination.proofs.Pivots.{pivot-here, pivot-later}
 use Rattle.elimination.proofs.find_pivot.Statement.{statement}
 use Rattle.elimination.proofs.find_pivot.Tie as tie

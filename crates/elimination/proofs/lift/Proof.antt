@@ -6,8 +6,9 @@ use native.Mathlib.Omega.{arith}
 use borrow.Author.Needs.{needs}
 use lib.ListN.{length, drop}
 use Rattle.bits.specs.Bits.{bytesFor}
+use Rattle.bits.proofs.Parts.{rows-in, row-size}
 use Rattle.elimination.specs.Elimination.{toFront, firstRow}
-use Rattle.elimination.proofs.Flat.{rows-in, row-room, row-size, front-rest}
+use Rattle.elimination.proofs.Flat.{row-room, front-rest}
 use Rattle.elimination.proofs.Pivots.{pivot-le, lift-none, lift-some}
 use Rattle.elimination.proofs.lift.Statement.{statement}
 use Rattle.elimination.proofs.lift.Tie as tie

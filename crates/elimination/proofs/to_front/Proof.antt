@@ -4,7 +4,8 @@ use mathlib.Core.List.{List, _++_}
 use Prim.Native.Nat.{ℕ}
 use borrow.Author.Needs.{needs}
 use lib.ListN.{take, drop, replicate}
-use Rattle.elimination.proofs.Flat.{part-all, front-put}
+use Rattle.bits.proofs.Parts.{part-all}
+use Rattle.elimination.proofs.Flat.{front-put}
 use Rattle.elimination.proofs.to_front.Statement.{statement}
 use Rattle.elimination.proofs.to_front.Tie as tie
 

@@ -1,14 +1,14 @@
 -- The loop's invariant: the bits from r on are left to write. Assumes nothing.
 use mathlib.Core.Path.{_≡_, refl, sym, ap, ap₂, _∙_}
 use mathlib.Core.List.{List, map}
-use Prim.Native.Nat.{ℕ, _+_, _-_, _*_, _≤_, _<_}
+use Prim.Native.Nat.{ℕ, _+_, _-_, _*_, _≤_}
 use native.Mathlib.Nat.{zero-mul, zero-add}
 use native.Mathlib.Omega.{arith}
 use borrow.Author.Needs.{needs}
 use lib.ListN.{length, drop, replicate, length-replicate}
 use lib.Seq.{length-take-le}
 use Rattle.bits.specs.Xor.{_⊕_}
-use Rattle.bits.specs.Bits.{from, bytesFor, bitAt, setBit, putBits}
+use Rattle.bits.specs.Bits.{from, bytesFor, setBit, putBits}
 use Rattle.bits.proofs.Lists.{length-map-from, map-from-at}
 use Rattle.bits.proofs.PutBits.{put-next, put-end, put-fresh, length-putBits}
 use Rattle.bits.proofs.Parts.{rows-in, next-row, row-size}

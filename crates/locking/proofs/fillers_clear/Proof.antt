@@ -1,13 +1,12 @@
 -- The loop's invariant: the rows from r on decide. Assumes nothing.
-use mathlib.Core.Path.{_≡_, refl, sym, ap, _∙_}
-use mathlib.Core.Bool.{Bool, false}
-use Prim.Native.Nat.{ℕ, _+_, _-_, _*_, _≤_, _<_}
+use mathlib.Core.Path.{_≡_, refl, sym, _∙_}
+use Prim.Native.Nat.{_-_, _*_, _≤_}
 use native.Mathlib.Nat.{zero-mul}
 use native.Mathlib.Omega.{arith}
 use borrow.Author.Needs.{needs}
-use lib.ListN.{length, drop, getD}
+use lib.ListN.{length, drop}
 use Rattle.bits.specs.Bits.{from, every, bytesFor, fillerClear}
-use Rattle.bits.proofs.Lists.{every-next, every-stop, every-end, from-at, length-from}
+use Rattle.bits.proofs.Lists.{every-next, every-stop, every-end, length-from}
 use Rattle.bits.proofs.Parts.{rows-in, next-row}
 use Rattle.key.proofs.Order.{failed, passed}
 use Rattle.code.specs.Lock.{rowOf}

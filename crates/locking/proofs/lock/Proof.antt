@@ -1,17 +1,15 @@
 -- The refusal, or the capsule's bits written as a row. Assumes nothing.
-use mathlib.Core.Path.{_≡_, sym, ap, ap₂, _∙_}
+use mathlib.Core.Path.{_≡_, sym, ap, _∙_}
 use mathlib.Core.List.{List, map}
 use Prim.Native.Nat.{ℕ, _-_, _*_, _≤_}
 use native.Mathlib.Omega.{arith}
 use borrow.Author.Needs.{needs}
-use lib.ListN.{length, replicate}
-use Rattle.bits.specs.Bits.{from, bytesFor, bitAt, pack, over, rowWritten}
+use lib.ListN.{replicate}
+use Rattle.bits.specs.Bits.{from, bitAt, pack, over}
 use Rattle.bits.proofs.PutBits.{written-row}
-use Rattle.key.proofs.Shapes.{limits}
-use Rattle.key.proofs.Conditions.{limits-fit}
 use Rattle.code.specs.Lock.{lockNumber}
 use Rattle.locking.specs.Locking.{capsuleBit}
-use Rattle.locking.proofs.Numbers.{Fits, lock-fits, output-kept, output-written, refused, done}
+use Rattle.locking.proofs.Numbers.{lock-fits, output-kept, output-written, refused, done}
 use Rattle.locking.proofs.Rows.{row-capsule, lock-bits, read-back}
 use Rattle.locking.proofs.lock.Statement.{statement}
 use Rattle.locking.proofs.lock.Tie as tie

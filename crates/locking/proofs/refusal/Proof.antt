@@ -3,11 +3,8 @@ use mathlib.Core.Path.{_≡_, ap}
 use Prim.Native.Nat.{ℕ, _-_, _*_, _≤_}
 use native.Mathlib.Nat.{mul-le-mul}
 use native.Mathlib.Omega.{arith}
-use borrow.Author.Needs.{needs}
-use lib.ListN.{length}
-use Rattle.bits.specs.Bits.{bytesFor}
 use Rattle.bits.proofs.Parts.{row-size}
-use Rattle.field.proofs.Table.{modulus-none, modulus-some, width-narrow}
+use Rattle.field.proofs.Table.{modulus-none, modulus-some}
 use Rattle.key.proofs.Order.{failed, passed}
 use Rattle.key.proofs.Shapes.{limits}
 use Rattle.key.proofs.Conditions.{limits-fit}

@@ -1,11 +1,9 @@
 -- There is room for a row of w bits. Assumes nothing.
-use mathlib.Core.Path.{_≡_, ap, _∙_}
-use mathlib.Core.List.{List}
-use Prim.Native.Nat.{ℕ, _≤_}
+use mathlib.Core.Path.{_∙_}
+use Prim.Native.Nat.{ℕ}
 use native.Mathlib.Omega.{arith}
 use borrow.Author.Needs.{needs}
-use lib.ListN.{length, replicate, length-replicate}
-use Rattle.bits.specs.Bits.{bytesFor}
+use lib.ListN.{replicate, length-replicate}
 use Rattle.bits.proofs.Parts.{row-size}
 use Rattle.bits.proofs.PutBits.{written-row}
 use Rattle.locking.proofs.tail_of.Statement.{statement}

@@ -7,9 +7,10 @@ use native.Mathlib.Omega.{arith}
 use borrow.Rule.Slice.PartMut.{same-len-mid}
 use lib.ListN.{length, take, drop, length-drop}
 use Rattle.bits.specs.Bits.{bytesFor, putBits, unpack}
+use Rattle.bits.proofs.Parts.{rows-in, next-row, part-all}
 use Rattle.code.specs.PublicKey.{Matrix}
 use Rattle.code.specs.Lock.{rowsOf}
-use Rattle.elimination.proofs.Flat.{rows-in, next-row, rows-one, part-all, part-back}
+use Rattle.elimination.proofs.Flat.{rows-one, part-back}
 use Rattle.publishing.specs.Rows.{digitRow, digitRows}
 use Rattle.publishing.proofs.DigitRows.{unpack-digits, digitRows-none, digitRows-next, rows-placed}
 use Rattle.publishing.proofs.parity.digit_rows.Statement.{statement}

@@ -7,16 +7,18 @@ use native.Mathlib.Omega.{arith}
 use borrow.Rule.Slice.PartMut.{same-len-mid}
 use lib.ListN.{length, take, length-map, length-drop}
 use Rattle.bits.specs.Bits.{from, bytesFor}
+use Rattle.bits.proofs.Parts.{next-row, row-size, part-all}
 use Rattle.field.specs.Field.{inv}
 use Rattle.field.proofs.Places.{length-hornerEach}
 use Rattle.field.proofs.Table.{width-narrow}
 use Rattle.poly.specs.Polynomials.{valuesAt}
 use Rattle.poly.proofs.AtPoints.{length-values}
+use Rattle.key.specs.Keys.{keyOf}
 use Rattle.code.specs.PublicKey.{Matrix}
 use Rattle.code.specs.Code.{entry, parityRow}
 use Rattle.code.specs.Lock.{rowsOf}
-use Rattle.elimination.proofs.Flat.{next-row, row-size, part-all, part-back}
-use Rattle.publishing.specs.Rows.{digitRows, keyOf}
+use Rattle.elimination.proofs.Flat.{part-back}
+use Rattle.publishing.specs.Rows.{digitRows}
 use Rattle.publishing.proofs.DigitRows.{rows-placed, group-next, group-in}
 use Rattle.publishing.proofs.Entries.{entries-start, entries-next, parity-none, parity-next, parity-all}
 use Rattle.publishing.proofs.parity.parity_rows.Statement.{statement}

@@ -2,10 +2,10 @@
 use mathlib.Core.Path.{ap}
 use native.Mathlib.Omega.{arith}
 use borrow.Author.Tests.{not-true, not-false}
+use borrow.Author.Needs.{needs}
 use Rattle.bits.proofs.Ones.{weight-le}
 use Rattle.reading.specs.Answers.{countedOf}
 use Rattle.reading.specs.declared.calls.Answer.the-variants.{Ones}
-use borrow.Author.Needs.{needs}
 use Rattle.reading.proofs.calls.counted.Statement.{statement}
 use Rattle.reading.proofs.calls.counted.Tie as tie
 

@@ -50,7 +50,7 @@ returns-3 c =
     let a = t .before .before .before .before .args in
     open-other (not (a .published)) (a .key) (a .capsule .now) (a .out .now) (sym (t .before .open-refusal .ensures) ∙ t .if1 .left)
     (reading-some (a .key) (a .capsule .now) _ (d .decode .ensures) _ (n .counted .ensures) (v .answer .given .1))
-    (c .if2 .taken)
+    (λ q. omega arith)
 
 cast-give : tie.Need-cast-give
 cast-give c = omega arith
@@ -75,7 +75,7 @@ returns-4 c =
     let a = t .before .before .before .before .args in
     let s = open-some (not (a .published)) (a .key) (a .capsule .now) (a .out .now) (sym (t .before .open-refusal .ensures) ∙ t .if1 .left)
     (reading-some (a .key) (a .capsule .now) _ (d .decode .ensures) _ (n .counted .ensures) (v .answer .given .1))
-    (c .before .before .before .before .before .if2 .left) in
+    (omega (arith, c .before .before .before .before .before .if2 .left)) in
     (s .0, c .before .before .give .ensures ∙ s .1)
 
 pub open-spec : {M : Type 1} → statement M

@@ -3,9 +3,9 @@ use mathlib.Core.Path.{_∙_}
 use Prim.Native.Nat.{_≤_}
 use native.Mathlib.Nat.{mul-le-mul}
 use native.Mathlib.Omega.{arith}
+use borrow.Author.Needs.{needs}
 use Rattle.key.specs.Kept.{kept}
 use Rattle.code.specs.Publish.{capsuleBits}
-use borrow.Author.Needs.{needs}
 use Rattle.reading.proofs.Refusals.{open-unsound, open-unpublished, open-sound}
 use Rattle.reading.proofs.calls.open_refusal.Statement.{statement}
 use Rattle.reading.proofs.calls.open_refusal.Tie as tie

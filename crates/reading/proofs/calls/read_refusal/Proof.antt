@@ -1,7 +1,7 @@
 -- The key, then the buffers. Assumes nothing.
 use mathlib.Core.Path.{_∙_}
-use Rattle.key.specs.Kept.{kept}
 use borrow.Author.Needs.{needs}
+use Rattle.key.specs.Kept.{kept}
 use Rattle.reading.proofs.Refusals.{read-unsound, read-sound}
 use Rattle.reading.proofs.calls.read_refusal.Statement.{statement}
 use Rattle.reading.proofs.calls.read_refusal.Tie as tie

@@ -1,13 +1,13 @@
 -- The first n and t numbers are those of the lent parts. Assumes nothing.
 use mathlib.Core.Path.{_≡_, sym, ap, _∙_}
+use Prim.Native.Nat.{ℕ}
 use native.Mathlib.Omega.{arith}
 use borrow.Author.Needs.{needs}
-use Prim.Native.Nat.{ℕ}
 use lib.ListN.{length, take}
 use lib.Seq.{length-take-le}
 use Rattle.bits.specs.Bits.{unpack}
+use Rattle.key.specs.Keys.{keyOf}
 use Rattle.decoder.specs.Decoding.{explained}
-use Rattle.reading.specs.Parts.{keyOf}
 use Rattle.reading.specs.Answers.{foundOf}
 use Rattle.reading.proofs.decoding.kept_explain.Statement.{statement}
 use Rattle.reading.proofs.decoding.kept_explain.Tie as tie

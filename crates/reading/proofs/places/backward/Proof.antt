@@ -22,8 +22,8 @@ abbrev μ-loop : tie.MeasureT-loop
 loop-holds : tie.Need-loop-holds Inv-loop μ-loop
 loop-holds c = (omega arith, refl, padded-start 256 (backward (c .args .t1) (c .args .l)))
 
-sub-q : tie.Need-sub-q Inv-loop μ-loop
-sub-q c = search needs
+sub-j : tie.Need-sub-j Inv-loop μ-loop
+sub-j c = search needs
 
 mul-q : tie.Need-mul-q Inv-loop μ-loop
 mul-q c = search needs
@@ -67,7 +67,7 @@ backward-spec =
     Inv-loop
     μ-loop
     loop-holds
-    sub-q
+    sub-j
     mul-q
     array-read-q
     mul-q-2

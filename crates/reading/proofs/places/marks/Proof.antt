@@ -5,10 +5,10 @@ use Prim.Native.Nat.{ℕ, _-_, _≤_}
 use native.Mathlib.Omega.{arith}
 use borrow.Author.Needs.{needs}
 use lib.ListN.{length, take, length-map}
+use lib.Seq.{take-all}
 use Rattle.bits.specs.Bits.{setBit}
 use Rattle.reading.specs.Parts.{mark, packed}
 use Rattle.reading.proofs.Packed.{packed-none, packed-next, row-marks, map-at, row-take, length-packed}
-use lib.Seq.{take-all}
 use Rattle.reading.proofs.places.marks.Statement.{statement}
 use Rattle.reading.proofs.places.marks.Tie as tie
 

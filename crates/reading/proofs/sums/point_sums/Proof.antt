@@ -7,10 +7,11 @@ use borrow.Author.Needs.{needs}
 use lib.ListN.{length, take, set, length-set}
 use lib.Seq.{take-all, length-take-le}
 use Rattle.field.proofs.Places.{length-hornerEach}
-use Rattle.key.specs.Kept.{padded}
 use Rattle.poly.specs.Polynomials.{sum}
+use Rattle.key.specs.Kept.{padded}
+use Rattle.key.specs.Keys.{keyOf}
 use Rattle.decoder.specs.Decoding.{squareEntry}
-use Rattle.reading.specs.Parts.{keyOf, pointSums}
+use Rattle.reading.specs.Parts.{pointSums}
 use Rattle.reading.proofs.Written.{padded-start, padded-next}
 use Rattle.reading.proofs.PowerSums.{weights-next, length-pointSums, pointSums-at}
 use Rattle.reading.proofs.sums.point_sums.Statement.{statement}
