@@ -2,28 +2,28 @@
 // A line is `key FILE`; `public T`, or `public -` where publish refuses; or a case of the key before it: `publish ok`,
 // `read WORD ok PATTERN ONES`, `open CAPSULE ok PATTERN` as if published, `lock PATTERN ok CAPSULE`, or one of the
 // four with `refused NUMBER` from `ok` on. Bytes are in hexadecimal, and `-` is none.
-mod line;
-
-ghost use Prim.Native.Nat.{_≤_};
-ghost use lib.ListN.{length};
 use key::file::load;
 use key::kept::Key;
 use libc::STDOUT_FILENO;
-use line::Bytes;
-use line::bytes_of;
-use line::letter;
-use line::number_of;
-use line::size;
-use line::start;
 use locking::Locked;
 use publishing::Published;
 use reading::Answer;
+use vectors::line::Bytes;
+use vectors::line::FILLER;
+use vectors::line::bytes_of;
+use vectors::line::end;
+use vectors::line::holds;
+use vectors::line::letter;
+use vectors::line::no_bytes;
+use vectors::line::number_of;
+use vectors::line::output;
+use vectors::line::refused;
+use vectors::line::size;
+use vectors::tally::Tally;
+use vectors::tally::print;
 
 // The bytes of words.txt at most.
 const TEXT: usize = 500000;
-
-// What an output has before a call.
-const FILLER: u8 = 0xa5;
 
 // The kinds of lines that are counted.
 const KEY: usize = 0;
@@ -35,48 +35,6 @@ const READ: usize = 2;
 const OPEN: usize = 3;
 
 const LOCK: usize = 4;
-
-// The byte at i, and filler past the end.
-fn byte(b: Bytes, i: usize) -> u8 {
-    if b.count <= i {
-        return FILLER;
-    }
-    if line::SIZE <= i {
-        return FILLER;
-    }
-    b.bytes[i]
-}
-
-// The output starts with the bytes and is filler past them.
-fn holds(out: &[u8], b: Bytes) -> bool {
-    let mut i = 0;
-    while i < out.len() {
-        if out[i] != byte(b, i) {
-            return false;
-        }
-        i += 1;
-    }
-    true
-}
-
-// The number that field k and the next say: 0 for `ok`.
-fn refused(line: &[u8], k: u8) -> u16 {
-    if letter(line, start(line, k)) == b'r' {
-        return number_of(line, k % 100 + 1);
-    }
-    0
-}
-
-// The output that a case says.
-fn output(line: &[u8]) -> Bytes {
-    if refused(line, 2) != 0 {
-        return Bytes {
-            bytes: [0; line::SIZE],
-            count: 0,
-        };
-    }
-    bytes_of(line, 3)
-}
 
 // An answer as two numbers.
 struct Outcome {
@@ -136,7 +94,7 @@ fn reads(key: Key, line: &[u8]) -> bool {
     let r = outcome_of(reading::read(key, &word[..n], &mut out));
     r.refused as u16 == refused(line, 2)
         && r.ones == number_of(line, 4)
-        && holds(&out, output(line))
+        && holds(&out, output(line, 2))
 }
 
 // Open gives the number and the pattern, with t ones.
@@ -147,7 +105,7 @@ fn opens(key: Key, line: &[u8]) -> bool {
     let n = size(&capsule, b.count);
     let r = outcome_of(reading::open(key, true, &capsule[..n], &mut out));
     let ones = if r.refused == 0 { key.t } else { 0 };
-    r.refused as u16 == refused(line, 2) && r.ones == ones && holds(&out, output(line))
+    r.refused as u16 == refused(line, 2) && r.ones == ones && holds(&out, output(line, 2))
 }
 
 // Lock gives the number and the capsule.
@@ -159,44 +117,28 @@ fn locks(key: Key, public: Bytes, line: &[u8]) -> bool {
     let t = public.bytes;
     let l = size(&t, public.count);
     let x = locked(locking::lock(key.m, key.n, key.t, &t[..l], &pattern[..n], &mut out));
-    x as u16 == refused(line, 2) && holds(&out, output(line))
+    x as u16 == refused(line, 2) && holds(&out, output(line, 2))
 }
 
 // The key and its T, and the lines of each kind.
 struct State {
     key: Key,
     public: Bytes,
-    agree: [u64; 5],
-    differ: [u64; 5],
+    tally: Tally,
 }
 
 fn counted(mut s: State, kind: usize, agrees: bool) -> State {
-    let k = kind % 5;
-    if agrees {
-        s.agree[k] = s.agree[k] % 1000000 + 1;
-        return s;
-    }
-    s.differ[k] = s.differ[k] % 1000000 + 1;
+    let tally = s.tally;
+    s.tally = vectors::tally::counted(tally, kind, agrees);
     s
 }
 
 // The state at a key's line.
-fn keyed(s: State, line: &[u8]) -> State {
+fn keyed(mut s: State, line: &[u8]) -> State {
     let r = key_of(line);
     let key = r.key;
-    let public = s.public;
-    let agree = s.agree;
-    let differ = s.differ;
-    counted(
-        State {
-            key,
-            public,
-            agree,
-            differ,
-        },
-        KEY,
-        r.refused == 0,
-    )
+    s.key = key;
+    counted(s, KEY, r.refused == 0)
 }
 
 // The state after a line.
@@ -218,45 +160,21 @@ fn step(mut s: State, line: &[u8]) -> State {
     }
 }
 
-// The place of the next newline, or of the end.
-fn line_end(text: &[u8], from: usize) -> usize
-    requires { ⌜ from ≤ length (now text) ⌝ }
-    ensures { λ r. ⌜ (from ≤ r) × (r ≤ length (now (text .entry))) ⌝ }
-{
-    let mut i = from;
-    while i < text.len() {
-        if text[i] == b'\n' {
-            return i;
-        }
-        i += 1;
-    }
-    i
-}
-
 // The state after the text.
 fn run(text: &[u8]) -> State {
     let mut s = State {
         key: key::kept::none(),
-        public: bytes_of(b"", 0),
-        agree: [0; 5],
-        differ: [0; 5],
+        public: no_bytes(),
+        tally: vectors::tally::none(),
     };
     let mut i = 0;
     while i < text.len() {
-        let e = line_end(text, i);
-        s = step(s, &text[i..e]);
-        i = e + 1;
+        let rest = &text[i..];
+        let e = end(rest);
+        s = step(s, &rest[..e]);
+        i += e + 1;
     }
     s
-}
-
-fn print(s: State, kind: usize, name: &[u8]) {
-    let k = kind % 5;
-    io::write_all(STDOUT_FILENO, name);
-    io::print_decimal(STDOUT_FILENO, s.agree[k]);
-    io::write_all(STDOUT_FILENO, b" agreements, ");
-    io::print_decimal(STDOUT_FILENO, s.differ[k]);
-    io::write_all(STDOUT_FILENO, b" differences\n");
 }
 
 fn say(name: &[u8], holds: bool) {
@@ -297,10 +215,11 @@ fn main() {
     let n = io::read_full(fd, &mut text);
     libc::close(fd);
     let s = run(&text[..n]);
-    print(s, KEY, b"key: ");
-    print(s, PUBLISH, b"publish: ");
-    print(s, READ, b"read: ");
-    print(s, OPEN, b"open: ");
-    print(s, LOCK, b"lock: ");
+    let t = s.tally;
+    print(t, KEY, b"key: ");
+    print(t, PUBLISH, b"publish: ");
+    print(t, READ, b"read: ");
+    print(t, OPEN, b"open: ");
+    print(t, LOCK, b"lock: ");
     by_running();
 }

@@ -1,9 +1,9 @@
--- `word_vectors::line::number_of` is safe and ends: i stays within the line. Assumes nothing.
+-- `vectors::line::number_of` is safe and ends: i stays within the line. Assumes nothing.
 use Prim.Native.Nat.{_-_, _≤_}
 use lib.ListN.{length}
 use borrow.Author.Needs.{needs}
-use Rattle.word_vectors.proofs.line.number_of.Statement.{statement}
-use Rattle.word_vectors.proofs.line.number_of.Tie as tie
+use Rattle.vectors.proofs.line.number_of.Statement.{statement}
+use Rattle.vectors.proofs.line.number_of.Tie as tie
 
 abbrev Inv-loop : tie.InvT-loop
 Inv-loop line k x₀ i₀ x i = i ≤ length line

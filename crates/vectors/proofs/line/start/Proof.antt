@@ -1,9 +1,9 @@
--- `word_vectors::line::start` is safe, ends and stays within the line. Assumes nothing.
+-- `vectors::line::start` is safe, ends and stays within the line. Assumes nothing.
 use Prim.Native.Nat.{_-_, _≤_}
 use lib.ListN.{length}
 use borrow.Author.Needs.{needs}
-use Rattle.word_vectors.proofs.line.start.Statement.{statement}
-use Rattle.word_vectors.proofs.line.start.Tie as tie
+use Rattle.vectors.proofs.line.start.Statement.{statement}
+use Rattle.vectors.proofs.line.start.Tie as tie
 
 abbrev Inv-loop : tie.InvT-loop
 Inv-loop line k left₀ i₀ left i = i ≤ length line

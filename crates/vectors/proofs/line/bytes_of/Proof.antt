@@ -1,15 +1,18 @@
--- `word_vectors::line::bytes_of` is safe and ends: i stays within the line. Assumes nothing.
+-- `vectors::line::bytes_of` is safe and ends: i stays within the line. Assumes nothing.
 use Prim.Native.Nat.{_-_, _≤_}
 use lib.ListN.{length}
 use borrow.Author.Needs.{needs}
-use Rattle.word_vectors.proofs.line.bytes_of.Statement.{statement}
-use Rattle.word_vectors.proofs.line.bytes_of.Tie as tie
+use Rattle.vectors.proofs.line.bytes_of.Statement.{statement}
+use Rattle.vectors.proofs.line.bytes_of.Tie as tie
 
 abbrev Inv-loop : tie.InvT-loop
 Inv-loop line k b₀ i₀ b i = i ≤ length line
 
 abbrev μ-loop : tie.MeasureT-loop
 μ-loop line k b₀ i₀ b i = length line - i
+
+no-bytes-requires : tie.Need-no-bytes-requires Inv-loop μ-loop
+no-bytes-requires c κs = search needs
 
 start-requires : tie.Need-start-requires Inv-loop μ-loop
 start-requires c κs = search needs
@@ -50,6 +53,7 @@ bytes-of-spec =
     (tie.spec
     Inv-loop
     μ-loop
+    no-bytes-requires
     start-requires
     loop-holds
     add-loop

@@ -1,9 +1,9 @@
--- `word_vectors::line::size` meets its contract. Assumes nothing.
+-- `vectors::line::size` meets its contract. Assumes nothing.
 use mathlib.Core.Path.{sym}
 use native.Mathlib.Omega.{arith}
 use lib.Seq.{length-take-le}
-use Rattle.word_vectors.proofs.line.size.Statement.{statement}
-use Rattle.word_vectors.proofs.line.size.Tie as tie
+use Rattle.vectors.proofs.line.size.Statement.{statement}
+use Rattle.vectors.proofs.line.size.Tie as tie
 
 returns : tie.Need-returns
 returns c = (omega arith, sym (length-take-le _ _ (omega arith)))

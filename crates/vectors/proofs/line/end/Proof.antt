@@ -1,24 +1,21 @@
--- `word_vectors::holds` is safe and ends: i stays within the output. Assumes nothing.
+-- `vectors::line::end` is safe, ends and stays within the text. Assumes nothing.
 use Prim.Native.Nat.{_-_, _≤_}
 use lib.ListN.{length}
 use borrow.Author.Needs.{needs}
-use Rattle.word_vectors.proofs.holds.Statement.{statement}
-use Rattle.word_vectors.proofs.holds.Tie as tie
+use Rattle.vectors.proofs.line.end.Statement.{statement}
+use Rattle.vectors.proofs.line.end.Tie as tie
 
 abbrev Inv-loop : tie.InvT-loop
-Inv-loop out b i₀ i = i ≤ length out
+Inv-loop text i₀ i = i ≤ length text
 
 abbrev μ-loop : tie.MeasureT-loop
-μ-loop out b i₀ i = length out - i
+μ-loop text i₀ i = length text - i
 
 loop-holds : tie.Need-loop-holds Inv-loop μ-loop
 loop-holds c = search needs
 
 shared-slice-read-if1 : tie.Need-shared-slice-read-if1 Inv-loop μ-loop
 shared-slice-read-if1 c = search needs
-
-byte-requires : tie.Need-byte-requires Inv-loop μ-loop
-byte-requires c κs = search needs
 
 returns : tie.Need-returns Inv-loop μ-loop
 returns c = search needs
@@ -35,15 +32,14 @@ loop-again c = search needs
 returns-2 : tie.Need-returns-2 Inv-loop μ-loop
 returns-2 c = search needs
 
-pub holds-spec : {M : Type 1} → statement M
-holds-spec =
+pub end-spec : {M : Type 1} → statement M
+end-spec =
     tie.close
     (tie.spec
     Inv-loop
     μ-loop
     loop-holds
     shared-slice-read-if1
-    byte-requires
     returns
     add-i
     loop-less

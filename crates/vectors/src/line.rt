@@ -1,10 +1,13 @@
-// The fields of a line, with a blank between two.
+// The fields of a line, with a blank between two, and the buffers that they tell of.
 ghost use Prim.Native.Nat.{_≤_, _<_};
 ghost use lib.ListN.{length};
 ghost use Rattle.io.specs.Counts.{Counts};
 
 // The most bytes of a field.
 pub const SIZE: usize = 64;
+
+// What a buffer has before a call.
+pub const FILLER: u8 = 0xa5;
 
 // The first `count` bytes.
 pub struct Bytes {
@@ -71,12 +74,16 @@ fn with(mut b: Bytes, x: u8) -> Bytes {
     b
 }
 
-// The bytes of field k, two digits each; `-` says none.
-pub fn bytes_of(line: &[u8], k: u8) -> Bytes {
-    let mut b = Bytes {
+pub fn no_bytes() -> Bytes {
+    Bytes {
         bytes: [0; SIZE],
         count: 0,
-    };
+    }
+}
+
+// The bytes of field k, two digits each; `-` says none.
+pub fn bytes_of(line: &[u8], k: u8) -> Bytes {
+    let mut b = no_bytes();
     let mut i = start(line, k);
     while i + 1 < line.len() {
         if line[i] < b'0' {
@@ -100,4 +107,53 @@ pub fn number_of(line: &[u8], k: u8) -> u16 {
         i += 1;
     }
     x
+}
+
+// The number that field k and the next say: 0 for `ok`.
+pub fn refused(line: &[u8], k: u8) -> u16 {
+    if letter(line, start(line, k)) == b'r' {
+        return number_of(line, k % 100 + 1);
+    }
+    0
+}
+
+// The output that field k and the next say: none where field k is `refused`.
+pub fn output(line: &[u8], k: u8) -> Bytes {
+    if refused(line, k) != 0 {
+        return no_bytes();
+    }
+    bytes_of(line, k % 100 + 1)
+}
+
+// The byte at i, and filler past the end.
+fn byte_or_filler(b: Bytes, i: usize) -> u8
+    requires { ⌜ i < 64 ⌝ }
+{
+    if i < b.count { b.bytes[i] } else { FILLER }
+}
+
+// The buffer starts with the bytes and is filler past them.
+pub fn holds(buffer: &[u8; 64], b: Bytes) -> bool {
+    let mut i = 0;
+    while i < SIZE {
+        if buffer[i] != byte_or_filler(b, i) {
+            return false;
+        }
+        i += 1;
+    }
+    true
+}
+
+// The place of the text's first newline, or its end.
+pub fn end(text: &[u8]) -> usize
+    ensures { λ r. ⌜ r ≤ length (now (text .entry)) ⌝ }
+{
+    let mut i = 0;
+    while i < text.len() {
+        if text[i] == b'\n' {
+            return i;
+        }
+        i += 1;
+    }
+    i
 }
