@@ -50,7 +50,7 @@ pub fn start(line: &[u8], k: u8) -> usize
 }
 
 // The value of a hexadecimal digit: 0 is 48 and a is 97.
-fn digit(b: u8) -> u8
+pub fn digit(b: u8) -> u8
     ensures { λ r. ⌜ r < 16 ⌝ }
 {
     if b < b'a' {
