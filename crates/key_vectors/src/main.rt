@@ -5,22 +5,21 @@ ghost use lib.ListN.{length};
 use key::file::load;
 use key::shape::ShapeAnswer;
 use key::shape::shape;
-use libc::STDOUT_FILENO;
+use vectors::line::digit;
+use vectors::line::end;
+use vectors::tally::Tally;
+use vectors::tally::counted;
+use vectors::tally::print;
 
 // The bytes of keyfiles.txt at most, and those of a key file.
 const TEXT: usize = 100000;
 
 const FILE: usize = 20000;
 
-// The value of a hexadecimal digit: 0 is 48 and a is 97.
-fn digit(b: u8) -> u8
-    ensures { λ r. ⌜ r < 16 ⌝ }
-{
-    if b < b'a' {
-        return b % 16;
-    }
-    (b - b'a' + 10) % 16
-}
+// What is counted.
+const LINE: usize = 0;
+
+const STANDARD: usize = 1;
 
 // The first n bytes of out become those that the line's digits from 2 on say.
 fn unhex(out: &mut [u8], line: &[u8], n: usize)
@@ -57,49 +56,14 @@ fn agrees(line: &[u8]) -> bool {
     gives(&file, n, digit(line[0]))
 }
 
-// The place of the next newline, or of the end.
-fn line_end(text: &[u8], from: usize) -> usize
-    requires { ⌜ from ≤ length (now text) ⌝ }
-    ensures { λ r. ⌜ (from ≤ r) × (r ≤ length (now (text .entry))) ⌝ }
-{
-    let mut i = from;
-    while i < text.len() {
-        if text[i] == b'\n' {
-            return i;
-        }
-        i += 1;
-    }
-    i
-}
-
-struct Tally {
-    agree: u64,
-    differ: u64,
-}
-
-fn counted(r: Tally, agree: bool) -> Tally {
-    if agree {
-        return Tally {
-            agree: r.agree % 1000000 + 1,
-            differ: r.differ,
-        };
-    }
-    Tally {
-        agree: r.agree,
-        differ: r.differ % 1000000 + 1,
-    }
-}
-
 fn tally_of(text: &[u8]) -> Tally {
-    let mut r = Tally {
-        agree: 0,
-        differ: 0,
-    };
+    let mut r = vectors::tally::none();
     let mut i = 0;
     while i < text.len() {
-        let e = line_end(text, i);
-        r = counted(r, agrees(&text[i..e]));
-        i = e + 1;
+        let rest = &text[i..];
+        let e = end(rest);
+        r = counted(r, LINE, agrees(&rest[..e]));
+        i += e + 1;
     }
     r
 }
@@ -127,14 +91,6 @@ fn standard(name: &[u8], position: u8) -> bool {
     has_shape(&file[..n], position)
 }
 
-fn print(r: Tally, of: &[u8]) {
-    io::write_all(STDOUT_FILENO, of);
-    io::print_decimal(STDOUT_FILENO, r.agree);
-    io::write_all(STDOUT_FILENO, b" agreements, ");
-    io::print_decimal(STDOUT_FILENO, r.differ);
-    io::write_all(STDOUT_FILENO, b" differences\n");
-}
-
 fn main() {
     let name = b"keyfiles.txt";
     let fd = os::open_read(name);
@@ -145,15 +101,12 @@ fn main() {
     let mut text = [0u8; TEXT];
     let n = io::read_full(fd, &mut text);
     libc::close(fd);
-    print(tally_of(&text[..n]), b"key files: ");
-    let mut s = Tally {
-        agree: 0,
-        differ: 0,
-    };
-    s = counted(s, standard(b"mceliece348864.key", 1));
-    s = counted(s, standard(b"mceliece460896.key", 2));
-    s = counted(s, standard(b"mceliece6688128.key", 3));
-    s = counted(s, standard(b"mceliece6960119.key", 4));
-    s = counted(s, standard(b"mceliece8192128.key", 5));
-    print(s, b"standard keys: ");
+    let mut r = tally_of(&text[..n]);
+    r = counted(r, STANDARD, standard(b"mceliece348864.key", 1));
+    r = counted(r, STANDARD, standard(b"mceliece460896.key", 2));
+    r = counted(r, STANDARD, standard(b"mceliece6688128.key", 3));
+    r = counted(r, STANDARD, standard(b"mceliece6960119.key", 4));
+    r = counted(r, STANDARD, standard(b"mceliece8192128.key", 5));
+    print(r, LINE, b"key files: ");
+    print(r, STANDARD, b"standard keys: ");
 }

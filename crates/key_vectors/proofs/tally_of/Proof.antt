@@ -1,14 +1,11 @@
 -- `key_vectors::tally_of` is safe and ends: i passes the next newline each time. Assumes nothing.
+use mathlib.Core.Path.{sym}
 use Prim.Native.Nat.{suc, _-_, _≤_}
 use lib.ListN.{length}
+use lib.Seq.{length-take-le}
 use borrow.Author.Needs.{needs}
 use Rattle.key_vectors.proofs.tally_of.Statement.{statement}
 use Rattle.key_vectors.proofs.tally_of.Tie as tie
-use Rattle.key_vectors.proofs.tally_of.Reads as reads
-use Rattle.key_vectors.proofs.tally_of.Lts as lts
-use Rattle.key_vectors.proofs.agrees.Reads as agrees-reads
-use Rattle.key_vectors.proofs.counted.Reads as counted-reads
-use Rattle.key_vectors.proofs.line_end.Reads as line-end-reads
 
 abbrev Inv-loop : tie.InvT-loop
 Inv-loop text r₀ i₀ r i = i ≤ suc (length text)
@@ -16,20 +13,26 @@ Inv-loop text r₀ i₀ r i = i ≤ suc (length text)
 abbrev μ-loop : tie.MeasureT-loop
 μ-loop text r₀ i₀ r i = suc (length text) - i
 
+none-requires : tie.Need-none-requires Inv-loop μ-loop
+none-requires c κs = search needs
+
 loop-holds : tie.Need-loop-holds Inv-loop μ-loop
 loop-holds c = search needs
 
-line-end-requires : tie.Need-line-end-requires Inv-loop μ-loop
-line-end-requires c κs = search needs
+sub-rest : tie.Need-sub-rest Inv-loop μ-loop
+sub-rest c = search needs
 
-sub-agrees : tie.Need-sub-agrees Inv-loop μ-loop
-sub-agrees c = search needs
+part-rest-start : tie.Need-part-rest-start Inv-loop μ-loop
+part-rest-start c = search needs
 
-part-agrees-start : tie.Need-part-agrees-start Inv-loop μ-loop
-part-agrees-start c = search needs
+part-rest-end : tie.Need-part-rest-end Inv-loop μ-loop
+part-rest-end c = search needs
 
-part-agrees-end : tie.Need-part-agrees-end Inv-loop μ-loop
-part-agrees-end c = search needs
+end-requires : tie.Need-end-requires Inv-loop μ-loop
+end-requires c κs = search needs
+
+slice-aggregate-agrees : tie.Need-slice-aggregate-agrees Inv-loop μ-loop
+slice-aggregate-agrees c = sym (length-take-le _ _ (c .before .end .ensures))
 
 agrees-requires : tie.Need-agrees-requires Inv-loop μ-loop
 agrees-requires c κs = search needs
@@ -39,6 +42,9 @@ counted-requires c κs = search needs
 
 add-i : tie.Need-add-i Inv-loop μ-loop
 add-i c = search needs
+
+add-i-2 : tie.Need-add-i-2 Inv-loop μ-loop
+add-i-2 c = search needs
 
 loop-less : tie.Need-loop-less Inv-loop μ-loop
 loop-less c = search needs
@@ -55,14 +61,17 @@ tally-of-spec =
     (tie.spec
     Inv-loop
     μ-loop
+    none-requires
     loop-holds
-    line-end-requires
-    sub-agrees
-    part-agrees-start
-    part-agrees-end
+    sub-rest
+    part-rest-start
+    part-rest-end
+    end-requires
+    slice-aggregate-agrees
     agrees-requires
     counted-requires
     add-i
+    add-i-2
     loop-less
     loop-again
     returns)

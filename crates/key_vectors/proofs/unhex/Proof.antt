@@ -7,7 +7,6 @@ use Rattle.key_vectors.proofs.unhex.Statement.{statement}
 use Rattle.key_vectors.proofs.unhex.Tie as tie
 use Rattle.key_vectors.proofs.unhex.Reads as reads
 use Rattle.key_vectors.proofs.unhex.Lts as lts
-use Rattle.key_vectors.proofs.digit.Reads as digit-reads
 
 abbrev Inv-loop : tie.InvT-loop
 Inv-loop out₀ line n i₀ out i = (i ≤ n) × (n ≤ length out) × (2 * n + 2 ≤ length line) × (n < 100000) × (length out ≡ length out₀)

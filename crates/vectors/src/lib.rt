@@ -1,0 +1,3 @@
+// What the programs that run vectors share.
+pub mod line;
+pub mod tally;

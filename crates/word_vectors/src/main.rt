@@ -1,0 +1,225 @@
+// Runs data/words.txt through load, publish, read, open and lock, and counts agreements and differences.
+// A line is `key FILE`; `public T`, or `public -` where publish refuses; or a case of the key before it: `publish ok`,
+// `read WORD ok PATTERN ONES`, `open CAPSULE ok PATTERN` as if published, `lock PATTERN ok CAPSULE`, or one of the
+// four with `refused NUMBER` from `ok` on. Bytes are in hexadecimal, and `-` is none.
+use key::file::load;
+use key::kept::Key;
+use libc::STDOUT_FILENO;
+use locking::Locked;
+use publishing::Published;
+use reading::Answer;
+use vectors::line::Bytes;
+use vectors::line::FILLER;
+use vectors::line::bytes_of;
+use vectors::line::end;
+use vectors::line::holds;
+use vectors::line::letter;
+use vectors::line::no_bytes;
+use vectors::line::number_of;
+use vectors::line::output;
+use vectors::line::refused;
+use vectors::line::size;
+use vectors::tally::Tally;
+use vectors::tally::print;
+
+// The bytes of words.txt at most.
+const TEXT: usize = 500000;
+
+// The kinds of lines that are counted.
+const KEY: usize = 0;
+
+const PUBLISH: usize = 1;
+
+const READ: usize = 2;
+
+const OPEN: usize = 3;
+
+const LOCK: usize = 4;
+
+// An answer as two numbers.
+struct Outcome {
+    refused: u8,
+    ones: u16,
+}
+
+fn outcome_of(a: Answer) -> Outcome {
+    match a {
+        Answer::Ones(w) => Outcome {
+            refused: 0,
+            ones: w,
+        },
+        Answer::Refused(x) => Outcome {
+            refused: x,
+            ones: 0,
+        },
+    }
+}
+
+fn published(p: Published) -> u8 {
+    match p {
+        Published::Done => 0,
+        Published::Refused(x) => x,
+    }
+}
+
+fn locked(l: Locked) -> u8 {
+    match l {
+        Locked::Done => 0,
+        Locked::Refused(x) => x,
+    }
+}
+
+// The key of a line.
+fn key_of(line: &[u8]) -> key::file::Loaded {
+    let b = bytes_of(line, 1);
+    let file = b.bytes;
+    let n = size(&file, b.count);
+    load(&file[..n])
+}
+
+// Publish gives the number and the public key.
+fn publishes(key: Key, public: Bytes, line: &[u8]) -> bool {
+    let mut out = [FILLER; 64];
+    let mut work = [0u8; 64];
+    let x = published(publishing::publish(key, &mut out, &mut work));
+    x as u16 == refused(line, 1) && holds(&out, public)
+}
+
+// Read gives the number, the pattern and its number of ones.
+fn reads(key: Key, line: &[u8]) -> bool {
+    let mut out = [FILLER; 64];
+    let b = bytes_of(line, 1);
+    let word = b.bytes;
+    let n = size(&word, b.count);
+    let r = outcome_of(reading::read(key, &word[..n], &mut out));
+    r.refused as u16 == refused(line, 2)
+        && r.ones == number_of(line, 4)
+        && holds(&out, output(line, 2))
+}
+
+// Open gives the number and the pattern, with t ones.
+fn opens(key: Key, line: &[u8]) -> bool {
+    let mut out = [FILLER; 64];
+    let b = bytes_of(line, 1);
+    let capsule = b.bytes;
+    let n = size(&capsule, b.count);
+    let r = outcome_of(reading::open(key, true, &capsule[..n], &mut out));
+    let ones = if r.refused == 0 { key.t } else { 0 };
+    r.refused as u16 == refused(line, 2) && r.ones == ones && holds(&out, output(line, 2))
+}
+
+// Lock gives the number and the capsule.
+fn locks(key: Key, public: Bytes, line: &[u8]) -> bool {
+    let mut out = [FILLER; 64];
+    let b = bytes_of(line, 1);
+    let pattern = b.bytes;
+    let n = size(&pattern, b.count);
+    let t = public.bytes;
+    let l = size(&t, public.count);
+    let x = locked(locking::lock(key.m, key.n, key.t, &t[..l], &pattern[..n], &mut out));
+    x as u16 == refused(line, 2) && holds(&out, output(line, 2))
+}
+
+// The key and its T, and the lines of each kind.
+struct State {
+    key: Key,
+    public: Bytes,
+    tally: Tally,
+}
+
+fn counted(mut s: State, kind: usize, agrees: bool) -> State {
+    let tally = s.tally;
+    s.tally = vectors::tally::counted(tally, kind, agrees);
+    s
+}
+
+// The state at a key's line.
+fn keyed(mut s: State, line: &[u8]) -> State {
+    let r = key_of(line);
+    let key = r.key;
+    s.key = key;
+    counted(s, KEY, r.refused == 0)
+}
+
+// The state after a line.
+fn step(mut s: State, line: &[u8]) -> State {
+    let key = s.key;
+    let public = s.public;
+    match letter(line, 0) {
+        b'k' => keyed(s, line),
+        b'r' => counted(s, READ, reads(key, line)),
+        b'o' => counted(s, OPEN, opens(key, line)),
+        b'l' => counted(s, LOCK, locks(key, public, line)),
+        _ => {
+            if letter(line, 5) == b's' {
+                return counted(s, PUBLISH, publishes(key, public, line));
+            }
+            s.public = bytes_of(line, 1);
+            s
+        }
+    }
+}
+
+// The state after the text.
+fn run(text: &[u8]) -> State {
+    let mut s = State {
+        key: key::kept::none(),
+        public: no_bytes(),
+        tally: vectors::tally::none(),
+    };
+    let mut i = 0;
+    while i < text.len() {
+        let rest = &text[i..];
+        let e = end(rest);
+        s = step(s, &rest[..e]);
+        i += e + 1;
+    }
+    s
+}
+
+fn say(name: &[u8], holds: bool) {
+    io::write_all(STDOUT_FILENO, name);
+    if holds {
+        io::write_all(STDOUT_FILENO, b": yes\n");
+        return;
+    }
+    io::write_all(STDOUT_FILENO, b": no\n");
+}
+
+// Two facts of document 01, 'by running'.
+fn by_running() {
+    let k1 = key_of(b"key 040600010009000d000f000e000b0001000000");
+    let k2 = key_of(
+        b"key 04100000000100020003000400050006000700080009000a000b000c000d000e000f00020008000100",
+    );
+    let key = k1.key;
+    say(
+        b"K1 lock 00 gives 12",
+        locks(key, bytes_of(b"public 03010200", 1), b"lock 00 refused 12"),
+    );
+    let key = k2.key;
+    say(
+        b"K2 read 03 00 gives 03 00, two ones",
+        reads(key, b"read 0300 ok 0300 2"),
+    );
+}
+
+fn main() {
+    let name = b"words.txt";
+    let fd = os::open_read(name);
+    if fd < 0 {
+        os::fail(name);
+        return;
+    }
+    let mut text = [0u8; TEXT];
+    let n = io::read_full(fd, &mut text);
+    libc::close(fd);
+    let s = run(&text[..n]);
+    let t = s.tally;
+    print(t, KEY, b"key: ");
+    print(t, PUBLISH, b"publish: ");
+    print(t, READ, b"read: ");
+    print(t, OPEN, b"open: ");
+    print(t, LOCK, b"lock: ");
+    by_running();
+}
