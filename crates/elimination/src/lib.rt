@@ -11,7 +11,8 @@ ghost use Rattle.code.specs.Lock.{rowOf, rowsOf};
 ghost use Rattle.elimination.specs.Elimination.{movedUp, toFront, pivotRow, clearFront, firstRow, stage, pivoted, stepped, next, fits, eliminates};
 
 // Gauss-Jordan elimination of the first `rows` rows of n bits: every row i gets a one in column i, and the others a zero there.
-// False where the first `rows` columns are dependent or the sizes do not fit.
+// False where the first `rows` columns are dependent or the sizes do not fit. Where the sizes fit, the contents of the rows are
+// free if it is false, and their filler always.
 pub fn eliminate(work: &mut [u8], rows: usize, n: usize) -> bool
     ensures { λ r. ⌜ r ≡ eliminates rows n (now (work .entry)) ⌝ }
     ensures { λ r. ⌜ (r ≡ true → rowsOf rows n (now (work .exit)) ≡ echelon n (rowsOf rows n (now (work .entry))) .done) ⌝ }
