@@ -4,9 +4,9 @@
 // key that is held and 1 where it is published, `end - 0` that none is. Bytes are in hexadecimal, and `-` is none.
 use key::kept::Key;
 use libc::STDOUT_FILENO;
-use office::Reply;
-use office::State;
-use office::Station;
+use station::Reply;
+use station::State;
+use station::Station;
 use vectors::line::FILLER;
 use vectors::line::bytes_of;
 use vectors::line::end;

@@ -3,8 +3,8 @@
 ghost use Rattle.io.specs.Counts.{Counts};
 use libc::STDOUT_FILENO;
 use locking::Locked;
-use office::Reply;
-use office::Station;
+use station::Reply;
+use station::Station;
 
 // The bytes of a public key, of the workspace, and of every other file at most.
 const PUBLIC: usize = 261120;

@@ -1,8 +1,7 @@
-pub mod Table
-pub mod StepLaws
-pub mod LedgerLaws
-pub mod Demand1
-pub mod Agreement
-pub mod Patterns
+pub mod ReplyLaws
+pub mod LowerLaws
+pub mod StepView
 pub mod Demand3
+pub mod Demand1
 pub mod Demand2
+pub mod Table

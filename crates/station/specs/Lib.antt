@@ -1,4 +1,2 @@
-pub mod Station
-pub mod Calls
-pub mod Ledger
+pub mod Replies
 pub mod Demands

@@ -1,1 +1,201 @@
-// The station. So far its definitions, in specs/, and laws about them, in proofs/.
+// The station that keeps one key (document 01, 'Station').
+use key::kept::Key;
+use publishing::Published;
+use reading::Answer;
+ghost use mathlib.Core.Path.{_≡_};
+ghost use mathlib.Core.Bool.{false, not};
+ghost use Rattle.ledger.specs.Station.{isEmpty, isUnpublished};
+ghost use Rattle.ledger.specs.Calls.{load, publish, open-capsule, read-word, drop-key};
+ghost use Rattle.station.specs.Replies.{stateOf, publishedNumber, answerNumber, freshStation, refusal, acceptance, handed};
+
+// No key, a key, and a key that is published.
+pub enum State {
+    Empty,
+    Loaded,
+    Published,
+}
+
+// One slot: the state and the key, the key of zeros where it is empty.
+pub struct Station {
+    pub state: State,
+    pub key: Key,
+}
+
+// What a call hands back: the new station, the number of the refusal, 0 for none, and the number of ones written.
+pub struct Reply {
+    pub station: Station,
+    pub refused: u8,
+    pub ones: u16,
+}
+
+// No key is held.
+fn is_empty(state: State) -> bool
+    ensures { λ r. ⌜ r ≡ isEmpty (stateOf state) ⌝ }
+{
+    match state {
+        State::Empty => true,
+        State::Loaded => false,
+        State::Published => false,
+    }
+}
+
+// The key is published.
+fn is_published(state: State) -> bool
+    ensures { λ r. ⌜ r ≡ not (isUnpublished (stateOf state)) ⌝ }
+{
+    match state {
+        State::Empty => false,
+        State::Loaded => false,
+        State::Published => true,
+    }
+}
+
+// The number of publish's refusal, and 0 where T is written.
+fn published_number(answer: Published) -> u8
+    ensures { λ r. ⌜ r ≡ publishedNumber answer ⌝ }
+{
+    match answer {
+        Published::Done => 0,
+        Published::Refused(n) => n,
+    }
+}
+
+// The number of a refusal to open or read, and 0 where the pattern is written.
+fn answer_number(answer: Answer) -> u8
+    ensures { λ r. ⌜ r ≡ answerNumber answer ⌝ }
+{
+    match answer {
+        Answer::Ones(_) => 0,
+        Answer::Refused(n) => n,
+    }
+}
+
+impl Station {
+    // The limit on t.
+    pub const MOST_ERRORS: usize = 128;
+
+    // The limit on the register's list, 256.
+    pub const LONGEST: usize = poly::Registered::LONGEST;
+
+    // The empty station.
+    pub fn fresh() -> Station
+        ensures { λ r. ⌜ r ≡ freshStation ⌝ }
+    {
+        Station {
+            state: State::Empty,
+            key: key::kept::none(),
+        }
+    }
+
+    // A refusal changes nothing.
+    fn refuse(self, number: u8) -> Reply
+        ensures { λ r. ⌜ r ≡ refusal self number ⌝ }
+    {
+        Reply {
+            station: self,
+            refused: number,
+            ones: 0,
+        }
+    }
+
+    // The new station, and the number of ones that were written.
+    fn accept(self, ones: u16) -> Reply
+        ensures { λ r. ⌜ r ≡ acceptance self ones ⌝ }
+    {
+        Reply {
+            station: self,
+            refused: 0,
+            ones,
+        }
+    }
+
+    // The file's key is kept; 22, 1, 2, 3, 4, 5, 6 or 7 on refusal.
+    pub fn load(self, file: &[u8]) -> Reply
+        ensures { λ r. ⌜ r ≡ handed self (load (now (file .entry))) .reply ⌝ }
+    {
+        let state = self.state;
+        if !is_empty(state) {
+            return self.refuse(22);
+        }
+        let loaded = key::file::load(file);
+        let x = loaded.refused;
+        if x != 0 {
+            return self.refuse(x);
+        }
+        let key = loaded.key;
+        let station = Station {
+            state: State::Loaded,
+            key,
+        };
+        station.accept(0)
+    }
+
+    // T is written from the output's start, made in work; 21, 25, 10, 11 or 23 on refusal.
+    pub fn publish(self, out: &mut [u8], work: &mut [u8]) -> Reply
+        ensures reply { λ r. ⌜ r ≡ handed self (publish (now (out .entry)) (now (work .entry))) .reply ⌝ }
+        ensures output { λ _. ⌜ now (out .exit) ≡ handed self (publish (now (out .entry)) (now (work .entry))) .output ⌝ }
+        ensures workspace { λ _. ⌜ (handed self (publish (now (out .entry)) (now (work .entry))) .free ≡ false
+            → now (work .exit) ≡ now (work .entry)) ⌝ }
+    {
+        let state = self.state;
+        if is_empty(state) {
+            return self.refuse(21);
+        }
+        let key = self.key;
+        let answer = publishing::publish(key, out, work);
+        let Published::Done = answer else {
+            return self.refuse(published_number(answer));
+        };
+        let station = Station {
+            state: State::Published,
+            key,
+        };
+        station.accept(0)
+    }
+
+    // The pattern of a capsule is written from the output's start; 21, 25, 24, 8, 9, 10 or 13 on refusal.
+    pub fn open(self, capsule: &[u8], out: &mut [u8]) -> Reply
+        ensures reply { λ r. ⌜ r ≡ handed self (open-capsule (now (capsule .entry)) (now (out .entry))) .reply ⌝ }
+        ensures output { λ _. ⌜ now (out .exit) ≡ handed self (open-capsule (now (capsule .entry)) (now (out .entry))) .output ⌝ }
+    {
+        let state = self.state;
+        if is_empty(state) {
+            return self.refuse(21);
+        }
+        let key = self.key;
+        let answer = reading::open(key, is_published(state), capsule, out);
+        let Answer::Ones(w) = answer else {
+            return self.refuse(answer_number(answer));
+        };
+        self.accept(w)
+    }
+
+    // The pattern of a word is written from the output's start; 21, 25, 8, 9, 10 or 14 on refusal.
+    pub fn read(self, word: &[u8], out: &mut [u8]) -> Reply
+        ensures reply { λ r. ⌜ r ≡ handed self (read-word (now (word .entry)) (now (out .entry))) .reply ⌝ }
+        ensures output { λ _. ⌜ now (out .exit) ≡ handed self (read-word (now (word .entry)) (now (out .entry))) .output ⌝ }
+    {
+        let state = self.state;
+        if is_empty(state) {
+            return self.refuse(21);
+        }
+        let key = self.key;
+        let answer = reading::read(key, word, out);
+        let Answer::Ones(w) = answer else {
+            return self.refuse(answer_number(answer));
+        };
+        self.accept(w)
+    }
+
+    // Afterwards the station is a fresh one; 21 on refusal.
+    pub fn drop(self) -> Reply
+        ensures { λ r. ⌜ r ≡ handed self drop-key .reply ⌝ }
+    {
+        let state = self.state;
+        if is_empty(state) {
+            return self.refuse(21);
+        }
+        let station = Station::fresh();
+        station.accept(0)
+    }
+}

@@ -1,0 +1,168 @@
+-- Demand 2: publish writes T, and locking and opening undo each other. Assumes nothing.
+use Prim.Native.Nat.{ℕ, _≤_}
+use mathlib.Core.Path.{_≡_, sym, ap, _∙_}
+use mathlib.Core.Bool.{Bool, true, false}
+use mathlib.Core.List.{List, [], _∷_, flatMap}
+use mathlib.Core.Option.{Option, none, some}
+use native.Mathlib.Nat.{le-of-lt}
+use lib.Dec.{ltb}
+use lib.ListN.{length, take, drop}
+use lib.Seq.{take-at}
+use borrow.Author.Tests.{not-false, eqb-true, ltb-false, le-ltb}
+use Rattle.bits.specs.Bits.{Bytes, Row, bytesFor, unpack, pack, weight, wellFormed, over}
+use Rattle.bits.proofs.Pack.{row-length, row-unpack, length-pack, unpack-pack, pack-unpack, well-formed, well-formed-pack}
+use Rattle.bits.proofs.Ones.{weight-pack}
+use Rattle.field.specs.Numbers.{firstOf}
+use Rattle.field.proofs.Numbers.{first-clear}
+use Rattle.key.specs.Keys.{Key, keyNumber}
+use Rattle.key.proofs.Accepted.{Accepted, accepted}
+use Rattle.code.specs.PublicKey.{Matrix, publicKey, dependent, written}
+use Rattle.code.specs.Lock.{locked}
+use Rattle.code.proofs.PublicKey.{row-capsule}
+use Rattle.code.proofs.LockLaws.{public-size, lock-written, lock-accepts}
+use Rattle.code.specs.Publish.{capsuleBits, publicBytes, workBytes}
+use Rattle.code.specs.Publish as Publish
+use Rattle.decoder.specs.Calls as Calls
+use Rattle.ledger.specs.Station.{State, published, Held, isEmpty, heldBy, publishChecks, publishConditions, openConditions, Result, publishOf}
+use Rattle.ledger.specs.Calls.{publish, open-capsule, conditionsOf, step}
+use Rattle.ledger.specs.Demands.{at, publishResult, openResult, patternOf, capsuleOf, lockAnswer, Demand2, Locks, Decides}
+use Rattle.ledger.proofs.StepLaws.{unless-accepted, step-number, publish-station}
+use Rattle.ledger.proofs.Agreement.{sound-held}
+use Rattle.ledger.proofs.Demand3.{open-decides}
+
+-- what is written begins the output
+begins : {n : ℕ} {e : List ℕ} → Row n e → (out : List ℕ) → take (bytesFor n) (over (pack e) out) ≡ pack e
+unfolding over
+begins {n} {e} r out = take-at (pack e) (drop (length (pack e)) out) (bytesFor n) (length-pack e ∙ ap bytesFor (row-length r))
+
+-- a capsule that is opened is well-formed, and the output has room for its pattern
+pub opened : (k : Key) (capsule out : List ℕ) → step (at published k) (open-capsule capsule out) .number ≡ 0
+    → (wellFormed (capsuleBits k) capsule ≡ true) × (bytesFor (k .n) ≤ length out)
+unfolding at heldBy conditionsOf openConditions Calls.openConditions
+opened k capsule out e =
+    let c21 = first-clear _ 20 _ (sym (step-number (at published k) (open-capsule capsule out)) ∙ e) in
+    let c25 = first-clear _ 24 _ (c21 .1) in
+    let c24 = first-clear _ 23 _ (c25 .1) in
+    let c8 = first-clear _ 7 _ (c24 .1) in
+    let c9 = first-clear _ 8 _ (c8 .1) in
+    let c10 = first-clear _ 9 _ (c9 .1) in (
+      well-formed (capsuleBits k) capsule (eqb-true _ _ (not-false _ (c8 .0))) (not-false _ (c9 .0)),
+      ltb-false _ _ (c10 .0),
+    )
+
+-- with a key, room and a public key none of publish's conditions holds
+publish-first : (a b c d : Bool) → a ≡ false → b ≡ false → c ≡ false → d ≡ false
+    → firstOf ((a, 21) ∷ (false, 25) ∷ (b, 10) ∷ (c, 11) ∷ (d, 23) ∷ []) ≡ 0
+unfolding firstOf
+publish-first a b c d p q r s = rw (p, q, r, s)
+
+-- a key with a public key has independent columns
+independent : (k : Key) {rows : Matrix} → publicKey k ≡ some rows → dependent k ≡ false
+unfolding dependent
+independent k p = ap (λ (o : Option Matrix). elim o as (λ x. Bool) [ none ↦ true | some rows ↦ false ]) p
+
+module _ (k : Key) (rows : Matrix) (good : keyNumber k ≡ 0) (public : publicKey k ≡ some rows) where
+  opens : (capsule out : List ℕ) → wellFormed (capsuleBits k) capsule ≡ true → bytesFor (k .n) ≤ length out
+      → Decides (Locks k rows capsule) 13 out (step (at published k) (open-capsule capsule out))
+  unfolding at
+  opens = open-decides k good rows public
+
+  publish-accepted : (state : State) (out work : List ℕ) → isEmpty state ≡ false → publicBytes k ≤ length out → workBytes k ≤ length work
+      → publishResult state k out work .number ≡ 0
+  unfolding at conditionsOf publishConditions publishChecks Publish.publishChecks Publish.publishConditions
+  publish-accepted state out work h long room =
+      step-number (at state k) (publish out work)
+      ∙ ap (λ (x : Held). firstOf (publishConditions x out work)) (sound-held state k good)
+      ∙ publish-first (isEmpty state) (ltb (length out) (publicBytes k)) (ltb (length work) (workBytes k)) (dependent k)
+      h (le-ltb _ _ long) (le-ltb _ _ room) (independent k public)
+
+  publish-output : (state : State) (out work : List ℕ) → publishResult state k out work .number ≡ 0
+      → publishResult state k out work .output ≡ over (flatMap pack rows) out
+  unfolding at step publishOf written conditionsOf
+  publish-output state out work e =
+      ap (λ (r : Result). r .output) (unless-accepted (at state k) out _ _ (sym (step-number (at state k) (publish out work)) ∙ e))
+      ∙ ap (λ (o : Option Matrix). over (written o) out) public
+
+  publishes : (state : State) (out work : List ℕ) → isEmpty state ≡ false → publicBytes k ≤ length out → workBytes k ≤ length work
+      → (publishResult state k out work .number ≡ 0) × (publishResult state k out work .station ≡ at published k)
+      × (publishResult state k out work .output ≡ over (flatMap pack rows) out)
+  unfolding at
+  publishes state out work h long room =
+      let zero = publish-accepted state out work h long room in
+      (zero, publish-station (at state k) out work zero, publish-output state out work zero)
+
+  -- the public key begins what publish wrote
+  public-begins : (state : State) (out work : List ℕ) → publishResult state k out work .number ≡ 0
+      → take (publicBytes k) (publishResult state k out work .output) ≡ flatMap pack rows
+  unfolding over capsuleBits
+  public-begins state out work e =
+      let l : length (flatMap pack rows) ≡ publicBytes k = public-size k rows good public in
+      ap (take (publicBytes k)) (publish-output state out work e)
+      ∙ take-at (flatMap pack rows) (drop (length (flatMap pack rows)) out) (publicBytes k) l
+
+  -- a pattern's capsule has m·t bits
+  capsule-row : {e : List ℕ} → Row (k .n) e → Row (capsuleBits k) (locked rows e)
+  unfolding capsuleBits
+  capsule-row r = let a : Accepted k = accepted k good in row-capsule k rows public (a .support-length) (le-of-lt (a .limits .over)) r
+
+  locks : (pattern buffer : List ℕ) → wellFormed (k .n) pattern ≡ true → weight (k .n) pattern ≡ k .t
+      → bytesFor (capsuleBits k) ≤ length buffer → lockAnswer k rows pattern buffer ≡ 0
+  unfolding capsuleBits
+  locks pattern buffer formed count room = lock-accepts k rows good public pattern buffer formed count room
+
+  locked-opened : (pattern out : List ℕ) → Bytes pattern → wellFormed (k .n) pattern ≡ true → weight (k .n) pattern ≡ k .t
+      → bytesFor (k .n) ≤ length out
+      → (openResult k (capsuleOf k rows pattern) out .number ≡ 0) × (openResult k (capsuleOf k rows pattern) out .output ≡ over pattern out)
+  unfolding weight
+  locked-opened pattern out bytes formed count long =
+      let e : List ℕ = unpack (k .n) pattern in
+      let r : Row (k .n) e = row-unpack (k .n) pattern in
+      let s : Row (capsuleBits k) (locked rows e) = capsule-row r in
+      let locks : Locks k rows (pack (locked rows e)) e = record { row = r; weight = count; same = sym (unpack-pack s) } in
+      let d = opens (pack (locked rows e)) out (well-formed-pack s) long in
+      let zero = d .only (λ z. d .refuses .0 z e locks) in
+      let w = d .writes zero in
+      let same : pack (w .0) ≡ pattern = ap pack (sym (w .4 e locks)) ∙ pack-unpack (k .n) pattern bytes formed in
+      rw (lock-written k rows good public pattern) (zero, w .2 ∙ ap (λ (b : List ℕ). over b out) same)
+
+  -- the pattern that open wrote, packed
+  record Found (capsule out : List ℕ) : Type 0 where
+    e : List ℕ
+    locks : Locks k rows capsule e
+    wrote : patternOf k capsule out ≡ pack e
+
+  finds : (capsule out : List ℕ) → openResult k capsule out .number ≡ 0 → Found capsule out
+  finds capsule out zero =
+      let o = opened k capsule out zero in
+      let w = opens capsule out (o .0) (o .1) .writes zero in
+      let l : Locks k rows capsule (w .0) = w .1 in
+      record { e = w .0; locks = l; wrote = ap (take (bytesFor (k .n))) (w .2) ∙ begins (l .row) out }
+
+  opened-locks : (capsule out buffer : List ℕ) → openResult k capsule out .number ≡ 0
+      → bytesFor (capsuleBits k) ≤ length buffer → lockAnswer k rows (patternOf k capsule out) buffer ≡ 0
+  opened-locks capsule out buffer zero room =
+      let f = finds capsule out zero in
+      let r : Row (k .n) (f .e) = f .locks .row in
+      ap (λ (b : List ℕ). lockAnswer k rows b buffer) (f .wrote)
+      ∙ locks (pack (f .e)) buffer (well-formed-pack r) (weight-pack r ∙ f .locks .weight) room
+
+  opened-locked : (capsule out : List ℕ) → Bytes capsule → openResult k capsule out .number ≡ 0
+      → capsuleOf k rows (patternOf k capsule out) ≡ capsule
+  opened-locked capsule out bytes zero =
+      let f = finds capsule out zero in
+      ap (λ (b : List ℕ). capsuleOf k rows b) (f .wrote)
+      ∙ lock-written k rows good public (pack (f .e))
+      ∙ ap (λ (d : List ℕ). pack (locked rows d)) (unpack-pack (f .locks .row))
+      ∙ ap pack (f .locks .same)
+      ∙ pack-unpack (capsuleBits k) capsule bytes (opened k capsule out zero .0)
+
+pub demand-2 : Demand2
+demand-2 k rows good public =
+    record {
+      publishes = publishes k rows good public;
+      public = public-begins k rows good public;
+      locks = locks k rows good public;
+      locked-opened = locked-opened k rows good public;
+      opened-locks = opened-locks k rows good public;
+      opened-locked = opened-locked k rows good public;
+    }

@@ -1,0 +1,82 @@
+-- The ledger after each call, and lists of calls one behind another. Assumes nothing.
+use Prim.Native.Nat.{ℕ, zero, suc}
+use mathlib.Core.Path.{_≡_, refl, ap}
+use mathlib.Core.Bool.{true, false}
+use mathlib.Core.List.{List, [], _∷_, _++_}
+use mathlib.Core.Option.{some}
+use Rattle.key.specs.Keys.{parse}
+use Rattle.ledger.specs.Station.{Station}
+use Rattle.ledger.specs.Calls.{Call, load, publish, open-capsule, read-word, drop-key, step, run, answered}
+use Rattle.ledger.specs.Ledger.{Ledger, blank, ledgerNumber, entered, fed, ledgerAfter, expected}
+
+-- the ledger after one call
+abbrev pub ledgerNext : Ledger → Call → Ledger
+ledgerNext l c = fed (ledgerNumber l c) l c
+
+-- with a number it stays
+pub next-refused : (l : Ledger) (c : Call) (n : ℕ) → ledgerNumber l c ≡ suc n → ledgerNext l c ≡ l
+unfolding fed
+next-refused l c n e = ap (λ (i : ℕ). fed i l c) e
+
+pub next-accepted : (l : Ledger) (c : Call) → ledgerNumber l c ≡ 0 → ledgerNext l c ≡ entered l c
+unfolding fed
+next-accepted l c e = ap (λ (i : ℕ). fed i l c) e
+
+-- load enters its file's key, without mark
+pub next-load : (l : Ledger) (file : List ℕ) → ledgerNumber l (load file) ≡ 0 → ledgerNext l (load file) ≡ record { key = some (parse file); mark = false }
+unfolding entered
+next-load l file e = next-accepted l (load file) e
+
+-- publish sets the mark beside the same key
+pub next-publish : (l : Ledger) (out work : List ℕ) → ledgerNumber l (publish out work) ≡ 0 → ledgerNext l (publish out work) ≡ record { key = l .key; mark = true }
+unfolding entered
+next-publish l out work e = next-accepted l (publish out work) e
+
+-- drop takes key and mark away
+pub next-drop : (l : Ledger) → ledgerNumber l drop-key ≡ 0 → ledgerNext l drop-key ≡ blank
+unfolding entered
+next-drop l e = next-accepted l drop-key e
+
+-- open and read leave it, with and without a number
+fed-still : (n : ℕ) (l : Ledger) (c : Call) → entered l c ≡ l → fed n l c ≡ l
+unfolding fed
+fed-still zero l c e = e
+fed-still (suc n) l c e = refl
+
+pub next-open : (l : Ledger) (capsule out : List ℕ) → ledgerNext l (open-capsule capsule out) ≡ l
+unfolding entered
+next-open l capsule out = fed-still (ledgerNumber l (open-capsule capsule out)) l (open-capsule capsule out) refl
+
+pub next-read : (l : Ledger) (word out : List ℕ) → ledgerNext l (read-word word out) ≡ l
+unfolding entered
+next-read l word out = fed-still (ledgerNumber l (read-word word out)) l (read-word word out) refl
+
+-- Lists of calls one behind another.
+pub ledger-append : (l : Ledger) (cs ds : List Call) → ledgerAfter l (cs ++ ds) ≡ ledgerAfter (ledgerAfter l cs) ds
+unfolding ledgerAfter
+ledger-append l [] ds = refl
+ledger-append l (c ∷ cs) ds = ledger-append _ cs ds
+
+pub run-append : (s : Station) (cs ds : List Call) → run s (cs ++ ds) ≡ run (run s cs) ds
+unfolding run
+run-append s [] ds = refl
+run-append s (c ∷ cs) ds = run-append _ cs ds
+
+pub answered-append : (s : Station) (cs ds : List Call) → answered s (cs ++ ds) ≡ answered s cs ++ answered (run s cs) ds
+unfolding answered run
+answered-append s [] ds = refl
+answered-append s (c ∷ cs) ds = ap (_∷_ (step s c .number)) (answered-append (step s c .station) cs ds)
+
+pub expected-append : (l : Ledger) (cs ds : List Call) → expected l (cs ++ ds) ≡ expected l cs ++ expected (ledgerAfter l cs) ds
+unfolding expected ledgerAfter
+expected-append l [] ds = refl
+expected-append l (c ∷ cs) ds = ap (_∷_ (ledgerNumber l c)) (expected-append (ledgerNext l c) cs ds)
+
+-- one call more: what it finds is what the calls before left
+pub ledger-last : (l : Ledger) (cs : List Call) (c : Call) → ledgerAfter l (cs ++ (c ∷ [])) ≡ ledgerNext (ledgerAfter l cs) c
+unfolding ledgerAfter
+ledger-last l cs c = ledger-append l cs (c ∷ [])
+
+pub run-last : (s : Station) (cs : List Call) (c : Call) → run s (cs ++ (c ∷ [])) ≡ step (run s cs) c .station
+unfolding run
+run-last s cs c = run-append s cs (c ∷ [])

@@ -1,0 +1,4 @@
+pub mod Station
+pub mod Calls
+pub mod Ledger
+pub mod Demands

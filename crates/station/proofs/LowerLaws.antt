@@ -1,0 +1,165 @@
+-- What each call hands back once its state lets it through, from the lower call's answer. Assumes nothing.
+use Prim.Native.Nat.{ℕ, zero, suc}
+use mathlib.Core.Path.{_≡_, refl, sym, ap, _∙_}
+use mathlib.Core.Bool.{Bool, true, false, true≢false, not, cond}
+use mathlib.Core.List.{List}
+use native.Mathlib.Omega.{arith}
+use borrow.Author.Tests.{eq-eqb}
+use Rattle.field.specs.Numbers.{firstOf}
+use Rattle.key.specs.Keys.{Key, parse, unsound}
+use Rattle.key.specs.Kept.{kept, keep, noKey, loadedOf}
+use Rattle.key.specs.declared.kept.Key as Kept
+use Rattle.key.specs.declared.file.Loaded.{Loaded}
+use Rattle.code.specs.Publish.{publishNumber, publishOutput}
+use Rattle.code.specs.Publish as Publish
+use Rattle.decoder.specs.Calls.{openOutput, readOutput, patternOutput}
+use Rattle.publishing.specs.Published.{publishedOf}
+use Rattle.publishing.specs.declared.Published.{Published}
+use Rattle.publishing.specs.declared.Published.the-variants as published
+use Rattle.reading.specs.Answers.{answerOf}
+use Rattle.reading.specs.Answers as Answers
+use Rattle.reading.specs.declared.calls.Answer.{Answer}
+use Rattle.reading.specs.declared.calls.Answer.the-variants as answers
+use Rattle.ledger.specs.Station.{isEmpty, isUnpublished, heldBy, publishChecks, openOf, readOf}
+use Rattle.ledger.specs.Calls.{Call, load, publish, open-capsule, read-word}
+use Rattle.ledger.specs.Demands.{outputOf}
+use Rattle.ledger.proofs.StepLaws.{step-free, freed}
+use Rattle.station.specs.Replies.{stateOf, view, publishedNumber, answerNumber, refusal, acceptance, moved, handed}
+use Rattle.station.specs.declared.State.the-variants as states
+use Rattle.station.specs.declared.Station.{Station}
+use Rattle.station.proofs.ReplyLaws.{stop, lower, tally, bytes, lower-refused, lower-accepted, lower-output}
+
+-- load, on an empty station
+module _ (s : Station) (file : List ℕ) (empty : isEmpty (stateOf (s .state)) ≡ true) (r : Loaded) (e : r ≡ loadedOf file) where
+  load-passes : stop s (load file) .0 ≡ false
+  unfolding stop
+  load-passes = ap not empty
+
+  load-number : r .refused ≡ lower s (load file)
+  unfolding lower loadedOf
+  load-number = ap (λ (l : Loaded). l .refused) e
+
+  pub load-refused : (r .refused ≡ 0 → ⊥) → refusal s (r .refused) ≡ handed s (load file) .reply
+  load-refused h = lower-refused s (load file) load-passes (r .refused) load-number h
+
+  load-key : r .refused ≡ 0 → r .key ≡ keep (parse file)
+  unfolding loadedOf
+  load-key z =
+      ap (λ (l : Loaded). l .key) e
+      ∙ ap (λ (b : Bool). cond b (keep (parse file)) noKey) (eq-eqb _ 0 (sym (ap (λ (l : Loaded). l .refused) e) ∙ z))
+
+  pub load-accepted : r .refused ≡ 0 → acceptance (record { state = states.Loaded; key = r .key }) 0 ≡ handed s (load file) .reply
+  unfolding moved tally
+  load-accepted z =
+      ap (λ (k : Kept.Key). acceptance (record { state = states.Loaded; key = k }) 0) (load-key z)
+      ∙ lower-accepted s (load file) load-passes (sym load-number ∙ z)
+
+-- publish, with a key
+published-number : (q : ℕ) → publishedNumber (publishedOf q) ≡ q
+unfolding publishedNumber publishedOf
+published-number zero = refl
+published-number (suc q) = refl
+
+published-done : (q : ℕ) → publishedOf q ≡ published.Done → q ≡ 0
+unfolding publishedOf
+published-done zero e = refl
+published-done (suc q) e = let z : _≡_ {A = ℕ} 0 1 = cc in absurd (omega arith)
+
+published-refused : (q : ℕ) {x : ℕ} → publishedOf q ≡ published.Refused x → q ≡ 0 → ⊥
+unfolding publishedOf
+published-refused zero e h = let z : _≡_ {A = ℕ} 0 1 = cc in omega arith
+published-refused (suc q) e h = omega arith
+
+module _ (s : Station) (out work : List ℕ) (keyed : isEmpty (stateOf (s .state)) ≡ false) where
+  publish-passes : stop s (publish out work) .0 ≡ false
+  unfolding stop
+  publish-passes = keyed
+
+  module _ (a : Published) (e : a ≡ publishedOf (publishNumber (kept (s .key)) out work)) where
+    publish-number : publishedNumber a ≡ lower s (publish out work)
+    unfolding lower
+    publish-number = ap publishedNumber e ∙ published-number _
+
+    pub publish-refused : {x : ℕ} → a ≡ published.Refused x → refusal s (publishedNumber a) ≡ handed s (publish out work) .reply
+    unfolding lower
+    publish-refused h =
+        lower-refused s (publish out work) publish-passes (publishedNumber a) publish-number (λ z. published-refused _ (sym e ∙ h) (sym publish-number ∙ z))
+
+    pub publish-done : a ≡ published.Done → acceptance (record { state = states.Published; key = s .key }) 0 ≡ handed s (publish out work) .reply
+    unfolding lower moved tally
+    publish-done h = lower-accepted s (publish out work) publish-passes (published-done _ (sym e ∙ h))
+
+  pub publish-output : publishOutput (kept (s .key)) out work ≡ handed s (publish out work) .output
+  unfolding publishOutput lower bytes view outputOf
+  publish-output = lower-output s (publish out work) publish-passes
+
+  pub publish-work : handed s (publish out work) .free ≡ false
+      → firstOf (Publish.publishChecks (unsound (kept (s .key))) (kept (s .key)) out work) ≡ 0 → ⊥
+  unfolding handed freed publishChecks heldBy view firstOf
+  publish-work f z =
+      true≢false
+      (sym (eq-eqb _ 0 (ap (λ (b : Bool). cond b 21 (firstOf (Publish.publishChecks (unsound (kept (s .key))) (kept (s .key)) out work))) keyed ∙ z))
+      ∙ sym (step-free (view s) (publish out work)) ∙ f)
+
+-- open and read, with a key
+answer-number : (q w : ℕ) → answerNumber (answerOf q w) ≡ q
+unfolding answerNumber answerOf
+answer-number zero w = refl
+answer-number (suc q) w = refl
+
+answer-ones : (q v : ℕ) {w : ℕ} → answerOf q v ≡ answers.Ones w → (q ≡ 0) × (w ≡ v)
+unfolding answerOf
+answer-ones zero v e = (refl, cc)
+answer-ones (suc q) v e = let z : _≡_ {A = ℕ} 0 1 = cc in absurd (omega arith)
+
+answer-refused : (q v : ℕ) {x : ℕ} → answerOf q v ≡ answers.Refused x → q ≡ 0 → ⊥
+unfolding answerOf
+answer-refused zero v e h = let z : _≡_ {A = ℕ} 0 1 = cc in omega arith
+answer-refused (suc q) v e h = omega arith
+
+module _ (s : Station) (c : Call) (passes : stop s c .0 ≡ false) (a : Answer) (e : a ≡ answerOf (lower s c) (tally (view s) c)) where
+  answered-number : answerNumber a ≡ lower s c
+  answered-number = ap answerNumber e ∙ answer-number _ _
+
+  pub answered-refused : {x : ℕ} → a ≡ answers.Refused x → refusal s (answerNumber a) ≡ handed s c .reply
+  answered-refused h =
+      lower-refused s c passes (answerNumber a) answered-number (λ z. answer-refused _ _ (sym e ∙ h) (sym answered-number ∙ z))
+
+  pub answered-ones : {w : ℕ} → a ≡ answers.Ones w → acceptance (moved s c) w ≡ handed s c .reply
+  answered-ones h =
+      let o = answer-ones _ _ (sym e ∙ h) in
+      ap (acceptance (moved s c)) (o .1) ∙ lower-accepted s c passes (o .0)
+
+not-not : (b : Bool) → not (not b) ≡ b
+not-not true = refl
+not-not false = refl
+
+module _ (s : Station) (capsule out : List ℕ) (keyed : isEmpty (stateOf (s .state)) ≡ false) (b : Bool) (e : b ≡ not (isUnpublished (stateOf (s .state)))) where
+  pub open-passes : stop s (open-capsule capsule out) .0 ≡ false
+  unfolding stop
+  open-passes = keyed
+
+  marked : not b ≡ isUnpublished (stateOf (s .state))
+  marked = ap not e ∙ not-not _
+
+  pub open-answer : Answers.openOf (not b) (kept (s .key)) capsule out ≡ answerOf (lower s (open-capsule capsule out)) (tally (view s) (open-capsule capsule out))
+  unfolding lower tally view Answers.openOf
+  open-answer = ap (λ (u : Bool). Answers.openOf u (kept (s .key)) capsule out) marked
+
+  pub open-output : openOutput (not b) (kept (s .key)) capsule out ≡ handed s (open-capsule capsule out) .output
+  unfolding openOutput patternOutput lower bytes view outputOf
+  open-output =
+      ap (λ (u : Bool). openOutput u (kept (s .key)) capsule out) marked ∙ lower-output s (open-capsule capsule out) open-passes
+
+module _ (s : Station) (word out : List ℕ) (keyed : isEmpty (stateOf (s .state)) ≡ false) where
+  pub read-passes : stop s (read-word word out) .0 ≡ false
+  unfolding stop
+  read-passes = keyed
+
+  pub read-answer : Answers.readOf (kept (s .key)) word out ≡ answerOf (lower s (read-word word out)) (tally (view s) (read-word word out))
+  unfolding lower tally view Answers.readOf
+  read-answer = refl
+
+  pub read-output : readOutput (kept (s .key)) word out ≡ handed s (read-word word out) .output
+  unfolding readOutput patternOutput lower bytes view outputOf
+  read-output = lower-output s (read-word word out) read-passes

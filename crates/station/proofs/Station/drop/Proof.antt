@@ -1,0 +1,39 @@
+-- The state, then the fresh station. Assumes nothing.
+use mathlib.Core.Path.{sym, ap, refl, _∙_}
+use Rattle.ledger.specs.Calls.{drop-key}
+use Rattle.station.specs.Replies.{acceptance, moved}
+use Rattle.station.specs.declared.Station.{Station}
+use Rattle.station.proofs.ReplyLaws.{stop, lower, tally, stopped, lower-accepted}
+use Rattle.station.proofs.Station.drop.Statement.{statement}
+use Rattle.station.proofs.Station.drop.Tie as tie
+
+is-empty-requires : tie.Need-is-empty-requires
+is-empty-requires c κs = tt
+
+refuse-requires : tie.Need-refuse-requires
+refuse-requires c κs = tt
+
+returns : tie.Need-returns
+unfolding stop
+returns c =
+    let i = c .before .before in
+    c .refuse .ensures ∙ stopped (i .before .args .self) drop-key (sym (i .is-empty .ensures) ∙ c .before .if1 .taken) .0
+
+fresh-requires : tie.Need-fresh-requires
+fresh-requires c κs = tt
+
+accept-requires : tie.Need-accept-requires
+accept-requires c κs = tt
+
+returns-2 : tie.Need-returns-2
+unfolding stop lower moved tally
+returns-2 c =
+    let i = c .before .before .before in
+    c .accept .ensures
+    ∙ ap (λ (s : Station). acceptance s 0) (c .before .fresh .ensures)
+    ∙ lower-accepted (i .before .args .self) drop-key (sym (i .is-empty .ensures) ∙ c .before .before .if1 .left) refl
+
+pub drop-spec : {M : Type 1} → statement M
+drop-spec =
+    tie.close
+    (tie.spec is-empty-requires refuse-requires returns fresh-requires accept-requires returns-2)

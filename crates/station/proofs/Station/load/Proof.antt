@@ -1,0 +1,58 @@
+-- The state, then the file. Assumes nothing.
+use mathlib.Core.Path.{sym, ap, _∙_}
+use mathlib.Core.Bool.{not}
+use borrow.Author.Tests.{not-true, not-false}
+use Rattle.ledger.specs.Calls.{load}
+use Rattle.station.proofs.ReplyLaws.{stop, stopped}
+use Rattle.station.proofs.LowerLaws.{load-refused, load-accepted}
+use Rattle.station.proofs.Station.load.Statement.{statement}
+use Rattle.station.proofs.Station.load.Tie as tie
+
+is-empty-requires : tie.Need-is-empty-requires
+is-empty-requires c κs = tt
+
+refuse-requires : tie.Need-refuse-requires
+refuse-requires c κs = tt
+
+returns : tie.Need-returns
+unfolding stop
+returns c =
+    let i = c .before .before in
+    let a = i .before .before .args in
+    c .refuse .ensures ∙ stopped (a .self) (load (a .file .now)) (ap not (sym (i .is-empty .ensures) ∙ not-true _ (c .before .if1 .taken))) .0
+
+load-requires : tie.Need-load-requires
+load-requires c κs = tt
+
+refuse-requires-2 : tie.Need-refuse-requires-2
+refuse-requires-2 c κs = tt
+
+returns-2 : tie.Need-returns-2
+returns-2 c =
+    let i = c .before .before .before .before in
+    let a = i .before .before .args in
+    c .refuse2 .ensures
+    ∙ load-refused (a .self) (a .file .now) (sym (i .is-empty .ensures) ∙ not-false _ (c .before .before .before .if1 .left)) _ (c .before .before .load .ensures) (c .before .if2 .taken)
+
+accept-requires : tie.Need-accept-requires
+accept-requires c κs = tt
+
+returns-3 : tie.Need-returns-3
+returns-3 c =
+    let i = c .before .before .before .before .before in
+    let a = i .before .before .args in
+    c .accept .ensures
+    ∙ load-accepted (a .self) (a .file .now) (sym (i .is-empty .ensures) ∙ not-false _ (c .before .before .before .before .if1 .left)) _ (c .before .before .before .load .ensures) (c .before .before .if2 .left)
+
+pub load-spec : {M : Type 1} → statement M
+load-spec =
+    tie.close
+    (tie.spec
+    is-empty-requires
+    refuse-requires
+    returns
+    load-requires
+    refuse-requires-2
+    returns-2
+    accept-requires
+    returns-3)

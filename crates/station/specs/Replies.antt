@@ -1,0 +1,81 @@
+-- What the five calls hand back: the numbers, ones and bytes of the station's definitions, and the new station with its arrays.
+-- Assumes nothing.
+use Prim.Native.Nat.{ℕ, zero, suc}
+use mathlib.Core.Bool.{Bool}
+use mathlib.Core.List.{List, [], _∷_}
+use Rattle.key.specs.Keys.{parse}
+use Rattle.key.specs.Kept.{kept, keep, noKey}
+use Rattle.publishing.specs.declared.Published.{Published}
+use Rattle.publishing.specs.declared.Published.the-variants as published
+use Rattle.reading.specs.declared.calls.Answer.{Answer}
+use Rattle.reading.specs.declared.calls.Answer.the-variants as answers
+use Rattle.ledger.specs.Station as Definition
+use Rattle.ledger.specs.Calls.{Call, load, publish, open-capsule, read-word, drop-key, step}
+use Rattle.station.specs.declared.State.{State}
+use Rattle.station.specs.declared.State.the-variants.{Empty, Loaded, Published as IsPublished}
+use Rattle.station.specs.declared.Station.{Station}
+use Rattle.station.specs.declared.Reply.{Reply}
+
+-- the three states
+unfoldable pub stateOf : State → Definition.State
+stateOf Empty = Definition.empty
+stateOf Loaded = Definition.loaded
+stateOf IsPublished = Definition.published
+
+-- the station of the definitions: the state, and the key without what lies past n and t
+unfoldable pub view : Station → Definition.Station
+view s = record { state = stateOf (s .state); key = kept (s .key) }
+
+-- the number in a lower answer, and 0 where it is no refusal
+unfoldable pub publishedNumber : Published → ℕ
+publishedNumber published.Done = 0
+publishedNumber (published.Refused n) = n
+
+unfoldable pub answerNumber : Answer → ℕ
+answerNumber (answers.Ones w) = 0
+answerNumber (answers.Refused n) = n
+
+-- the empty station, with zeros only
+unfoldable pub freshStation : Station
+freshStation = record { state = Empty; key = noKey }
+
+-- the station after a call that is accepted
+unfoldable pub moved : Station → Call → Station
+moved s (load file) = record { state = Loaded; key = keep (parse file) }
+moved s (publish out work) = record { state = IsPublished; key = s .key }
+moved s (open-capsule capsule out) = s
+moved s (read-word word out) = s
+moved s drop-key = freshStation
+
+-- refused: the station as it was
+unfoldable pub refusal : Station → ℕ → Reply
+refusal s n = record { station = s; refused = n; ones = 0 }
+
+unfoldable pub acceptance : Station → ℕ → Reply
+acceptance s w = record { station = s; refused = 0; ones = w }
+
+unfoldable pub replyOf : ℕ → Station → Station → ℕ → Reply
+replyOf zero s next w = acceptance next w
+replyOf (suc n) s next w = refusal s (suc n)
+
+-- What a call leaves: its reply, the output buffer, and whether the contents of publish's workspace are free; else it is unchanged.
+pub record Handed : Type 0 where
+  pub reply : Reply
+  pub output : List ℕ
+  pub free : Bool
+
+-- a call on a station
+unfoldable pub handed : Station → Call → Handed
+handed s c =
+    let r : Definition.Result = step (view s) c in
+    record { reply = replyOf (r .number) s (moved s c) (r .count); output = r .output; free = r .free }
+
+-- the station after a list of calls
+unfoldable pub run : Station → List Call → Station
+run s [] = s
+run s (c ∷ cs) = run (handed s c .reply .station) cs
+
+-- the number that each call was answered with
+unfoldable pub answered : Station → List Call → List ℕ
+answered s [] = []
+answered s (c ∷ cs) = handed s c .reply .refused ∷ answered (handed s c .reply .station) cs
