@@ -12,6 +12,10 @@ use Rattle.key.specs.declared.shape.Sizes.{Sizes}
 use Rattle.key.specs.declared.kept.Key.{Key}
 use Rattle.key.specs.declared.file.Loaded.{Loaded}
 
+-- a kept key by its parts
+abbrev pub parts : ℕ → ℕ → ℕ → List ℕ → List ℕ → Key
+parts m n t support g = record { m = m; n = n; t = t; support = support; g = g }
+
 -- the key of a kept one
 unfoldable pub kept : Key → Keys.Key
 kept k = record { m = k .m; n = k .n; t = k .t; support = take (k .n) (k .support); g = take (k .t) (k .g) }

@@ -1,5 +1,4 @@
 // The check of a kept key.
-use super::kept::Key;
 use super::shape::in_limits;
 ghost use mathlib.Core.Path.{_≡_};
 ghost use mathlib.Core.Bool.{true, not};
@@ -11,7 +10,7 @@ ghost use Rattle.field.specs.Field.{isWidth};
 ghost use Rattle.field.specs.Numbers.{firstOf};
 ghost use Rattle.key.specs.Keys.{keyNumber};
 ghost use Rattle.key.specs.Parts.{distinctBelow, noRoot, faults as faultsOf};
-ghost use Rattle.key.specs.Kept.{kept};
+ghost use Rattle.key.specs.Kept.{kept, parts};
 
 // Each number is below 8192, and none stands twice: bit x of seen is 1 for each x passed.
 pub fn distinct(s: &[u16]) -> bool
@@ -79,34 +78,25 @@ fn faults(m: u8, s: &[u16], g: &[u16]) -> u8
     0
 }
 
-// The same of the first n and t numbers of a kept key.
-fn kept_faults<'a>(m: u8, n: usize, t: usize, support: &'a [u16; 8192], g: &'a [u16; 128]) -> u8
-    requires { ⌜ (isWidth m ≡ true) × (n ≤ 8192) × (t ≤ 128) ⌝ }
-    ensures { λ r. ⌜ r ≡ firstOf (faultsOf m (take n (now (support .entry))) (take t (now (g .entry)))) ⌝ }
+// The number of a kept key, lent by its parts: 1 to 7, and 0 for one that load accepts.
+pub fn check<'a>(m: u8, n: u16, t: u16, support: &'a [u16; 8192], g: &'a [u16; 128]) -> u8
+    ensures { λ r. ⌜ r ≡ keyNumber (kept (parts m n t (now (support .entry)) (now (g .entry)))) ⌝ }
 {
     let s = &support[..];
     let h = &g[..];
-    faults(m, &s[..n], &h[..t])
-}
-
-// The number of a kept key, 1 to 7, and 0 for one that load accepts.
-pub fn check(key: Key) -> u8
-    ensures { λ r. ⌜ r ≡ keyNumber (kept key) ⌝ }
-{
-    let m = key.m;
-    let n = key.n;
-    let t = key.t;
+    let places = n as usize;
+    let errors = t as usize;
     if field::modulus(m) == 0 {
         return 1;
     }
-    if 8192 < n {
+    if s.len() < places {
         return 2;
     }
-    if 128 < t {
+    if h.len() < errors {
         return 2;
     }
     if !in_limits(m, n, t) {
         return 3;
     }
-    kept_faults(m, n as usize, t as usize, &key.support, &key.g)
+    faults(m, &s[..places], &h[..errors])
 }

@@ -109,7 +109,7 @@ pub fn load(file: &[u8]) -> Loaded
         };
     }
     let key = read(file);
-    let y = check(key);
+    let y = check(key.m, key.n, key.t, &key.support, &key.g);
     if y != 0 {
         return Loaded {
             refused: y,

@@ -11,6 +11,11 @@ pub struct Key {
     pub g: [u16; 128],
 }
 
+impl Key {
+    // The limit on t.
+    pub const MOST_ERRORS: u16 = 128;
+}
+
 // The key of zeros.
 pub fn none() -> Key
     ensures { λ r. ⌜ r ≡ noKey ⌝ }

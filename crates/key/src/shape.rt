@@ -1,4 +1,5 @@
 // Shapes (m, n, t), their limits and the standard's five.
+use super::kept::Key;
 ghost use mathlib.Core.Path.{_≡_};
 ghost use Rattle.key.specs.Shapes.{inLimits};
 ghost use Rattle.key.specs.Answers.{shapeOf};
@@ -64,7 +65,7 @@ pub fn in_limits(m: u8, n: u16, t: u16) -> bool
     if t < 1 {
         return false;
     }
-    if 128 < t {
+    if Key::MOST_ERRORS < t {
         return false;
     }
     if (n as u32) <= (m as u32) * (t as u32) {

@@ -21,13 +21,6 @@ use Rattle.elimination.specs.Elimination.{eliminates}
 use Rattle.elimination.proofs.Sizes.{sizes-fit, eliminated}
 use Rattle.publishing.proofs.Checks.{Sizes}
 
--- the key of a kept one, by its parts
-pub kept-parts : (k : Key) → k .n ≤ length (k .support) → k .t ≤ length (k .g) → keyOf (k .m) (take (k .n) (k .support)) (take (k .t) (k .g)) ≡ kept k
-unfolding keyOf kept
-kept-parts k h l =
-    ap₂ {C = Keys.Key} (λ (n t : ℕ). record { m = k .m; n = n; t = t; support = take (k .n) (k .support); g = take (k .t) (k .g) })
-    (length-take-le (k .n) (k .support) h) (length-take-le (k .t) (k .g) l)
-
 module _ (k : Keys.Key) (z : Sizes k) (w : List ℕ) (room : k .m * k .t * bytesFor (k .n) ≤ length w)
     (rows : rowsOf (k .m * k .t) (k .n) w ≡ parityRows k) where
   -- elimination looks at the columns of H

@@ -2,14 +2,13 @@
 mod parity;
 mod rows;
 
-use key::kept::Key;
 ghost use mathlib.Core.Path.{_≡_};
 ghost use mathlib.Core.Bool.{not};
 ghost use lib.ListN.{length};
 ghost use Rattle.bits.specs.Bits.{over};
 ghost use Rattle.field.specs.Numbers.{firstOf};
 ghost use Rattle.key.specs.Keys.{unsound};
-ghost use Rattle.key.specs.Kept.{kept};
+ghost use Rattle.key.specs.Kept.{kept, parts};
 ghost use Rattle.code.specs.PublicKey.{publicKey, dependent, written};
 ghost use Rattle.code.specs.Publish.{publishChecks, publishNumber, publishOutput};
 ghost use Rattle.publishing.specs.Published.{publishedOf, sizeChecks};
@@ -21,53 +20,77 @@ pub enum Published {
 }
 
 // The first of the numbers 25, 10 and 11, and 0 where there is none.
-fn refusal(key: Key, out: usize, work: usize) -> u8
-    ensures { λ r. ⌜ r ≡ firstOf (sizeChecks (unsound (kept key)) (kept key) out work) ⌝ }
+fn refusal<'a>(
+    m: u8,
+    n: u16,
+    t: u16,
+    support: &'a [u16; 8192],
+    g: &'a [u16; 128],
+    out: usize,
+    work: usize,
+) -> u8
+    ensures { λ r. ⌜ r ≡ (let k = kept (parts m n t (now (support .entry)) (now (g .entry))) in firstOf (sizeChecks (unsound k) k out work)) ⌝ }
 {
-    if key::checks::check(key) != 0 {
+    if key::checks::check(m, n, t, support, g) != 0 {
         return 25;
     }
-    let n = key.n as usize;
-    let rows = (key.m as usize) * (key.t as usize);
-    if out < rows * bits::bytes_for(n - rows) {
+    let places = n as usize;
+    let rows = (m as usize) * (t as usize);
+    if out < rows * bits::bytes_for(places - rows) {
         return 10;
     }
-    if work < rows * bits::bytes_for(n) {
+    if work < rows * bits::bytes_for(places) {
         return 11;
     }
     0
 }
 
 // T from the start of out, made in work; false where there is none.
-fn make(key: Key, out: &mut [u8], work: &mut [u8]) -> bool
-    requires { ⌜ firstOf (sizeChecks (unsound (kept key)) (kept key) (length (now out)) (length (now work))) ≡ 0 ⌝ }
-    ensures { λ r. ⌜ r ≡ not (dependent (kept key)) ⌝ }
-    ensures { λ _. ⌜ now (out .exit) ≡ over (written (publicKey (kept key))) (now (out .entry)) ⌝ }
+fn make<'a>(
+    m: u8,
+    n: u16,
+    t: u16,
+    support: &'a [u16; 8192],
+    g: &'a [u16; 128],
+    out: &mut [u8],
+    work: &mut [u8],
+) -> bool
+    requires { ⌜ (let k = kept (parts m n t (now support) (now g)) in firstOf (sizeChecks (unsound k) k (length (now out)) (length (now work))) ≡ 0) ⌝ }
+    ensures { λ r. ⌜ r ≡ not (dependent (kept (parts m n t (now (support .entry)) (now (g .entry))))) ⌝ }
+    ensures { λ _. ⌜ now (out .exit) ≡ over (written (publicKey (kept (parts m n t (now (support .entry)) (now (g .entry)))))) (now (out .entry)) ⌝ }
 {
-    let n = key.n as usize;
-    let t = key.t as usize;
-    let rows = (key.m as usize) * t;
-    parity::key_rows(work, key.m, n, t, &key.support, &key.g);
-    if !elimination::eliminate(work, rows, n) {
+    let places = n as usize;
+    let errors = t as usize;
+    let rows = (m as usize) * errors;
+    parity::key_rows(work, m, places, errors, support, g);
+    if !elimination::eliminate(work, rows, places) {
         return false;
     }
-    rows::write_rows(out, work, rows, n);
+    rows::write_rows(out, work, rows, places);
     true
 }
 
-// The public key of a kept key from the start of out; bytes beyond keep their contents. Once the checks before 23 have passed
-// the contents of work are free.
-pub fn publish(key: Key, out: &mut [u8], work: &mut [u8]) -> Published
-    ensures { λ r. ⌜ r ≡ publishedOf (publishNumber (kept key) (now (out .entry)) (now (work .entry))) ⌝ }
-    ensures { λ _. ⌜ now (out .exit) ≡ publishOutput (kept key) (now (out .entry)) (now (work .entry)) ⌝ }
-    ensures { λ _. ⌜ ((firstOf (publishChecks (unsound (kept key)) (kept key) (now (out .entry)) (now (work .entry))) ≡ 0 → ⊥)
-        → now (work .exit) ≡ now (work .entry)) ⌝ }
+// The public key of a kept key, lent by its parts, from the start of out; bytes beyond keep their contents. Once the checks
+// before 23 have passed the contents of work are free.
+pub fn publish<'a>(
+    m: u8,
+    n: u16,
+    t: u16,
+    support: &'a [u16; 8192],
+    g: &'a [u16; 128],
+    out: &mut [u8],
+    work: &mut [u8],
+) -> Published
+    ensures { λ r. ⌜ r ≡ publishedOf (publishNumber (kept (parts m n t (now (support .entry)) (now (g .entry)))) (now (out .entry)) (now (work .entry))) ⌝ }
+    ensures { λ _. ⌜ now (out .exit) ≡ publishOutput (kept (parts m n t (now (support .entry)) (now (g .entry)))) (now (out .entry)) (now (work .entry)) ⌝ }
+    ensures { λ _. ⌜ (let k = kept (parts m n t (now (support .entry)) (now (g .entry))) in
+        (firstOf (publishChecks (unsound k) k (now (out .entry)) (now (work .entry))) ≡ 0 → ⊥) → now (work .exit) ≡ now (work .entry)) ⌝ }
 {
-    let x = refusal(key, out.len(), work.len());
+    let x = refusal(m, n, t, support, g, out.len(), work.len());
     if x != 0 {
         return Published::Refused(x);
     }
-    if !make(key, out, work) {
+    if !make(m, n, t, support, g, out, work) {
         return Published::Refused(23);
     }
     Published::Done

@@ -17,6 +17,7 @@ use Rattle.key.specs.Keys.{keyNumber, keyOf}
 use Rattle.key.specs.Keys as Keys
 use Rattle.key.specs.Kept.{kept}
 use Rattle.key.specs.declared.kept.Key.{Key}
+use Rattle.key.proofs.Parts.{kept-sizes, keyOf-kept}
 use Rattle.key.proofs.Accepted.{Accepted, accepted}
 use Rattle.decoder.specs.Reading.{reading}
 use Rattle.decoder.specs.Decoding.{squareSums, places, located, explained}
@@ -108,24 +109,15 @@ module _ (m : ℕ) (support g : List ℕ) (z : keyNumber (keyOf m support g) ≡
 
 -- the kept key that is accepted, by its numbers
 module _ (k : Key) (z : keyNumber (kept k) ≡ 0) where
-  pub kept-sizes : (length (take (k .n) (k .support)) ≡ k .n) × (length (take (k .t) (k .g)) ≡ k .t)
-  unfolding kept
-  kept-sizes = let A : Accepted (kept k) = accepted (kept k) z in (A .support-length, A .g-length)
-
-  pub keyOf-kept : keyOf (k .m) (take (k .n) (k .support)) (take (k .t) (k .g)) ≡ kept k
-  unfolding keyOf kept
-  keyOf-kept =
-      ap₂ (λ (n t : ℕ). record { m = k .m; n = n; t = t; support = take (k .n) (k .support); g = take (k .t) (k .g) }) (kept-sizes .0) (kept-sizes .1)
-
   pub kept-sized : (k .n ≤ 8192) × (k .t ≤ 128) × (keyNumber (keyOf (k .m) (take (k .n) (k .support)) (take (k .t) (k .g))) ≡ 0)
   kept-sized =
-      let e : keyNumber (keyOf (k .m) (take (k .n) (k .support)) (take (k .t) (k .g))) ≡ 0 = ap keyNumber keyOf-kept ∙ z in
+      let e : keyNumber (keyOf (k .m) (take (k .n) (k .support)) (take (k .t) (k .g))) ≡ 0 = ap keyNumber (keyOf-kept k z) ∙ z in
       let s = sized (k .m) (take (k .n) (k .support)) (take (k .t) (k .g)) e in
-      (omega (arith, kept-sizes .0, s .support-few), omega (arith, kept-sizes .1, s .g-few), e)
+      (omega (arith, kept-sizes k z .0, s .support-few), omega (arith, kept-sizes k z .1, s .g-few), e)
 
   pub kept-reading : (word : List ℕ)
       → explained (keyOf (k .m) (take (k .n) (k .support)) (take (k .t) (k .g))) (unpack (k .n) word) ≡ reading (kept k) (unpack (k .n) word)
   unfolding kept
   kept-reading word =
-      ap (λ (x : Keys.Key). explained x (unpack (k .n) word)) keyOf-kept
+      ap (λ (x : Keys.Key). explained x (unpack (k .n) word)) (keyOf-kept k z)
       ∙ sym (reading-explained (kept k) (accepted (kept k) z) (row-unpack (k .n) word))

@@ -1,15 +1,14 @@
-// The calls read and open on a kept key.
+// The calls read and open on a kept key, lent by its parts.
 use super::decoding::Found;
 use super::decoding::decode;
 use key::checks::check;
-use key::kept::Key;
 ghost use mathlib.Core.Path.{_≡_};
 ghost use mathlib.Core.Bool.{not};
 ghost use Prim.Native.Nat.{_≤_};
 ghost use lib.ListN.{length, take};
 ghost use Rattle.bits.specs.Bits.{bytesFor, over};
 ghost use Rattle.field.specs.Numbers.{firstOf};
-ghost use Rattle.key.specs.Kept.{kept};
+ghost use Rattle.key.specs.Kept.{kept, parts};
 ghost use Rattle.decoder.specs.Calls.{openOutput, readOutput};
 ghost use Rattle.reading.specs.Answers.{bufferChecks, openChecks, readChecks, countedOf, openOf, readOf};
 
@@ -36,29 +35,45 @@ fn buffers(k: usize, n: usize, row: &[u8], len: usize) -> u8
 }
 
 // The first of 25, 8, 9 and 10 for a word, and 0 where there is none.
-fn read_refusal(key: Key, word: &[u8], len: usize) -> u8
-    ensures { λ r. ⌜ r ≡ firstOf (readChecks (kept key) (now (word .entry)) len) ⌝ }
+fn read_refusal<'a>(
+    m: u8,
+    n: u16,
+    t: u16,
+    support: &'a [u16; 8192],
+    g: &'a [u16; 128],
+    word: &[u8],
+    len: usize,
+) -> u8
+    ensures { λ r. ⌜ r ≡ firstOf (readChecks (kept (parts m n t (now (support .entry)) (now (g .entry)))) (now (word .entry)) len) ⌝ }
 {
-    if check(key) != 0 {
+    if check(m, n, t, support, g) != 0 {
         return 25;
     }
-    let n = key.n as usize;
-    buffers(n, n, word, len)
+    let places = n as usize;
+    buffers(places, places, word, len)
 }
 
 // The first of 25, 24, 8, 9 and 10 for a capsule, and 0 where there is none.
-fn open_refusal(key: Key, published: bool, capsule: &[u8], len: usize) -> u8
-    ensures { λ r. ⌜ r ≡ firstOf (openChecks (not published) (kept key) (now (capsule .entry)) len) ⌝ }
+fn open_refusal<'a>(
+    m: u8,
+    n: u16,
+    t: u16,
+    support: &'a [u16; 8192],
+    g: &'a [u16; 128],
+    published: bool,
+    capsule: &[u8],
+    len: usize,
+) -> u8
+    ensures { λ r. ⌜ r ≡ firstOf (openChecks (not published) (kept (parts m n t (now (support .entry)) (now (g .entry)))) (now (capsule .entry)) len) ⌝ }
 {
-    if check(key) != 0 {
+    if check(m, n, t, support, g) != 0 {
         return 25;
     }
     if !published {
         return 24;
     }
-    let k = (key.m as usize) * (key.t as usize);
-    let n = key.n as usize;
-    buffers(k, n, capsule, len)
+    let k = (m as usize) * (t as usize);
+    buffers(k, n as usize, capsule, len)
 }
 
 // The number of ones of the pattern found, or 14 where there is none.
@@ -95,40 +110,57 @@ fn give(out: &mut [u8], e: Found, n: usize)
 }
 
 // Reading a word: its pattern is written from the output's start, and nothing on refusal, with 25, 8, 9, 10 or 14.
-pub fn read(key: Key, word: &[u8], out: &mut [u8]) -> Answer
-    ensures answer { λ r. ⌜ r ≡ readOf (kept key) (now (word .entry)) (now (out .entry)) ⌝ }
-    ensures output { λ _. ⌜ now (out .exit) ≡ readOutput (kept key) (now (word .entry)) (now (out .entry)) ⌝ }
+pub fn read<'a>(
+    m: u8,
+    n: u16,
+    t: u16,
+    support: &'a [u16; 8192],
+    g: &'a [u16; 128],
+    word: &[u8],
+    out: &mut [u8],
+) -> Answer
+    ensures answer { λ r. ⌜ r ≡ readOf (kept (parts m n t (now (support .entry)) (now (g .entry)))) (now (word .entry)) (now (out .entry)) ⌝ }
+    ensures output { λ _. ⌜ now (out .exit) ≡ readOutput (kept (parts m n t (now (support .entry)) (now (g .entry)))) (now (word .entry)) (now (out .entry)) ⌝ }
 {
-    let x = read_refusal(key, word, out.len());
+    let x = read_refusal(m, n, t, support, g, word, out.len());
     if x != 0 {
         return Answer::Refused(x);
     }
-    let e = decode(key, word);
-    let answer = counted(e, key.n);
+    let e = decode(m, n, t, support, g, word);
+    let answer = counted(e, n);
     let Answer::Ones(w) = answer else {
         return answer;
     };
-    give(out, e, key.n as usize);
+    give(out, e, n as usize);
     Answer::Ones(w)
 }
 
 // Opening a capsule, the word whose other bits are 0, where the pattern has t ones; 25, 24, 8, 9, 10 or 13 on refusal.
-pub fn open(key: Key, published: bool, capsule: &[u8], out: &mut [u8]) -> Answer
-    ensures answer { λ r. ⌜ r ≡ openOf (not published) (kept key) (now (capsule .entry)) (now (out .entry)) ⌝ }
-    ensures output { λ _. ⌜ now (out .exit) ≡ openOutput (not published) (kept key) (now (capsule .entry)) (now (out .entry)) ⌝ }
+pub fn open<'a>(
+    m: u8,
+    n: u16,
+    t: u16,
+    support: &'a [u16; 8192],
+    g: &'a [u16; 128],
+    published: bool,
+    capsule: &[u8],
+    out: &mut [u8],
+) -> Answer
+    ensures answer { λ r. ⌜ r ≡ openOf (not published) (kept (parts m n t (now (support .entry)) (now (g .entry)))) (now (capsule .entry)) (now (out .entry)) ⌝ }
+    ensures output { λ _. ⌜ now (out .exit) ≡ openOutput (not published) (kept (parts m n t (now (support .entry)) (now (g .entry)))) (now (capsule .entry)) (now (out .entry)) ⌝ }
 {
-    let x = open_refusal(key, published, capsule, out.len());
+    let x = open_refusal(m, n, t, support, g, published, capsule, out.len());
     if x != 0 {
         return Answer::Refused(x);
     }
-    let e = decode(key, capsule);
-    let answer = counted(e, key.n);
+    let e = decode(m, n, t, support, g, capsule);
+    let answer = counted(e, n);
     let Answer::Ones(ones) = answer else {
         return Answer::Refused(13);
     };
-    if ones != key.t {
+    if ones != t {
         return Answer::Refused(13);
     }
-    give(out, e, key.n as usize);
+    give(out, e, n as usize);
     Answer::Ones(ones)
 }

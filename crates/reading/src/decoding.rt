@@ -2,13 +2,11 @@
 use super::places::located;
 use super::sums::same;
 use super::sums::word_sums;
-use key::kept::Key;
 ghost use mathlib.Core.Path.{_≡_};
-ghost use Prim.Native.Nat.{_≤_};
-ghost use lib.ListN.{length, take};
+ghost use lib.ListN.{length};
 ghost use Rattle.bits.specs.Bits.{unpack};
 ghost use Rattle.key.specs.Keys.{keyNumber, keyOf};
-ghost use Rattle.key.specs.Kept.{kept};
+ghost use Rattle.key.specs.Kept.{kept, parts};
 ghost use Rattle.decoder.specs.Reading.{reading};
 ghost use Rattle.decoder.specs.Decoding.{explained};
 ghost use Rattle.reading.specs.Answers.{foundOf};
@@ -46,30 +44,19 @@ fn explain(m: u8, support: &[u16], g: &[u16], word: &[u8]) -> Found
     }
 }
 
-// The same with the first n and t numbers of a kept key.
-fn kept_explain<'a>(
+// The pattern that reading a word gives at a kept key that load accepts; bits past the word's last byte are 0.
+pub fn decode<'a>(
     m: u8,
-    n: usize,
-    t: usize,
+    n: u16,
+    t: u16,
     support: &'a [u16; 8192],
     g: &'a [u16; 128],
     word: &[u8],
 ) -> Found
-    requires { ⌜ (n ≤ 8192) × (t ≤ 128) × (keyNumber (keyOf m (take n (now support)) (take t (now g))) ≡ 0) ⌝ }
-    ensures { λ r. ⌜ r ≡ foundOf (explained (keyOf m (take n (now (support .entry))) (take t (now (g .entry)))) (unpack n (now (word .entry)))) ⌝ }
+    requires { ⌜ keyNumber (kept (parts m n t (now support) (now g))) ≡ 0 ⌝ }
+    ensures { λ r. ⌜ r ≡ foundOf (reading (kept (parts m n t (now (support .entry)) (now (g .entry)))) (unpack n (now (word .entry)))) ⌝ }
 {
     let s = &support[..];
     let h = &g[..];
-    explain(m, &s[..n], &h[..t], word)
-}
-
-// The pattern that reading a word gives at a kept key that load accepts; bits past the word's last byte are 0.
-pub fn decode(key: Key, word: &[u8]) -> Found
-    requires { ⌜ keyNumber (kept key) ≡ 0 ⌝ }
-    ensures { λ r. ⌜ r ≡ foundOf (reading (kept key) (unpack (key .n) (now (word .entry)))) ⌝ }
-{
-    let m = key.m;
-    let n = key.n;
-    let t = key.t;
-    kept_explain(m, n as usize, t as usize, &key.support, &key.g, word)
+    explain(m, &s[..n as usize], &h[..t as usize], word)
 }

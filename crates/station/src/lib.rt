@@ -71,8 +71,8 @@ fn answer_number(answer: Answer) -> u8
 }
 
 impl Station {
-    // The limit on t.
-    pub const MOST_ERRORS: usize = 128;
+    // The limit on t, 128.
+    pub const MOST_ERRORS: u16 = Key::MOST_ERRORS;
 
     // The limit on the register's list, 256.
     pub const LONGEST: usize = poly::Registered::LONGEST;
@@ -141,14 +141,21 @@ impl Station {
         if is_empty(state) {
             return self.refuse(21);
         }
-        let key = self.key;
-        let answer = publishing::publish(key, out, work);
+        let answer = publishing::publish(
+            self.key.m,
+            self.key.n,
+            self.key.t,
+            &self.key.support,
+            &self.key.g,
+            out,
+            work,
+        );
         let Published::Done = answer else {
             return self.refuse(published_number(answer));
         };
         let station = Station {
             state: State::Published,
-            key,
+            key: self.key,
         };
         station.accept(0)
     }
@@ -162,8 +169,16 @@ impl Station {
         if is_empty(state) {
             return self.refuse(21);
         }
-        let key = self.key;
-        let answer = reading::open(key, is_published(state), capsule, out);
+        let answer = reading::open(
+            self.key.m,
+            self.key.n,
+            self.key.t,
+            &self.key.support,
+            &self.key.g,
+            is_published(state),
+            capsule,
+            out,
+        );
         let Answer::Ones(w) = answer else {
             return self.refuse(answer_number(answer));
         };
@@ -179,8 +194,15 @@ impl Station {
         if is_empty(state) {
             return self.refuse(21);
         }
-        let key = self.key;
-        let answer = reading::read(key, word, out);
+        let answer = reading::read(
+            self.key.m,
+            self.key.n,
+            self.key.t,
+            &self.key.support,
+            &self.key.g,
+            word,
+            out,
+        );
         let Answer::Ones(w) = answer else {
             return self.refuse(answer_number(answer));
         };

@@ -81,7 +81,15 @@ fn key_of(line: &[u8]) -> key::file::Loaded {
 fn publishes(key: Key, public: Bytes, line: &[u8]) -> bool {
     let mut out = [FILLER; 64];
     let mut work = [0u8; 64];
-    let x = published(publishing::publish(key, &mut out, &mut work));
+    let x = published(publishing::publish(
+        key.m,
+        key.n,
+        key.t,
+        &key.support,
+        &key.g,
+        &mut out,
+        &mut work,
+    ));
     x as u16 == refused(line, 1) && holds(&out, public)
 }
 
@@ -91,7 +99,15 @@ fn reads(key: Key, line: &[u8]) -> bool {
     let b = bytes_of(line, 1);
     let word = b.bytes;
     let n = size(&word, b.count);
-    let r = outcome_of(reading::read(key, &word[..n], &mut out));
+    let r = outcome_of(reading::read(
+        key.m,
+        key.n,
+        key.t,
+        &key.support,
+        &key.g,
+        &word[..n],
+        &mut out,
+    ));
     r.refused as u16 == refused(line, 2)
         && r.ones == number_of(line, 4)
         && holds(&out, output(line, 2))
@@ -103,7 +119,16 @@ fn opens(key: Key, line: &[u8]) -> bool {
     let b = bytes_of(line, 1);
     let capsule = b.bytes;
     let n = size(&capsule, b.count);
-    let r = outcome_of(reading::open(key, true, &capsule[..n], &mut out));
+    let r = outcome_of(reading::open(
+        key.m,
+        key.n,
+        key.t,
+        &key.support,
+        &key.g,
+        true,
+        &capsule[..n],
+        &mut out,
+    ));
     let ones = if r.refused == 0 { key.t } else { 0 };
     r.refused as u16 == refused(line, 2) && r.ones == ones && holds(&out, output(line, 2))
 }

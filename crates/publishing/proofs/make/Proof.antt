@@ -7,28 +7,21 @@ use borrow.Author.Needs.{needs}
 use borrow.Author.Tests.{not-true, not-false}
 use lib.ListN.{length}
 use Rattle.bits.specs.Bits.{bytesFor, over}
-use Rattle.key.specs.Kept.{kept}
+use Rattle.key.specs.Kept.{kept, parts}
+use Rattle.key.proofs.Parts.{keyOf-kept}
 use Rattle.code.specs.Code.{parityRows}
 use Rattle.code.specs.Lock.{rowsOf}
 use Rattle.publishing.proofs.Checks.{Sizes, sizes, checks-clear}
-use Rattle.publishing.proofs.Made.{kept-parts, dependent-made, nothing-written, independent-made, columns-written}
+use Rattle.publishing.proofs.Made.{dependent-made, nothing-written, independent-made, columns-written}
 use Rattle.publishing.proofs.make.Statement.{statement}
 use Rattle.publishing.proofs.make.Tie as tie
-
-cast-n : tie.Need-cast-n
-cast-n c = search needs
-
-cast-t : tie.Need-cast-t
-cast-t c = search needs
-
-cast-rows : tie.Need-cast-rows
-cast-rows c = search needs
 
 mul-rows : tie.Need-mul-rows
 unfolding kept
 mul-rows c =
     let b = c .before .before in
-    let k = b .args .t1 in
+    let a = b .args in
+    let k = parts (a .m) (a .n) (a .t) (a .support .now) (a .g .now) in
     let f = checks-clear (kept k) _ _ (b .pre) in
     let z : Sizes (kept k) = sizes (kept k) (f .0) in
     omega (arith, z .rows, z .columns)
@@ -36,8 +29,9 @@ mul-rows c =
 key-rows-requires : tie.Need-key-rows-requires
 unfolding kept
 key-rows-requires c κs =
-    let b = c .before .before .before .before .before .before in
-    let k = b .args .t1 in
+    let b = c .before .before .before in
+    let a = b .args in
+    let k = parts (a .m) (a .n) (a .t) (a .support .now) (a .g .now) in
     let f = checks-clear (kept k) _ _ (b .pre) in
     let z : Sizes (kept k) = sizes (kept k) (f .0) in
     (z .width, z .columns, z .degree, f .2)
@@ -51,26 +45,26 @@ same-length c = search needs
 returns : tie.Need-returns
 unfolding kept
 returns c =
-    let b = c .before .before .before .before .before .before .before .before .before .before .before .before .before .before in
-    let k = b .args .t1 in
+    let b = c .before .before .before .before .before .before .before .before .before .before .before in
+    let a = b .args in
+    let k = parts (a .m) (a .n) (a .t) (a .support .now) (a .g .now) in
     let q = c .before .before .before .before .before .before .before .key-rows in
     let w : List ℕ = q .last .0 in
-    let s : length (k .support) ≡ 8192 = search needs in
-    let g : length (k .g) ≡ 128 = search needs in
     let f = checks-clear (kept k) _ _ (b .pre) in
     let z : Sizes (kept k) = sizes (kept k) (f .0) in
     let l : length w ≡ length (b .args .work .now) = q .kept .0 in
     let room : k .m * k .t * bytesFor (k .n) ≤ length w = omega (arith, f .2) in
     let rows : rowsOf (k .m * k .t) (k .n) w ≡ parityRows (kept k) =
-    q .ensures ∙ ap parityRows (kept-parts k (omega (arith, z .columns)) (omega (arith, z .degree))) in
+    q .ensures ∙ ap parityRows (keyOf-kept k (f .0)) in
     let e = sym (c .before .before .before .eliminate .ensures .0) ∙ not-true _ (c .if1 .taken) in
     (dependent-made (kept k) z w room rows e, nothing-written (kept k) z w room rows e (b .args .out .now))
 
 write-rows-requires : tie.Need-write-rows-requires
 unfolding kept
 write-rows-requires c κs =
-    let b = c .before .before .before .before .before .before .before .before .before .before .before .before .before .before .before .before in
-    let k = b .args .t1 in
+    let b = c .before .before .before .before .before .before .before .before .before .before .before .before .before in
+    let a = b .args in
+    let k = parts (a .m) (a .n) (a .t) (a .support .now) (a .g .now) in
     let f = checks-clear (kept k) _ _ (b .pre) in
     let z : Sizes (kept k) = sizes (kept k) (f .0) in
     (omega (arith, z .rows), z .columns, omega (arith, f .1))
@@ -84,18 +78,17 @@ same-length-3 c = search needs
 returns-2 : tie.Need-returns-2
 unfolding kept
 returns-2 c =
-    let b = c .before .before .before .before .before .before .before .before .before .before .before .before .before .before .before .before .before .before .before in
-    let k = b .args .t1 in
+    let b = c .before .before .before .before .before .before .before .before .before .before .before .before .before .before .before .before in
+    let a = b .args in
+    let k = parts (a .m) (a .n) (a .t) (a .support .now) (a .g .now) in
     let q = c .before .before .before .before .before .before .before .before .before .before .before .before .key-rows in
     let w : List ℕ = q .last .0 in
-    let s : length (k .support) ≡ 8192 = search needs in
-    let g : length (k .g) ≡ 128 = search needs in
     let f = checks-clear (kept k) _ _ (b .pre) in
     let z : Sizes (kept k) = sizes (kept k) (f .0) in
     let l : length w ≡ length (b .args .work .now) = q .kept .0 in
     let room : k .m * k .t * bytesFor (k .n) ≤ length w = omega (arith, f .2) in
     let rows : rowsOf (k .m * k .t) (k .n) w ≡ parityRows (kept k) =
-    q .ensures ∙ ap parityRows (kept-parts k (omega (arith, z .columns)) (omega (arith, z .degree))) in
+    q .ensures ∙ ap parityRows (keyOf-kept k (f .0)) in
     let e = sym (c .before .before .before .before .before .before .before .before .eliminate .ensures .0) ∙ not-false _ (c .before .before .before .before .before .if1 .left) in
     let d = c .before .before .before .before .before .before .before .before .eliminate .ensures .1 .0 (not-false _ (c .before .before .before .before .before .if1 .left)) in (
       independent-made (kept k) z w room rows e,
@@ -107,9 +100,6 @@ pub make-spec : {M : Type 1} → statement M
 make-spec =
     tie.close
     (tie.spec
-    cast-n
-    cast-t
-    cast-rows
     mul-rows
     key-rows-requires
     eliminate-requires

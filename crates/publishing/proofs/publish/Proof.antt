@@ -3,7 +3,7 @@ use mathlib.Core.Path.{refl, sym, ap, _∙_}
 use borrow.Author.Needs.{needs}
 use borrow.Author.Tests.{not-true, not-false}
 use Rattle.field.specs.Numbers.{firstOf}
-use Rattle.key.specs.Kept.{kept}
+use Rattle.key.specs.Kept.{kept, parts}
 use Rattle.publishing.specs.Published.{publishedOf}
 use Rattle.publishing.proofs.Checks.{refused, checks-sizes, number-refused, output-refused, number-dependent, number-done, output-made}
 use Rattle.publishing.proofs.publish.Statement.{statement}
@@ -15,11 +15,12 @@ refusal-requires c κs = tt
 returns : tie.Need-returns
 returns c =
     let a = c .before .before .before .before .args in
+    let k = parts (a .m) (a .n) (a .t) (a .support .now) (a .g .now) in
     let r = c .before .refusal in
-    let e = number-refused (kept (a .key)) (a .out .now) (a .work .now) (λ z. c .if1 .taken (r .ensures ∙ z)) in
+    let e = number-refused (kept k) (a .out .now) (a .work .now) (λ z. c .if1 .taken (r .ensures ∙ z)) in
     let x = r .ensures ∙ e in (
       refused (r .result) (c .if1 .taken) ∙ ap publishedOf x,
-      (output-refused (kept (a .key)) (a .out .now) (a .work .now) (λ z. c .if1 .taken (x ∙ z)), λ h. refl),
+      (output-refused (kept k) (a .out .now) (a .work .now) (λ z. c .if1 .taken (x ∙ z)), λ h. refl),
     )
 
 make-requires : tie.Need-make-requires
@@ -34,10 +35,11 @@ same-length-2 c = search needs
 returns-2 : tie.Need-returns-2
 returns-2 c =
     let a = c .before .before .before .before .before .before .before .before .before .before .before .before .args in
+    let k = parts (a .m) (a .n) (a .t) (a .support .now) (a .g .now) in
     let m = c .before .before .before .before .before .make in
     let clear = sym (c .before .before .before .before .before .before .before .before .before .refusal .ensures) ∙ c .before .before .before .before .before .before .before .before .if1 .left in (
-      number-dependent (kept (a .key)) (a .out .now) (a .work .now) clear (sym (m .ensures .0) ∙ not-true _ (c .if2 .taken)),
-      (m .ensures .1 ∙ output-made (kept (a .key)) (a .out .now) (a .work .now) clear, λ h. absurd (h (ap firstOf (checks-sizes (kept (a .key)) (a .out .now) (a .work .now)) ∙ clear))),
+      number-dependent (kept k) (a .out .now) (a .work .now) clear (sym (m .ensures .0) ∙ not-true _ (c .if2 .taken)),
+      (m .ensures .1 ∙ output-made (kept k) (a .out .now) (a .work .now) clear, λ h. absurd (h (ap firstOf (checks-sizes (kept k) (a .out .now) (a .work .now)) ∙ clear))),
     )
 
 same-length-3 : tie.Need-same-length-3
@@ -49,10 +51,11 @@ same-length-4 c = search needs
 returns-3 : tie.Need-returns-3
 returns-3 c =
     let a = c .before .before .before .before .before .before .before .before .before .before .before .before .args in
+    let k = parts (a .m) (a .n) (a .t) (a .support .now) (a .g .now) in
     let m = c .before .before .before .before .before .make in
     let clear = sym (c .before .before .before .before .before .before .before .before .before .refusal .ensures) ∙ c .before .before .before .before .before .before .before .before .if1 .left in (
-      number-done (kept (a .key)) (a .out .now) (a .work .now) clear (sym (m .ensures .0) ∙ not-false _ (c .if2 .left)),
-      (m .ensures .1 ∙ output-made (kept (a .key)) (a .out .now) (a .work .now) clear, λ h. absurd (h (ap firstOf (checks-sizes (kept (a .key)) (a .out .now) (a .work .now)) ∙ clear))),
+      number-done (kept k) (a .out .now) (a .work .now) clear (sym (m .ensures .0) ∙ not-false _ (c .if2 .left)),
+      (m .ensures .1 ∙ output-made (kept k) (a .out .now) (a .work .now) clear, λ h. absurd (h (ap firstOf (checks-sizes (kept k) (a .out .now) (a .work .now)) ∙ clear))),
     )
 
 pub publish-spec : {M : Type 1} → statement M

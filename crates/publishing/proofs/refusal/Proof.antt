@@ -4,7 +4,7 @@ use Prim.Native.Nat.{_-_, _*_}
 use native.Mathlib.Omega.{arith}
 use borrow.Author.Needs.{needs}
 use Rattle.key.specs.Keys.{keyNumber}
-use Rattle.key.specs.Kept.{kept}
+use Rattle.key.specs.Kept.{kept, parts}
 use Rattle.elimination.proofs.Sizes.{sizes-le}
 use Rattle.publishing.proofs.Checks.{Sizes, sizes, check-key, check-output, check-work, check-none}
 use Rattle.publishing.proofs.refusal.Statement.{statement}
@@ -16,28 +16,21 @@ check-requires c κs = tt
 returns : tie.Need-returns
 returns c = check-key _ _ _ (λ e. c .if1 .taken (c .before .check .ensures ∙ e))
 
-cast-n : tie.Need-cast-n
-cast-n c = search needs
-
-cast-rows : tie.Need-cast-rows
-cast-rows c = search needs
-
-cast-rows-2 : tie.Need-cast-rows-2
-cast-rows-2 c = search needs
-
 mul-rows : tie.Need-mul-rows
 unfolding kept
 mul-rows c =
-    let k = c .before .before .before .before .before .args .key in
-    let good : keyNumber (kept k) ≡ 0 = sym (c .before .before .before .before .check .ensures) ∙ c .before .before .before .if1 .left in
+    let a = c .before .before .args in
+    let k = parts (a .m) (a .n) (a .t) (a .support .now) (a .g .now) in
+    let good : keyNumber (kept k) ≡ 0 = sym (c .before .check .ensures) ∙ c .if1 .left in
     let z : Sizes (kept k) = sizes (kept k) good in
     omega (arith, z .rows, z .columns)
 
 sub-bytes-for : tie.Need-sub-bytes-for
 unfolding kept
 sub-bytes-for c =
-    let k = c .before .before .before .before .before .args .key in
-    let good : keyNumber (kept k) ≡ 0 = sym (c .before .before .before .before .check .ensures) ∙ c .before .before .before .if1 .left in
+    let a = c .before .before .args in
+    let k = parts (a .m) (a .n) (a .t) (a .support .now) (a .g .now) in
+    let good : keyNumber (kept k) ≡ 0 = sym (c .before .check .ensures) ∙ c .if1 .left in
     let z : Sizes (kept k) = sizes (kept k) good in
     omega (arith, z .rows)
 
@@ -47,8 +40,9 @@ bytes-for-requires c κs = tt
 mul-if2 : tie.Need-mul-if2
 unfolding kept
 mul-if2 c =
-    let k = c .before .before .before .before .before .before .args .key in
-    let good : keyNumber (kept k) ≡ 0 = sym (c .before .before .before .before .before .check .ensures) ∙ c .before .before .before .before .if1 .left in
+    let a = c .before .before .before .args in
+    let k = parts (a .m) (a .n) (a .t) (a .support .now) (a .g .now) in
+    let good : keyNumber (kept k) ≡ 0 = sym (c .before .before .check .ensures) ∙ c .before .if1 .left in
     let z : Sizes (kept k) = sizes (kept k) good in
     let e = sizes-le (k .m * k .t) (k .n - k .m * k .t) (c .bytes-for .result) (omega (arith, z .rows, z .columns)) (omega (arith, z .columns)) (c .bytes-for .ensures) in
     omega arith
@@ -56,8 +50,9 @@ mul-if2 c =
 returns-2 : tie.Need-returns-2
 unfolding kept
 returns-2 c =
-    let k = c .before .before .before .before .before .before .before .args .key in
-    let good : keyNumber (kept k) ≡ 0 = sym (c .before .before .before .before .before .before .check .ensures) ∙ c .before .before .before .before .before .if1 .left in
+    let a = c .before .before .before .before .args in
+    let k = parts (a .m) (a .n) (a .t) (a .support .now) (a .g .now) in
+    let good : keyNumber (kept k) ≡ 0 = sym (c .before .before .before .check .ensures) ∙ c .before .before .if1 .left in
     let e = ap (_*_ (k .m * k .t)) (c .before .bytes-for .ensures) in
     check-output (kept k) _ _ good (omega arith)
 
@@ -67,8 +62,9 @@ bytes-for-requires-2 c κs = tt
 mul-if3 : tie.Need-mul-if3
 unfolding kept
 mul-if3 c =
-    let k = c .before .before .before .before .before .before .before .before .args .key in
-    let good : keyNumber (kept k) ≡ 0 = sym (c .before .before .before .before .before .before .before .check .ensures) ∙ c .before .before .before .before .before .before .if1 .left in
+    let a = c .before .before .before .before .before .args in
+    let k = parts (a .m) (a .n) (a .t) (a .support .now) (a .g .now) in
+    let good : keyNumber (kept k) ≡ 0 = sym (c .before .before .before .before .check .ensures) ∙ c .before .before .before .if1 .left in
     let z : Sizes (kept k) = sizes (kept k) good in
     let e = sizes-le (k .m * k .t) (k .n) (c .bytes-for2 .result) (omega (arith, z .rows, z .columns)) (z .columns) (c .bytes-for2 .ensures) in
     omega arith
@@ -76,8 +72,9 @@ mul-if3 c =
 returns-3 : tie.Need-returns-3
 unfolding kept
 returns-3 c =
-    let k = c .before .before .before .before .before .before .before .before .before .args .key in
-    let good : keyNumber (kept k) ≡ 0 = sym (c .before .before .before .before .before .before .before .before .check .ensures) ∙ c .before .before .before .before .before .before .before .if1 .left in
+    let a = c .before .before .before .before .before .before .args in
+    let k = parts (a .m) (a .n) (a .t) (a .support .now) (a .g .now) in
+    let good : keyNumber (kept k) ≡ 0 = sym (c .before .before .before .before .before .check .ensures) ∙ c .before .before .before .before .if1 .left in
     let e = ap (_*_ (k .m * k .t)) (c .before .before .before .bytes-for .ensures) in
     let f = ap (_*_ (k .m * k .t)) (c .before .bytes-for2 .ensures) in
     check-work (kept k) _ _ good (omega arith) (omega arith)
@@ -85,8 +82,9 @@ returns-3 c =
 returns-4 : tie.Need-returns-4
 unfolding kept
 returns-4 c =
-    let k = c .before .before .before .before .before .before .before .before .before .args .key in
-    let good : keyNumber (kept k) ≡ 0 = sym (c .before .before .before .before .before .before .before .before .check .ensures) ∙ c .before .before .before .before .before .before .before .if1 .left in
+    let a = c .before .before .before .before .before .before .args in
+    let k = parts (a .m) (a .n) (a .t) (a .support .now) (a .g .now) in
+    let good : keyNumber (kept k) ≡ 0 = sym (c .before .before .before .before .before .check .ensures) ∙ c .before .before .before .before .if1 .left in
     let e = ap (_*_ (k .m * k .t)) (c .before .before .before .bytes-for .ensures) in
     let f = ap (_*_ (k .m * k .t)) (c .before .bytes-for2 .ensures) in
     check-none (kept k) _ _ good (omega arith) (omega arith)
@@ -97,9 +95,6 @@ refusal-spec =
     (tie.spec
     check-requires
     returns
-    cast-n
-    cast-rows
-    cast-rows-2
     mul-rows
     sub-bytes-for
     bytes-for-requires

@@ -31,18 +31,18 @@ none-requires-2 c κs = tt
 
 returns-2 : tie.Need-returns-2
 returns-2 c =
-    let z = sym (c .before .before .before .before .before .header .ensures) ∙ c .before .before .before .before .if1 .left in
+    let z = sym (c .before .before .before .before .before .before .before .before .header .ensures) ∙ c .before .before .before .before .before .before .before .if1 .left in
     loaded-refused _
-    (c .before .before .check .ensures ∙ ap (λ (k : Key). keyNumber (kept k)) (c .before .before .before .read .ensures) ∙ kept-decides _ z)
+    (c .before .before .check .ensures ∙ ap (λ (k : Key). keyNumber (kept k)) (c .before .before .before .before .before .before .read .ensures) ∙ kept-decides _ z)
     (c .before .if2 .taken)
     (c .none2 .ensures)
 
 returns-3 : tie.Need-returns-3
 returns-3 c =
-    let z = sym (c .before .before .before .before .header .ensures) ∙ c .before .before .before .if1 .left in
+    let z = sym (c .before .before .before .before .before .before .before .header .ensures) ∙ c .before .before .before .before .before .before .if1 .left in
     loaded-accepted _
-    (sym (c .if2 .left) ∙ c .before .check .ensures ∙ ap (λ (k : Key). keyNumber (kept k)) (c .before .before .read .ensures) ∙ kept-decides _ z)
-    (c .before .before .read .ensures)
+    (sym (c .if2 .left) ∙ c .before .check .ensures ∙ ap (λ (k : Key). keyNumber (kept k)) (c .before .before .before .before .before .read .ensures) ∙ kept-decides _ z)
+    (c .before .before .before .before .before .read .ensures)
 
 pub load-spec : {M : Type 1} → statement M
 load-spec =

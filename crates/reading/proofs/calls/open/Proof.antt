@@ -3,7 +3,7 @@ use mathlib.Core.Path.{sym, _∙_}
 use mathlib.Core.Bool.{not}
 use native.Mathlib.Omega.{arith}
 use borrow.Author.Needs.{needs}
-use Rattle.key.specs.Kept.{kept}
+use Rattle.key.specs.Kept.{kept, parts}
 use Rattle.reading.proofs.Explained.{kept-sized}
 use Rattle.reading.proofs.Refusals.{open-clear}
 use Rattle.reading.proofs.Answered.{reading-none, reading-some, open-refusal, open-none, open-other, open-some}
@@ -16,12 +16,14 @@ open-refusal-requires c κs = tt
 returns : tie.Need-returns
 returns c =
     let a = c .before .before .before .before .args in
-    open-refusal (not (a .published)) (a .key) (a .capsule .now) (a .out .now) (c .before .open-refusal .ensures) (c .if1 .taken)
+    let k = parts (a .m) (a .n) (a .t) (a .support .now) (a .g .now) in
+    open-refusal (not (a .published)) k (a .capsule .now) (a .out .now) (c .before .open-refusal .ensures) (c .if1 .taken)
 
 decode-requires : tie.Need-decode-requires
 decode-requires c κs =
     let a = c .before .before .before .before .args in
-    open-clear (not (a .published)) (kept (a .key)) (a .capsule .now) (a .out .now) (sym (c .before .open-refusal .ensures) ∙ c .if1 .left) .0
+    let k = parts (a .m) (a .n) (a .t) (a .support .now) (a .g .now) in
+    open-clear (not (a .published)) (kept k) (a .capsule .now) (a .out .now) (sym (c .before .open-refusal .ensures) ∙ c .if1 .left) .0
 
 counted-requires : tie.Need-counted-requires
 counted-requires c κs = tt
@@ -38,44 +40,45 @@ returns-2 c =
     let d = n .before in
     let t = d .before in
     let a = t .before .before .before .before .args in
-    open-none (not (a .published)) (a .key) (a .capsule .now) (a .out .now) (sym (t .before .open-refusal .ensures) ∙ t .if1 .left)
-    (reading-none (a .key) (a .capsule .now) _ (d .decode .ensures) _ (n .counted .ensures) (c .enum-told .given .1))
+    let k = parts (a .m) (a .n) (a .t) (a .support .now) (a .g .now) in
+    open-none (not (a .published)) k (a .capsule .now) (a .out .now) (sym (t .before .open-refusal .ensures) ∙ t .if1 .left)
+    (reading-none k (a .capsule .now) _ (d .decode .ensures) _ (n .counted .ensures) (c .enum-told .given .1))
 
 returns-3 : tie.Need-returns-3
 returns-3 c =
-    let v = c .before .before .before in
+    let v = c .before .before in
     let n = v .before .before in
     let d = n .before in
     let t = d .before in
     let a = t .before .before .before .before .args in
-    open-other (not (a .published)) (a .key) (a .capsule .now) (a .out .now) (sym (t .before .open-refusal .ensures) ∙ t .if1 .left)
-    (reading-some (a .key) (a .capsule .now) _ (d .decode .ensures) _ (n .counted .ensures) (v .answer .given .1))
+    let k = parts (a .m) (a .n) (a .t) (a .support .now) (a .g .now) in
+    open-other (not (a .published)) k (a .capsule .now) (a .out .now) (sym (t .before .open-refusal .ensures) ∙ t .if1 .left)
+    (reading-some k (a .capsule .now) _ (d .decode .ensures) _ (n .counted .ensures) (v .answer .given .1))
     (λ q. omega arith)
-
-cast-give : tie.Need-cast-give
-cast-give c = omega arith
 
 give-requires : tie.Need-give-requires
 unfolding kept
 give-requires c κs =
-    let t = c .before .before .before .before .before .before .before .before .before in
+    let t = c .before .before .before .before .before .before .before in
     let a = t .before .before .before .before .args in
-    let r = open-clear (not (a .published)) (kept (a .key)) (a .capsule .now) (a .out .now) (sym (t .before .open-refusal .ensures) ∙ t .if1 .left) in
-    (kept-sized (a .key) (r .0) .0, r .2)
+    let k = parts (a .m) (a .n) (a .t) (a .support .now) (a .g .now) in
+    let r = open-clear (not (a .published)) (kept k) (a .capsule .now) (a .out .now) (sym (t .before .open-refusal .ensures) ∙ t .if1 .left) in
+    (kept-sized k (r .0) .0, r .2)
 
 same-length : tie.Need-same-length
 same-length c = search needs
 
 returns-4 : tie.Need-returns-4
 returns-4 c =
-    let v = c .before .before .before .before .before .before .before .before in
+    let v = c .before .before .before .before .before .before in
     let n = v .before .before in
     let d = n .before in
     let t = d .before in
     let a = t .before .before .before .before .args in
-    let s = open-some (not (a .published)) (a .key) (a .capsule .now) (a .out .now) (sym (t .before .open-refusal .ensures) ∙ t .if1 .left)
-    (reading-some (a .key) (a .capsule .now) _ (d .decode .ensures) _ (n .counted .ensures) (v .answer .given .1))
-    (omega (arith, c .before .before .before .before .before .if2 .left)) in
+    let k = parts (a .m) (a .n) (a .t) (a .support .now) (a .g .now) in
+    let s = open-some (not (a .published)) k (a .capsule .now) (a .out .now) (sym (t .before .open-refusal .ensures) ∙ t .if1 .left)
+    (reading-some k (a .capsule .now) _ (d .decode .ensures) _ (n .counted .ensures) (v .answer .given .1))
+    (omega (arith, c .before .before .before .before .if2 .left)) in
     (s .0, c .before .before .give .ensures ∙ s .1)
 
 pub open-spec : {M : Type 1} → statement M
@@ -90,7 +93,6 @@ open-spec =
     enum-told
     returns-2
     returns-3
-    cast-give
     give-requires
     same-length
     returns-4)

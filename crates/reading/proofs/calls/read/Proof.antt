@@ -2,7 +2,7 @@
 use mathlib.Core.Path.{sym, _∙_}
 use native.Mathlib.Omega.{arith}
 use borrow.Author.Needs.{needs}
-use Rattle.key.specs.Kept.{kept}
+use Rattle.key.specs.Kept.{kept, parts}
 use Rattle.reading.proofs.Explained.{kept-sized}
 use Rattle.reading.proofs.Refusals.{read-clear}
 use Rattle.reading.proofs.Answered.{reading-none, refused-none, reading-some, read-refusal, read-none, read-some}
@@ -15,12 +15,14 @@ read-refusal-requires c κs = tt
 returns : tie.Need-returns
 returns c =
     let a = c .before .before .before .before .args in
-    read-refusal (a .key) (a .word .now) (a .out .now) (c .before .read-refusal .ensures) (c .if1 .taken)
+    let k = parts (a .m) (a .n) (a .t) (a .support .now) (a .g .now) in
+    read-refusal k (a .word .now) (a .out .now) (c .before .read-refusal .ensures) (c .if1 .taken)
 
 decode-requires : tie.Need-decode-requires
 decode-requires c κs =
     let a = c .before .before .before .before .args in
-    read-clear (kept (a .key)) (a .word .now) (a .out .now) (sym (c .before .read-refusal .ensures) ∙ c .if1 .left) .0
+    let k = parts (a .m) (a .n) (a .t) (a .support .now) (a .g .now) in
+    read-clear (kept k) (a .word .now) (a .out .now) (sym (c .before .read-refusal .ensures) ∙ c .if1 .left) .0
 
 counted-requires : tie.Need-counted-requires
 counted-requires c κs = tt
@@ -37,33 +39,33 @@ returns-2 c =
     let d = n .before in
     let t = d .before in
     let a = t .before .before .before .before .args in
-    let e = reading-none (a .key) (a .word .now) _ (d .decode .ensures) _ (n .counted .ensures) (c .enum-told .given .1) in
-    let r = read-none (a .key) (a .word .now) (a .out .now) (sym (t .before .read-refusal .ensures) ∙ t .if1 .left) e in
-    (refused-none (a .key) (a .word .now) _ (d .decode .ensures) _ (n .counted .ensures) e ∙ r .0, r .1)
-
-cast-give : tie.Need-cast-give
-cast-give c = omega arith
+    let k = parts (a .m) (a .n) (a .t) (a .support .now) (a .g .now) in
+    let e = reading-none k (a .word .now) _ (d .decode .ensures) _ (n .counted .ensures) (c .enum-told .given .1) in
+    let r = read-none k (a .word .now) (a .out .now) (sym (t .before .read-refusal .ensures) ∙ t .if1 .left) e in
+    (refused-none k (a .word .now) _ (d .decode .ensures) _ (n .counted .ensures) e ∙ r .0, r .1)
 
 give-requires : tie.Need-give-requires
 unfolding kept
 give-requires c κs =
-    let t = c .before .before .before .before .before .before .before in
+    let t = c .before .before .before .before .before .before in
     let a = t .before .before .before .before .args in
-    let r = read-clear (kept (a .key)) (a .word .now) (a .out .now) (sym (t .before .read-refusal .ensures) ∙ t .if1 .left) in
-    (kept-sized (a .key) (r .0) .0, r .2)
+    let k = parts (a .m) (a .n) (a .t) (a .support .now) (a .g .now) in
+    let r = read-clear (kept k) (a .word .now) (a .out .now) (sym (t .before .read-refusal .ensures) ∙ t .if1 .left) in
+    (kept-sized k (r .0) .0, r .2)
 
 same-length : tie.Need-same-length
 same-length c = search needs
 
 returns-3 : tie.Need-returns-3
 returns-3 c =
-    let v = c .before .before .before .before .before .before in
+    let v = c .before .before .before .before .before in
     let n = v .before .before in
     let d = n .before in
     let t = d .before in
     let a = t .before .before .before .before .args in
-    let s = read-some (a .key) (a .word .now) (a .out .now) (sym (t .before .read-refusal .ensures) ∙ t .if1 .left)
-    (reading-some (a .key) (a .word .now) _ (d .decode .ensures) _ (n .counted .ensures) (v .answer .given .1)) in
+    let k = parts (a .m) (a .n) (a .t) (a .support .now) (a .g .now) in
+    let s = read-some k (a .word .now) (a .out .now) (sym (t .before .read-refusal .ensures) ∙ t .if1 .left)
+    (reading-some k (a .word .now) _ (d .decode .ensures) _ (n .counted .ensures) (v .answer .given .1)) in
     (s .0, c .before .before .give .ensures ∙ s .1)
 
 pub read-spec : {M : Type 1} → statement M
@@ -77,7 +79,6 @@ read-spec =
     enum-known-answer
     enum-told
     returns-2
-    cast-give
     give-requires
     same-length
     returns-3)

@@ -20,7 +20,7 @@ unfolding stop outputOf
 returns c =
     let i = c .before .before in
     let a = i .before .before .before .args in
-    let t = stopped (a .self) (open-capsule (a .capsule .now) (a .out .now)) (sym (i .is-empty .ensures) ∙ c .before .if1 .taken) in
+    let t = stopped (a .t1) (open-capsule (a .capsule .now) (a .out .now)) (sym (i .is-empty .ensures) ∙ c .before .if1 .taken) in
     (c .refuse .ensures ∙ t .0, t .1)
 
 is-published-requires : tie.Need-is-published-requires
@@ -47,15 +47,15 @@ same-length c = search needs
 returns-2 : tie.Need-returns-2
 returns-2 c =
     let p = c .before .before .before .before .before .before in
-    let l = p .before .before .before .before in
+    let l = p .before .before .before .before .before .before in
     let a = l .before .before .before .before .args in
     let k = sym (l .before .is-empty .ensures) ∙ l .if1 .left in
     let b = p .before .before .is-published .ensures in (
       c .refuse2 .ensures
-          ∙ ap (refusal (a .self)) (c .before .answer-number .ensures)
-          ∙ answered-refused (a .self) (open-capsule (a .capsule .now) (a .out .now)) (open-passes (a .self) (a .capsule .now) (a .out .now) k _ b) _
-          (p .«open» .ensures .0 ∙ open-answer (a .self) (a .capsule .now) (a .out .now) k _ b) (c .before .before .enum-told .given .1),
-      p .«open» .ensures .1 ∙ open-output (a .self) (a .capsule .now) (a .out .now) k _ b,
+          ∙ ap (refusal (a .t1)) (c .before .answer-number .ensures)
+          ∙ answered-refused (a .t1) (open-capsule (a .capsule .now) (a .out .now)) (open-passes (a .t1) (a .capsule .now) (a .out .now) k _ b) _
+          (p .«open» .ensures .0 ∙ open-answer (a .t1) (a .capsule .now) (a .out .now) k _ b) (c .before .before .enum-told .given .1),
+      p .«open» .ensures .1 ∙ open-output (a .t1) (a .capsule .now) (a .out .now) k _ b,
     )
 
 accept-requires : tie.Need-accept-requires
@@ -68,14 +68,14 @@ returns-3 : tie.Need-returns-3
 unfolding moved
 returns-3 c =
     let p = c .before .before .before .before .before .before in
-    let l = p .before .before .before .before in
+    let l = p .before .before .before .before .before .before in
     let a = l .before .before .before .before .args in
     let k = sym (l .before .is-empty .ensures) ∙ l .if1 .left in
     let b = p .before .before .is-published .ensures in (
       c .accept .ensures
-          ∙ answered-ones (a .self) (open-capsule (a .capsule .now) (a .out .now)) (open-passes (a .self) (a .capsule .now) (a .out .now) k _ b) _
-          (p .«open» .ensures .0 ∙ open-answer (a .self) (a .capsule .now) (a .out .now) k _ b) (c .before .before .answer .given .1),
-      p .«open» .ensures .1 ∙ open-output (a .self) (a .capsule .now) (a .out .now) k _ b,
+          ∙ answered-ones (a .t1) (open-capsule (a .capsule .now) (a .out .now)) (open-passes (a .t1) (a .capsule .now) (a .out .now) k _ b) _
+          (p .«open» .ensures .0 ∙ open-answer (a .t1) (a .capsule .now) (a .out .now) k _ b) (c .before .before .answer .given .1),
+      p .«open» .ensures .1 ∙ open-output (a .t1) (a .capsule .now) (a .out .now) k _ b,
     )
 
 pub open-spec : {M : Type 1} → statement M

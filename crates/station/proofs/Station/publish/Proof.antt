@@ -20,7 +20,7 @@ unfolding stop outputOf
 returns c =
     let i = c .before .before in
     let a = i .before .before .before .args in
-    let t = stopped (a .self) (publish (a .out .now) (a .work .now)) (sym (i .is-empty .ensures) ∙ c .before .if1 .taken) in
+    let t = stopped (a .t1) (publish (a .out .now) (a .work .now)) (sym (i .is-empty .ensures) ∙ c .before .if1 .taken) in
     (c .refuse .ensures ∙ t .0, (t .1, λ f. refl))
 
 publish-requires : tie.Need-publish-requires
@@ -47,13 +47,13 @@ same-length-2 c = search needs
 returns-2 : tie.Need-returns-2
 returns-2 c =
     let p = c .before .before .before .before .before .before .before .before in
-    let l = p .before .before .before .before in
+    let l = p .before .before .before .before .before .before in
     let a = l .before .before .before .before .args in
     let k = sym (l .before .is-empty .ensures) ∙ l .if1 .left in (
       c .refuse2 .ensures
-          ∙ ap (refusal (a .self)) (c .before .published-number .ensures)
-          ∙ publish-refused (a .self) (a .out .now) (a .work .now) k _ (p .publish .ensures .0) (c .before .before .enum-told2 .given .1),
-      (p .publish .ensures .1 .0 ∙ publish-output (a .self) (a .out .now) (a .work .now) k, λ f. p .publish .ensures .1 .1 (publish-work (a .self) (a .out .now) (a .work .now) k f)),
+          ∙ ap (refusal (a .t1)) (c .before .published-number .ensures)
+          ∙ publish-refused (a .t1) (a .out .now) (a .work .now) k _ (p .publish .ensures .0) (c .before .before .enum-told2 .given .1),
+      (p .publish .ensures .1 .0 ∙ publish-output (a .t1) (a .out .now) (a .work .now) k, λ f. p .publish .ensures .1 .1 (publish-work (a .t1) (a .out .now) (a .work .now) k f)),
     )
 
 accept-requires : tie.Need-accept-requires
@@ -67,12 +67,12 @@ same-length-4 c = search needs
 
 returns-3 : tie.Need-returns-3
 returns-3 c =
-    let p = c .before .before .before .before .before .before .before in
-    let l = p .before .before .before .before in
+    let p = c .before .before .before .before .before .before .before .before in
+    let l = p .before .before .before .before .before .before in
     let a = l .before .before .before .before .args in
     let k = sym (l .before .is-empty .ensures) ∙ l .if1 .left in (
-      c .accept .ensures ∙ publish-done (a .self) (a .out .now) (a .work .now) k _ (p .publish .ensures .0) (c .before .enum-told .given .1),
-      (p .publish .ensures .1 .0 ∙ publish-output (a .self) (a .out .now) (a .work .now) k, λ f. p .publish .ensures .1 .1 (publish-work (a .self) (a .out .now) (a .work .now) k f)),
+      c .accept .ensures ∙ publish-done (a .t1) (a .out .now) (a .work .now) k _ (p .publish .ensures .0) (c .before .before .enum-told .given .1),
+      (p .publish .ensures .1 .0 ∙ publish-output (a .t1) (a .out .now) (a .work .now) k, λ f. p .publish .ensures .1 .1 (publish-work (a .t1) (a .out .now) (a .work .now) k f)),
     )
 
 pub publish-spec : {M : Type 1} → statement M

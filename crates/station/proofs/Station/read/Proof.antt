@@ -20,7 +20,7 @@ unfolding stop outputOf
 returns c =
     let i = c .before .before in
     let a = i .before .before .before .args in
-    let t = stopped (a .self) (read-word (a .word .now) (a .out .now)) (sym (i .is-empty .ensures) ∙ c .before .if1 .taken) in
+    let t = stopped (a .t1) (read-word (a .word .now) (a .out .now)) (sym (i .is-empty .ensures) ∙ c .before .if1 .taken) in
     (c .refuse .ensures ∙ t .0, t .1)
 
 read-requires : tie.Need-read-requires
@@ -44,14 +44,14 @@ same-length c = search needs
 returns-2 : tie.Need-returns-2
 returns-2 c =
     let p = c .before .before .before .before .before .before in
-    let l = p .before .before .before in
+    let l = p .before .before .before .before .before in
     let a = l .before .before .before .before .args in
     let k = sym (l .before .is-empty .ensures) ∙ l .if1 .left in (
       c .refuse2 .ensures
-          ∙ ap (refusal (a .self)) (c .before .answer-number .ensures)
-          ∙ answered-refused (a .self) (read-word (a .word .now) (a .out .now)) (read-passes (a .self) (a .word .now) (a .out .now) k) _
-          (p .read .ensures .0 ∙ read-answer (a .self) (a .word .now) (a .out .now) k) (c .before .before .enum-told .given .1),
-      p .read .ensures .1 ∙ read-output (a .self) (a .word .now) (a .out .now) k,
+          ∙ ap (refusal (a .t1)) (c .before .answer-number .ensures)
+          ∙ answered-refused (a .t1) (read-word (a .word .now) (a .out .now)) (read-passes (a .t1) (a .word .now) (a .out .now) k) _
+          (p .read .ensures .0 ∙ read-answer (a .t1) (a .word .now) (a .out .now) k) (c .before .before .enum-told .given .1),
+      p .read .ensures .1 ∙ read-output (a .t1) (a .word .now) (a .out .now) k,
     )
 
 accept-requires : tie.Need-accept-requires
@@ -64,13 +64,13 @@ returns-3 : tie.Need-returns-3
 unfolding moved
 returns-3 c =
     let p = c .before .before .before .before .before .before in
-    let l = p .before .before .before in
+    let l = p .before .before .before .before .before in
     let a = l .before .before .before .before .args in
     let k = sym (l .before .is-empty .ensures) ∙ l .if1 .left in (
       c .accept .ensures
-          ∙ answered-ones (a .self) (read-word (a .word .now) (a .out .now)) (read-passes (a .self) (a .word .now) (a .out .now) k) _
-          (p .read .ensures .0 ∙ read-answer (a .self) (a .word .now) (a .out .now) k) (c .before .before .answer .given .1),
-      p .read .ensures .1 ∙ read-output (a .self) (a .word .now) (a .out .now) k,
+          ∙ answered-ones (a .t1) (read-word (a .word .now) (a .out .now)) (read-passes (a .t1) (a .word .now) (a .out .now) k) _
+          (p .read .ensures .0 ∙ read-answer (a .t1) (a .word .now) (a .out .now) k) (c .before .before .answer .given .1),
+      p .read .ensures .1 ∙ read-output (a .t1) (a .word .now) (a .out .now) k,
     )
 
 pub read-spec : {M : Type 1} → statement M
