@@ -1,14 +1,13 @@
--- The boundary's structs: what is read back is what was written. Assumes nothing.
+-- Answers, state bytes and replies by cases. Assumes nothing.
 use Prim.Native.Nat.{ℕ, zero, suc}
 use mathlib.Core.Path.{_≡_, refl, sym, ap}
 use mathlib.Core.Bool.{Bool, cond}
 use borrow.Author.Tests.{eq-eqb, ne-eqb}
 use Rattle.locking.specs.Locking.{lockedOf}
-use Rattle.station.specs.declared.State.the-variants.{Empty, Loaded, Published}
-use Rattle.station.specs.declared.State.{State}
+use Rattle.station.specs.declared.State.the-variants.{Published}
 use Rattle.station.specs.declared.Reply as Lower
 use Rattle.shearcotter.specs.declared.Station.{Station}
-use Rattle.shearcotter.specs.Boundary.{lockedNumber, stateAt, byteOf, image, unchanged, moved}
+use Rattle.shearcotter.specs.Boundary.{lockedNumber, stateAt, image, unchanged, moved}
 
 pub locked-number : (x : ℕ) → lockedNumber (lockedOf x) ≡ x
 unfolding lockedNumber lockedOf

@@ -1,8 +1,6 @@
 -- The answers and stations of the crates below as a C caller's structs. Assumes nothing.
 use Prim.Native.Nat.{ℕ, zero, suc}
-use mathlib.Core.Path.{_≡_}
 use mathlib.Core.Bool.{cond}
-use mathlib.Core.List.{List, [], _∷_}
 use lib.Dec.{eqb}
 use Rattle.field.specs.declared.Answer.{Answer}
 use Rattle.field.specs.declared.Answer.the-variants as answers
@@ -11,7 +9,7 @@ use Rattle.key.specs.declared.shape.ShapeAnswer.the-variants as shapes
 use Rattle.locking.specs.declared.Locked.{Locked}
 use Rattle.locking.specs.declared.Locked.the-variants as locks
 use Rattle.ledger.specs.Calls.{Call, load, publish, open-capsule, read-word, drop-key}
-use Rattle.station.specs.Replies.{freshStation, handed}
+use Rattle.station.specs.Replies.{handed}
 use Rattle.station.specs.declared.State.{State}
 use Rattle.station.specs.declared.State.the-variants.{Empty, Loaded, Published}
 use Rattle.station.specs.declared.Station as Kept
