@@ -7,7 +7,7 @@ use Rattle.locking.specs.Locking.{lockedOf}
 use Rattle.station.specs.declared.State.the-variants.{Published}
 use Rattle.station.specs.declared.Reply as Lower
 use Rattle.shearcotter.specs.declared.Station.{Station}
-use Rattle.shearcotter.specs.Boundary.{lockedNumber, stateAt, image, unchanged, moved}
+use Rattle.shearcotter.specs.Boundary.{lockedNumber, stateAt, outward, withStation, image, moved}
 
 pub locked-number : (x : ℕ) → lockedNumber (lockedOf x) ≡ x
 unfolding lockedNumber lockedOf
@@ -21,10 +21,10 @@ state-other zero h k = absurd (h refl)
 state-other (suc zero) h k = absurd (k refl)
 state-other (suc (suc b)) h k = refl
 
-pub moved-refused : (s : Station) (r : Lower.Reply) → (r .refused ≡ 0 → ⊥) → unchanged s r ≡ moved s r
+pub moved-refused : (s : Station) (r : Lower.Reply) → (r .refused ≡ 0 → ⊥) → withStation s r ≡ moved s r
 unfolding moved
-moved-refused s r h = sym (ap (λ (b : Bool). cond b (image r) (unchanged s r)) (ne-eqb (r .refused) 0 h))
+moved-refused s r h = sym (ap (λ (b : Bool). withStation (cond b (outward (r .station)) s) r) (ne-eqb (r .refused) 0 h))
 
 pub moved-accepted : (s : Station) (r : Lower.Reply) → r .refused ≡ 0 → image r ≡ moved s r
-unfolding moved
-moved-accepted s r e = sym (ap (λ (b : Bool). cond b (image r) (unchanged s r)) (eq-eqb (r .refused) 0 e))
+unfolding moved image
+moved-accepted s r e = sym (ap (λ (b : Bool). withStation (cond b (outward (r .station)) s) r) (eq-eqb (r .refused) 0 e))

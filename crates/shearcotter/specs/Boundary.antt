@@ -51,22 +51,22 @@ inward s = record { state = stateAt (s .state); key = s .key }
 unfoldable pub outward : Kept.Station → Station
 outward s = record { state = byteOf (s .state); key = s .key }
 
--- a station's reply as a struct
+-- a reply as a struct that holds a station's struct
+unfoldable pub withStation : Station → Lower.Reply → Reply
+withStation s r = record { station = s; refused = r .refused; ones = r .ones }
+
+-- with the new station
 unfoldable pub image : Lower.Reply → Reply
-image r = record { station = outward (r .station); refused = r .refused; ones = r .ones }
+image r = withStation (outward (r .station)) r
 
--- the same with the caller's own station
-unfoldable pub unchanged : Station → Lower.Reply → Reply
-unchanged s r = record { station = s; refused = r .refused; ones = r .ones }
-
--- a refusal hands the caller's own station back
+-- with the new station, and with the caller's own on refusal
 unfoldable pub moved : Station → Lower.Reply → Reply
-moved s r = cond (eqb (r .refused) 0) (image r) (unchanged s r)
+moved s r = withStation (cond (eqb (r .refused) 0) (outward (r .station)) s) r
 
 -- What a call hands back: open and read the caller's own station in any case, the others on refusal.
 unfoldable pub replied : Station → Call → Reply
 replied s (load file) = moved s (handed (inward s) (load file) .reply)
 replied s (publish out work) = moved s (handed (inward s) (publish out work) .reply)
-replied s (open-capsule capsule out) = unchanged s (handed (inward s) (open-capsule capsule out) .reply)
-replied s (read-word word out) = unchanged s (handed (inward s) (read-word word out) .reply)
+replied s (open-capsule capsule out) = withStation s (handed (inward s) (open-capsule capsule out) .reply)
+replied s (read-word word out) = withStation s (handed (inward s) (read-word word out) .reply)
 replied s drop-key = moved s (handed (inward s) drop-key .reply)

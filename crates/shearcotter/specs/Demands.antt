@@ -41,6 +41,8 @@ answered s (c ∷ cs) = replied s c .refused ∷ answered (replied s c .station)
 -- any call made next hands back the struct of what the station's call hands back.
 pub record After (calls : List Call) (s : Station) : Type 0 where
   pub numbers : answered fresh calls ≡ expected blank calls
+  -- the state byte is 0, 1 or 2
+  pub struct : outward (inward s) ≡ s
   pub station : Below.After calls (inward s) (ledgerAfter blank calls)
   pub next : (c : Call) → replied s c ≡ image (handed (inward s) c .reply)
 

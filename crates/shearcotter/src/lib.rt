@@ -19,7 +19,7 @@ ghost use Rattle.shearcotter.specs.Boundary.{
   byteOf,
   inward as inwardOf,
   outward as outwardOf,
-  unchanged as unchangedOf,
+  withStation,
   moved as movedOf,
   replied,
 };
@@ -204,30 +204,26 @@ fn outward(s: station::Station) -> Station
     }
 }
 
-// The caller's own station, with the number and the ones.
-fn unchanged(own: Station, reply: station::Reply) -> Reply
-    ensures { λ r. ⌜ r ≡ unchangedOf own reply ⌝ }
+// A reply that holds the caller's form of a station.
+fn with_station(station: Station, reply: station::Reply) -> Reply
+    ensures { λ r. ⌜ r ≡ withStation station reply ⌝ }
 {
     Reply {
-        station: own,
+        station,
         refused: reply.refused,
         ones: reply.ones,
     }
 }
 
-// The new station, and the caller's own on refusal.
+// The reply with the new station, and with the caller's own on refusal.
 fn moved(own: Station, reply: station::Reply) -> Reply
     ensures { λ r. ⌜ r ≡ movedOf own reply ⌝ }
 {
     if reply.refused != 0 {
-        return unchanged(own, reply);
+        return with_station(own, reply);
     }
     let next = reply.station;
-    Reply {
-        station: outward(next),
-        refused: reply.refused,
-        ones: reply.ones,
-    }
+    with_station(outward(next), reply)
 }
 
 // The empty station.
@@ -266,7 +262,7 @@ pub extern "C" fn shearcotter_open(own: Station, capsule: &[u8], out: &mut [u8])
     ensures output { λ _. ⌜ now (out .exit) ≡ handed (inwardOf own) (open-capsule (now (capsule .entry)) (now (out .entry))) .output ⌝ }
 {
     let s = inward(own);
-    unchanged(own, s.open(capsule, out))
+    with_station(own, s.open(capsule, out))
 }
 
 // The pattern of a word is written from the output's start; 21, 25, 8, 9, 10 or 14 on refusal.
@@ -276,7 +272,7 @@ pub extern "C" fn shearcotter_read(own: Station, word: &[u8], out: &mut [u8]) ->
     ensures output { λ _. ⌜ now (out .exit) ≡ handed (inwardOf own) (read-word (now (word .entry)) (now (out .entry))) .output ⌝ }
 {
     let s = inward(own);
-    unchanged(own, s.read(word, out))
+    with_station(own, s.read(word, out))
 }
 
 // Afterwards the station is a fresh one; 21 on refusal.

@@ -4,7 +4,7 @@ use borrow.Author.Needs.{needs}
 use Rattle.ledger.specs.Calls.{read-word}
 use Rattle.station.specs.Replies.{Handed, handed}
 use Rattle.station.specs.declared.Station.{Station}
-use Rattle.shearcotter.specs.Boundary.{unchanged, replied}
+use Rattle.shearcotter.specs.Boundary.{withStation, replied}
 use Rattle.shearcotter.proofs.shearcotter_read.Statement.{statement}
 use Rattle.shearcotter.proofs.shearcotter_read.Tie as tie
 
@@ -14,8 +14,8 @@ inward-requires c κs = tt
 read-requires : tie.Need-read-requires
 read-requires c κs = tt
 
-unchanged-requires : tie.Need-unchanged-requires
-unchanged-requires c κs = tt
+with-station-requires : tie.Need-with-station-requires
+with-station-requires c κs = tt
 
 same-length : tie.Need-same-length
 same-length c = search needs
@@ -26,10 +26,10 @@ returns c =
     let a = c .before .before .before .before .before .before .before .before .args in
     let r = c .before .before .before .read in
     let h = ap (λ (s : Station). handed s (read-word (a .word .now) (a .out .now))) (c .before .before .before .before .before .inward .ensures) in (
-      c .unchanged .ensures ∙ ap (unchanged (a .own)) (r .ensures .0 ∙ ap (λ (x : Handed). x .reply) h),
+      c .with-station .ensures ∙ ap (withStation (a .own)) (r .ensures .0 ∙ ap (λ (x : Handed). x .reply) h),
       r .ensures .1 ∙ ap (λ (x : Handed). x .output) h,
     )
 
 pub shearcotter-read-spec : {M : Type 1} → statement M
 shearcotter-read-spec =
-    tie.close (tie.spec inward-requires read-requires unchanged-requires same-length returns)
+    tie.close (tie.spec inward-requires read-requires with-station-requires same-length returns)
