@@ -1,4 +1,4 @@
-/* Goppa code capsules: field arithmetic, key check, public key, locking, reading, opening. Link libshearcotter.a (x86-64).
+/* Goppa code capsules: field, keys, public key, locking, reading, opening. Link libshearcotter.a (x86-64).
  *
  * Rules for every call:
  * - Pointers are not null, also with length 0, and the buffers of one call do not overlap.
@@ -6,7 +6,7 @@
  * - A refusal writes nothing (but publish's workspace under 23) and hands the caller's station back unchanged.
  * - Refusals are listed in the order in which they are looked for: the first whose condition holds is answered.
  * - Nothing is allocated or kept between calls, so calls may run at once in several threads.
- * - Open and read need 210 KiB of stack, publish 170, load 110, drop 55, the others 4; the station's argument is counted.
+ * - Stack, argument and reply included, in KiB: open and read 201, publish 162, load 101, drop 49, fresh 33, the others 4.
  */
 #ifndef SHEARCOTTER_H
 #define SHEARCOTTER_H
@@ -35,7 +35,7 @@ enum shearcotter_limit {
 enum shearcotter_state {
     SHEARCOTTER_EMPTY = 0,
     SHEARCOTTER_LOADED = 1,
-    SHEARCOTTER_PUBLISHED = 2  /* so is any other number; the calls hand back 0, 1 and 2 only */
+    SHEARCOTTER_PUBLISHED = 2  /* so is any other number; stations made by these calls have 0, 1 or 2 */
 };
 
 /* What `refused` says. */
@@ -69,8 +69,8 @@ typedef struct {
     uint8_t m;
     uint16_t n;
     uint16_t t;
-    uint16_t support[8192];
-    uint16_t g[128];
+    uint16_t support[SHEARCOTTER_MOST_PLACES];
+    uint16_t g[SHEARCOTTER_MOST_ERRORS];
 } shearcotter_key;
 
 /* One slot for a key, owned by the caller and passed by value. Compare members, not bytes: padding is not kept. */
@@ -104,7 +104,7 @@ typedef struct {
 typedef struct {
     uint8_t refused;
     size_t length;
-    uint16_t c[257];
+    uint16_t c[SHEARCOTTER_COEFFICIENTS];
 } shearcotter_register;
 
 /* a + b in the field of width m. Refused: 1, 4. */
