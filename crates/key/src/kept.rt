@@ -3,6 +3,7 @@ ghost use mathlib.Core.Path.{_≡_};
 ghost use Rattle.key.specs.Kept.{noKey};
 
 // The support's first n and g's first t numbers are the key's.
+#[repr(C)]
 pub struct Key {
     pub m: u8,
     pub n: u16,

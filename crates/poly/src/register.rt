@@ -20,6 +20,7 @@ ghost use Rattle.poly.specs.Registered.{figure, Earlier, registeredOf};
 
 // A register: its length and its connection polynomial's coefficients 0 to 256, with 0 past the length; or the number of
 // a refusal, with length 0 and coefficients 0.
+#[repr(C)]
 pub struct Registered {
     pub refused: u8,
     pub length: usize,

@@ -1,0 +1,75 @@
+/* A key is loaded and published, a pattern locked, capsules opened: document 01's bench key K1, rows P1 to P5 and P7.
+ * Prints a line for each row; exits with 1 where an answer is not the document's. */
+#include <stdio.h>
+#include <string.h>
+
+#include "shearcotter.h"
+
+enum { M = 4, N = 6, T = 1 };
+
+static const uint8_t k1[SHEARCOTTER_FILE_BYTES(N, T)] = {0x04, 0x06, 0x00, 0x01, 0x00, 0x09, 0x00, 0x0D, 0x00, 0x0F,
+                                                         0x00, 0x0E, 0x00, 0x0B, 0x00, 0x01, 0x00, 0x00, 0x00};
+static const uint8_t t_rows[SHEARCOTTER_PUBLIC_BYTES(M, N, T)] = {0x03, 0x01, 0x02, 0x00};
+static const uint8_t pattern[SHEARCOTTER_PATTERN_BYTES(N)] = {0x10};
+static const uint8_t locked[SHEARCOTTER_CAPSULE_BYTES(M, T)] = {0x03};
+
+static int differences = 0;
+
+/* Ends a line, and counts a difference where the answer is not the expected one. */
+static void end(int same)
+{
+    puts(same ? "" : "  (differs)");
+    differences += !same;
+}
+
+/* What a call answered: its number, or the bytes that it wrote; and what was expected. */
+static void row(const char *name, uint8_t refused, const uint8_t *bytes, size_t length, uint8_t number,
+                const uint8_t *expected)
+{
+    printf("%s:%s", name, refused == SHEARCOTTER_ACCEPTED && length == 0 ? " accepted" : "");
+    if (refused != SHEARCOTTER_ACCEPTED) {
+        printf(" refused %u", refused);
+        end(refused == number);
+        return;
+    }
+    for (size_t i = 0; i < length; i++) {
+        printf(" %02X", bytes[i]);
+    }
+    end(number == SHEARCOTTER_ACCEPTED && memcmp(bytes, expected, length) == 0);
+}
+
+/* Opens a capsule of one byte: the pattern and its t ones; or the number, and then nothing is written. */
+static void open_row(const char *name, shearcotter_station station, uint8_t capsule, uint8_t number)
+{
+    uint8_t out[sizeof pattern] = {0};
+    shearcotter_reply reply = shearcotter_open(station, &capsule, 1, out, sizeof out);
+    row(name, reply.refused, out, sizeof out, number, pattern);
+    printf("  ones %u, state %u", reply.ones, reply.station.state);
+    end(reply.ones == (number == SHEARCOTTER_ACCEPTED ? T : 0) && reply.station.state == SHEARCOTTER_PUBLISHED &&
+        (number == SHEARCOTTER_ACCEPTED || out[0] == 0));
+}
+
+int main(void)
+{
+    uint8_t public_key[sizeof t_rows];
+    uint8_t work[SHEARCOTTER_WORK_BYTES(M, N, T)];
+    uint8_t capsule[sizeof locked];
+
+    shearcotter_reply reply = shearcotter_load(shearcotter_fresh(), k1, sizeof k1);
+    row("P1 load", reply.refused, k1, 0, SHEARCOTTER_ACCEPTED, k1);
+
+    reply = shearcotter_publish(reply.station, public_key, sizeof public_key, work, sizeof work);
+    row("P2 publish", reply.refused, public_key, sizeof public_key, SHEARCOTTER_ACCEPTED, t_rows);
+
+    uint8_t refused =
+        shearcotter_lock(M, N, T, public_key, sizeof public_key, pattern, sizeof pattern, capsule, sizeof capsule);
+    row("P3 lock 10", refused, capsule, sizeof capsule, SHEARCOTTER_ACCEPTED, locked);
+
+    open_row("P4 open 03", reply.station, capsule[0], SHEARCOTTER_ACCEPTED);
+    open_row("P5 open 00", reply.station, 0x00, SHEARCOTTER_NO_PATTERN);
+    open_row("P7 open 13", reply.station, 0x13, SHEARCOTTER_FILLER_SET);
+
+    reply = shearcotter_drop(reply.station);
+    row("drop", reply.refused, k1, 0, SHEARCOTTER_ACCEPTED, k1);
+    return differences != 0;
+}

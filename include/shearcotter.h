@@ -1,0 +1,159 @@
+/* Goppa code capsules: field, keys, public key, locking, reading, opening. Link libshearcotter.a (x86-64).
+ *
+ * Rules for every call:
+ * - Pointers are not null, also with length 0, and the buffers of one call do not overlap.
+ * - A call with output writes from its start; bytes beyond those written keep their contents.
+ * - A refusal writes nothing (but publish's workspace under 23) and hands the caller's station back unchanged.
+ * - Refusals are listed in the order in which they are looked for: the first whose condition holds is answered.
+ * - Nothing is allocated or kept between calls, so calls may run at once in several threads.
+ * - Stack, argument and reply included, in KiB: open and read 201, publish 162, load 101, drop 49, fresh 33, the others 4.
+ */
+#ifndef SHEARCOTTER_H
+#define SHEARCOTTER_H
+
+#include <stddef.h>
+#include <stdint.h>
+
+#ifdef __cplusplus
+extern "C" {
+#endif
+
+enum shearcotter_limit {
+    SHEARCOTTER_MOST_PLACES = 8192,  /* n */
+    SHEARCOTTER_MOST_ERRORS = 128,   /* t */
+    SHEARCOTTER_LONGEST = 256,       /* elements in the list for a register */
+    SHEARCOTTER_COEFFICIENTS = 257   /* of a register's connection polynomial */
+};
+
+/* Byte lengths for the shape (m, n, t), with m*t < n. */
+#define SHEARCOTTER_FILE_BYTES(n, t) (5 + 2 * (size_t)(n) + 2 * (size_t)(t))
+#define SHEARCOTTER_PATTERN_BYTES(n) (((size_t)(n) + 7) / 8)
+#define SHEARCOTTER_CAPSULE_BYTES(m, t) (((size_t)(m) * (t) + 7) / 8)
+#define SHEARCOTTER_PUBLIC_BYTES(m, n, t) ((size_t)(m) * (t) * (((size_t)(n) - (size_t)(m) * (t) + 7) / 8))
+#define SHEARCOTTER_WORK_BYTES(m, n, t) ((size_t)(m) * (t) * (((size_t)(n) + 7) / 8))
+
+enum shearcotter_state {
+    SHEARCOTTER_EMPTY = 0,
+    SHEARCOTTER_LOADED = 1,
+    SHEARCOTTER_PUBLISHED = 2  /* so is any other number; stations made by these calls have 0, 1 or 2 */
+};
+
+/* What `refused` says. */
+enum shearcotter_refusal {
+    SHEARCOTTER_ACCEPTED = 0,
+    /* caused by the input */
+    SHEARCOTTER_BAD_WIDTH = 1,          /* width missing or not 4, 12, 13 */
+    SHEARCOTTER_BAD_LENGTH = 2,         /* key file ends too early or too late; register list over 256 */
+    SHEARCOTTER_BAD_SHAPE = 3,          /* shape out of limits; position not 1 to 5 */
+    SHEARCOTTER_BAD_ELEMENT = 4,        /* element 2^m or more */
+    SHEARCOTTER_ELEMENT_TWICE = 5,      /* support element twice */
+    SHEARCOTTER_SQUARE_FACTOR = 6,      /* a square divides g */
+    SHEARCOTTER_ROOT_IN_SUPPORT = 7,    /* g is 0 at a support element */
+    SHEARCOTTER_BAD_BYTES = 8,          /* word, capsule, pattern or public key of wrong byte length */
+    SHEARCOTTER_FILLER_SET = 9,         /* an unused high bit of a last byte is set */
+    SHEARCOTTER_SHORT_OUTPUT = 10,      /* output shorter than needed */
+    SHEARCOTTER_SHORT_WORKSPACE = 11,   /* workspace shorter than needed */
+    SHEARCOTTER_NOT_T_ONES = 12,        /* pattern to lock has not t ones */
+    SHEARCOTTER_NO_PATTERN = 13,        /* no pattern for the capsule */
+    SHEARCOTTER_NO_CODE_WORD = 14,      /* no code word within t places */
+    /* caused by the station */
+    SHEARCOTTER_NO_KEY = 21,
+    SHEARCOTTER_KEY_HELD = 22,
+    SHEARCOTTER_DEPENDENT_COLUMNS = 23, /* the first m*t columns are dependent: no public key */
+    SHEARCOTTER_NOT_PUBLISHED = 24,
+    SHEARCOTTER_UNSOUND_KEY = 25        /* the key is not one that load accepts: a station not made by these calls */
+};
+
+/* The support's first n and g's first t numbers are the key's. */
+typedef struct {
+    uint8_t m;
+    uint16_t n;
+    uint16_t t;
+    uint16_t support[SHEARCOTTER_MOST_PLACES];
+    uint16_t g[SHEARCOTTER_MOST_ERRORS];
+} shearcotter_key;
+
+/* One slot for a key, owned by the caller and passed by value. Compare members, not bytes: padding is not kept. */
+typedef struct {
+    uint8_t state;
+    shearcotter_key key;
+} shearcotter_station;
+
+/* The new station, the number of the refusal, 0 for none, and the number of ones that open or read wrote. */
+typedef struct {
+    shearcotter_station station;
+    uint8_t refused;
+    uint16_t ones;
+} shearcotter_reply;
+
+/* value is 0 where it is refused. */
+typedef struct {
+    uint8_t refused;
+    uint16_t value;
+} shearcotter_element;
+
+/* m, n and t are 0 where it is refused. */
+typedef struct {
+    uint8_t refused;
+    uint8_t m;
+    uint16_t n;
+    uint16_t t;
+} shearcotter_shape;
+
+/* Coefficients 0 to 256 of the connection polynomial, with 0 past the length; length and c are 0 where it is refused. */
+typedef struct {
+    uint8_t refused;
+    size_t length;
+    uint16_t c[SHEARCOTTER_COEFFICIENTS];
+} shearcotter_register;
+
+/* a + b in the field of width m. Refused: 1, 4. */
+shearcotter_element shearcotter_add(uint8_t m, uint32_t a, uint32_t b);
+
+/* a * b in the field of width m. Refused: 1, 4. */
+shearcotter_element shearcotter_multiply(uint8_t m, uint32_t a, uint32_t b);
+
+/* 1/a in the field of width m, and 0 for 0. Refused: 1, 4. */
+shearcotter_element shearcotter_invert(uint8_t m, uint32_t a);
+
+/* Classic McEliece's shape at position 1 to 5: 348864, 460896, 6688128, 6960119, 8192128. Refused: 3. */
+shearcotter_shape shearcotter_shape_at(uint8_t position);
+
+/* The shortest register that generates the list, at most 256 elements of width m. Refused: 1, 2, 4. */
+shearcotter_register shearcotter_shortest_register(uint8_t m, const uint16_t *list, size_t list_length);
+
+/* Writes the capsule of a pattern with exactly t ones under a public key of the shape. Returns 0 or the refusal:
+ * 1, 3, 8, 9, 12, 10. */
+uint8_t shearcotter_lock(uint8_t m, uint16_t n, uint16_t t, const uint8_t *public_key, size_t public_length,
+                         const uint8_t *pattern, size_t pattern_length, uint8_t *out, size_t out_length);
+
+/* The empty station, zeros only. */
+shearcotter_station shearcotter_fresh(void);
+
+/* Keeps the key of a key file: m in a byte, n in two, low byte first, n elements of two, t in two, g_0 to g_(t-1) of two.
+ * Afterwards loaded. Refused: 22, 1, 2, 3, 4, 5, 6, 7. */
+shearcotter_reply shearcotter_load(shearcotter_station station, const uint8_t *file, size_t file_length);
+
+/* Writes the public key, row after row, worked out in `work`, whose contents are free once 21, 25, 10, 11 are passed.
+ * Afterwards published. Refused: 21, 25, 10, 11, 23. */
+shearcotter_reply shearcotter_publish(shearcotter_station station, uint8_t *out, size_t out_length, uint8_t *work,
+                                      size_t work_length);
+
+/* Writes the pattern with exactly t ones that locks to the capsule, and counts its ones. The station stays.
+ * Refused: 21, 25, 24, 8, 9, 10, 13. */
+shearcotter_reply shearcotter_open(shearcotter_station station, const uint8_t *capsule, size_t capsule_length, uint8_t *out,
+                                   size_t out_length);
+
+/* Writes the pattern that turns the word into the code word within t places, and counts its ones. The station stays.
+ * Refused: 21, 25, 8, 9, 10, 14. */
+shearcotter_reply shearcotter_read(shearcotter_station station, const uint8_t *word, size_t word_length, uint8_t *out,
+                                   size_t out_length);
+
+/* Afterwards the station is a fresh one. Refused: 21. */
+shearcotter_reply shearcotter_drop(shearcotter_station station);
+
+#ifdef __cplusplus
+}
+#endif
+
+#endif
