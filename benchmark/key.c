@@ -5,7 +5,8 @@
 #include <stdbool.h>
 #include <time.h>
 
-uint8_t bench_load(const uint8_t *file, size_t file_len);
+#include "shearcotter.h"
+
 bool bench_square(uint8_t m, const uint16_t *g, size_t g_len);
 bool bench_distinct(const uint16_t *s, size_t s_len);
 void bench_horner(uint8_t m, uint16_t *r, size_t r_len, const uint16_t *a, size_t a_len, uint16_t c);
@@ -40,6 +41,8 @@ __attribute__((noinline)) static uint16_t value(uint16_t a)
     return r;
 }
 
+static uint8_t load_number(const uint8_t *f) { return shearcotter_load(shearcotter_fresh(), f, BYTES).refused; }
+
 static double least(double x, double y) { return x < y ? x : y; }
 
 int main(void)
@@ -61,7 +64,7 @@ int main(void)
     int wrong = 0;
     for (int try = 0; try < TRIES; try++) {
         double a = now();
-        wrong += bench_load(file, BYTES) != 0;
+        wrong += load_number(file) != 0;
         double b = now();
         wrong += bench_square(13, g, T);
         double c = now();
@@ -73,7 +76,7 @@ int main(void)
         for (int i = 0; i < N; i++)
             theirs[i] = value(support[i]);
         double e = now();
-        wrong += bench_load(refused, BYTES) != 4;
+        wrong += load_number(refused) != 4;
         double f = now();
         wrong += !bench_distinct(support, N);
         double h = now();

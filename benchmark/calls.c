@@ -1,0 +1,245 @@
+/* Publishing, locking, opening and reading at the standard's five shapes: the least processor time of many tries, in ms.
+   Standard input, where it has lines: a shape's name and the times of Bouncy Castle's decapsulation and encapsulation. */
+#include <stdio.h>
+#include <stdlib.h>
+#include <string.h>
+#include <time.h>
+
+#include "shearcotter.h"
+
+enum { SHAPES = 5, PLACES = SHEARCOTTER_MOST_PLACES, MOST_ROWS = 13 * SHEARCOTTER_MOST_ERRORS, WORD = PLACES / 8 };
+static const char *names[SHAPES] = {"mceliece348864", "mceliece460896", "mceliece6688128", "mceliece6960119", "mceliece8192128"};
+
+/* One shape: its sizes, key and inputs. */
+static int m, n, t, rows;
+static size_t file_bytes, word_bytes, capsule_bytes, public_bytes, row_bytes;
+static uint8_t file[SHEARCOTTER_FILE_BYTES(PLACES, SHEARCOTTER_MOST_ERRORS) + 1];
+static uint8_t public_key[MOST_ROWS * WORD], again[MOST_ROWS * WORD], work[MOST_ROWS * WORD];
+static uint8_t pattern[WORD], capsule[WORD], own[WORD], filled[WORD], errors[WORD], ones[WORD], out[WORD], zeros[WORD];
+static shearcotter_station station;
+static int differences;
+
+/* Least times: ours, then Bouncy Castle's. */
+typedef struct {
+    double load, publish, lock, open, capsule_read, errors_read, refused_read, decapsulate, encapsulate;
+} times;
+
+static double now(void)
+{
+    struct timespec c;
+    clock_gettime(CLOCK_THREAD_CPUTIME_ID, &c);
+    return c.tv_sec * 1e3 + c.tv_nsec / 1e6;
+}
+
+static void lessen(double *least, double x) { *least = *least == 0 || x < *least ? x : *least; }
+
+/* Fixed pseudorandom numbers. */
+static uint64_t seed = 1;
+static uint32_t next(void)
+{
+    seed ^= seed << 13, seed ^= seed >> 7, seed ^= seed << 17;
+    return (uint32_t)(seed >> 32);
+}
+
+static int bit(const uint8_t *row, int i) { return row[i / 8] >> i % 8 & 1; }
+
+static void set(uint8_t *row, int i, int v) { row[i / 8] = (uint8_t)((row[i / 8] & ~(1 << i % 8)) | v << i % 8); }
+
+/* A pattern of t ones. */
+static void draw(void)
+{
+    memset(pattern, 0, sizeof pattern);
+    for (int k = 0; k < t;) {
+        int i = (int)(next() % (uint32_t)n);
+        k += !bit(pattern, i);
+        set(pattern, i, 1);
+    }
+}
+
+/* A code word: a pseudorandom second part d behind T·d. */
+static void code_word(uint8_t *word)
+{
+    memset(word, 0, WORD);
+    for (int i = rows; i < n; i++)
+        set(word, i, (int)(next() & 1));
+    for (int r = 0; r < rows; r++) {
+        int x = 0;
+        for (int i = 0; i < n - rows; i++)
+            x ^= bit(public_key + (size_t)r * row_bytes, i) & bit(word, rows + i);
+        set(word, r, x);
+    }
+}
+
+static int read_key(int shape)
+{
+    char path[100];
+    snprintf(path, sizeof path, "crates/key_vectors/data/%s.key", names[shape]);
+    FILE *key = fopen(path, "rb");
+    size_t size = key ? fread(file, 1, sizeof file, key) : 0;
+    if (key)
+        fclose(key);
+    return size == file_bytes;
+}
+
+/* The shape's sizes, its key loaded and published, its inputs. */
+static int prepare(int shape)
+{
+    shearcotter_shape s = shearcotter_shape_at((uint8_t)(shape + 1));
+    m = s.m, n = s.n, t = s.t, rows = m * t;
+    file_bytes = SHEARCOTTER_FILE_BYTES(n, t);
+    word_bytes = SHEARCOTTER_PATTERN_BYTES(n);
+    capsule_bytes = SHEARCOTTER_CAPSULE_BYTES(m, t);
+    public_bytes = SHEARCOTTER_PUBLIC_BYTES(m, n, t);
+    row_bytes = public_bytes / (size_t)rows;
+    if (!read_key(shape))
+        return 0;
+    shearcotter_reply r = shearcotter_load(shearcotter_fresh(), file, file_bytes);
+    r = shearcotter_publish(r.station, public_key, public_bytes, work, sizeof work);
+    station = r.station;
+    draw();
+    differences += r.refused != 0;
+    differences += shearcotter_lock((uint8_t)m, (uint16_t)n, (uint16_t)t, public_key, public_bytes, pattern, word_bytes, capsule, WORD) != 0;
+    memset(filled, 0, WORD);
+    memcpy(filled, capsule, capsule_bytes);
+    code_word(errors);
+    for (int i = 0; i < WORD; i++)
+        errors[i] ^= pattern[i];
+    memset(ones, 0, WORD);
+    for (int i = 0; i < n; i++)
+        set(ones, i, 1);
+    return 1;
+}
+
+/* One read of a word; it answers the number, and the pattern is found or the output unchanged. */
+static void read_word(double *least, const uint8_t *word, int number)
+{
+    memset(out, 0, WORD);
+    double a = now();
+    shearcotter_reply r = shearcotter_read(station, word, word_bytes, out, WORD);
+    lessen(least, now() - a);
+    differences += r.refused != number || memcmp(out, number ? zeros : pattern, WORD) != 0;
+}
+
+static void open_capsule(times *x)
+{
+    memset(out, 0, WORD);
+    double a = now();
+    shearcotter_reply r = shearcotter_open(station, capsule, capsule_bytes, out, WORD);
+    lessen(&x->open, now() - a);
+    differences += r.refused != 0 || memcmp(out, pattern, WORD) != 0;
+}
+
+static void load_lock(times *x)
+{
+    double a = now();
+    shearcotter_reply r = shearcotter_load(shearcotter_fresh(), file, file_bytes);
+    double b = now();
+    int y = shearcotter_lock((uint8_t)m, (uint16_t)n, (uint16_t)t, public_key, public_bytes, pattern, word_bytes, own, WORD);
+    lessen(&x->lock, now() - b);
+    lessen(&x->load, b - a);
+    differences += r.refused != 0 || y != 0 || memcmp(own, capsule, capsule_bytes) != 0;
+}
+
+static void publish(times *x)
+{
+    double a = now();
+    shearcotter_reply r = shearcotter_publish(station, again, public_bytes, work, sizeof work);
+    lessen(&x->publish, now() - a);
+    differences += r.refused != 0 || memcmp(again, public_key, public_bytes) != 0;
+}
+
+static void measure(times *x)
+{
+    for (int try = 0; try < 40; try++) {
+        load_lock(x);
+        open_capsule(x);
+        read_word(&x->capsule_read, filled, 0);
+        read_word(&x->errors_read, errors, 0);
+        read_word(&x->refused_read, ones, SHEARCOTTER_NO_CODE_WORD);
+    }
+    for (int try = 0; try < 5; try++)
+        publish(x);
+}
+
+/* A station passed by value and handed back with 21, in ns. */
+static double passed_by_value(void)
+{
+    double least = 0;
+    shearcotter_station s = shearcotter_fresh();
+    for (int try = 0; try < 20; try++) {
+        double a = now();
+        for (int i = 0; i < 1000; i++)
+            differences += shearcotter_drop(s).refused != SHEARCOTTER_NO_KEY;
+        lessen(&least, (now() - a) * 1e3);
+    }
+    return least;
+}
+
+static void peer_times(times *x)
+{
+    char name[40];
+    double decapsulate, encapsulate;
+    while (scanf("%39s %lf %lf", name, &decapsulate, &encapsulate) == 3)
+        for (int i = 0; i < SHAPES; i++)
+            if (strcmp(name, names[i]) == 0)
+                x[i].decapsulate = decapsulate, x[i].encapsulate = encapsulate;
+}
+
+static void ratio(const char *call, const char *peer, const times *x, size_t ours, size_t theirs)
+{
+    printf("%-28s", call);
+    for (int i = 0; i < SHAPES; i++) {
+        double a = *(const double *)((const char *)&x[i] + ours);
+        double b = theirs ? *(const double *)((const char *)&x[i] + theirs) : 0;
+        printf(b ? " %9.3f %5.1f" : " %9.3f      ", a, b / a);
+    }
+    printf("  %s\n", theirs && x[0].decapsulate ? peer : "");
+}
+
+static void chart(const times *x)
+{
+    printf("\nDecapsulation by Bouncy Castle / ours, a mark for each time faster:\n");
+    for (int i = 0; i < SHAPES; i++) {
+        double open = x[i].decapsulate / x[i].open, read = x[i].decapsulate / x[i].errors_read;
+        printf("%-16s open %5.1f ", names[i], open);
+        for (int k = 0; k < (int)open; k++)
+            putchar('#');
+        printf("\n%-16s read %5.1f ", "", read);
+        for (int k = 0; k < (int)read; k++)
+            putchar('#');
+        printf("\n");
+    }
+}
+
+int main(void)
+{
+    static times x[SHAPES];
+    peer_times(x);
+    for (int i = 0; i < SHAPES; i++) {
+        if (!prepare(i)) {
+            fprintf(stderr, "bench: the key of %s cannot be read\n", names[i]);
+            return 1;
+        }
+        measure(&x[i]);
+    }
+    printf("%-28s", "ms, times faster than peer");
+    for (int i = 0; i < SHAPES; i++)
+        printf(" %15s", names[i]);
+    printf("\n");
+    size_t d = offsetof(times, decapsulate), e = offsetof(times, encapsulate);
+    if (x[0].decapsulate) {
+        ratio("Bouncy Castle, decapsulate", "", x, d, 0);
+        ratio("Bouncy Castle, encapsulate", "", x, e, 0);
+    }
+    ratio("open", "against decapsulate", x, offsetof(times, open), d);
+    ratio("read, capsule and zeros", "against decapsulate", x, offsetof(times, capsule_read), d);
+    ratio("read, code word, t errors", "against decapsulate", x, offsetof(times, errors_read), d);
+    ratio("read, ones only, refused", "against decapsulate", x, offsetof(times, refused_read), d);
+    ratio("lock", "against encapsulate", x, offsetof(times, lock), e);
+    ratio("load", "", x, offsetof(times, load), 0);
+    ratio("publish", "", x, offsetof(times, publish), 0);
+    if (x[0].decapsulate)
+        chart(x);
+    printf("\nA station passed by value and handed back: %.0f ns\n%d differences\n", passed_by_value(), differences);
+    return differences != 0;
+}
