@@ -123,11 +123,14 @@ impl Station {
             return self.refuse(x);
         }
         let key = loaded.key;
-        let station = Station {
-            state: State::Loaded,
-            key,
-        };
-        station.accept(0)
+        Reply {
+            station: Station {
+                state: State::Loaded,
+                key,
+            },
+            refused: 0,
+            ones: 0,
+        }
     }
 
     // T is written from the output's start, made in work; 21, 25, 10, 11 or 23 on refusal.
@@ -153,11 +156,14 @@ impl Station {
         let Published::Done = answer else {
             return self.refuse(published_number(answer));
         };
-        let station = Station {
-            state: State::Published,
-            key: self.key,
-        };
-        station.accept(0)
+        Reply {
+            station: Station {
+                state: State::Published,
+                key: self.key,
+            },
+            refused: 0,
+            ones: 0,
+        }
     }
 
     // The pattern of a capsule is written from the output's start; 21, 25, 24, 8, 9, 10 or 13 on refusal.
@@ -218,6 +224,10 @@ impl Station {
             return self.refuse(21);
         }
         let station = Station::fresh();
-        station.accept(0)
+        Reply {
+            station,
+            refused: 0,
+            ones: 0,
+        }
     }
 }

@@ -22,18 +22,14 @@ returns c =
 fresh-requires : tie.Need-fresh-requires
 fresh-requires c κs = tt
 
-accept-requires : tie.Need-accept-requires
-accept-requires c κs = tt
-
 returns-2 : tie.Need-returns-2
-unfolding stop lower moved tally
+unfolding stop lower moved tally acceptance
 returns-2 c =
-    let i = c .before .before .before in
-    c .accept .ensures
-    ∙ ap (λ (s : Station). acceptance s 0) (c .before .fresh .ensures)
-    ∙ lower-accepted (i .before .args .self) drop-key (sym (i .is-empty .ensures) ∙ c .before .before .if1 .left) refl
+    let i = c .before .before in
+    ap (λ (s : Station). acceptance s 0) (c .fresh .ensures)
+    ∙ lower-accepted (i .before .args .self) drop-key (sym (i .is-empty .ensures) ∙ c .before .if1 .left) refl
 
 pub drop-spec : {M : Type 1} → statement M
 drop-spec =
     tie.close
-    (tie.spec is-empty-requires refuse-requires returns fresh-requires accept-requires returns-2)
+    (tie.spec is-empty-requires refuse-requires returns fresh-requires returns-2)

@@ -3,6 +3,7 @@ use mathlib.Core.Path.{sym, ap, _∙_}
 use mathlib.Core.Bool.{not}
 use borrow.Author.Tests.{not-true, not-false}
 use Rattle.ledger.specs.Calls.{load}
+use Rattle.station.specs.Replies.{acceptance}
 use Rattle.station.proofs.ReplyLaws.{stop, stopped}
 use Rattle.station.proofs.LowerLaws.{load-refused, load-accepted}
 use Rattle.station.proofs.Station.load.Statement.{statement}
@@ -34,15 +35,12 @@ returns-2 c =
     c .refuse2 .ensures
     ∙ load-refused (a .self) (a .file .now) (sym (i .is-empty .ensures) ∙ not-false _ (c .before .before .before .if1 .left)) _ (c .before .before .load .ensures) (c .before .if2 .taken)
 
-accept-requires : tie.Need-accept-requires
-accept-requires c κs = tt
-
 returns-3 : tie.Need-returns-3
+unfolding acceptance
 returns-3 c =
-    let i = c .before .before .before .before .before in
+    let i = c .before .before .before .before in
     let a = i .before .before .args in
-    c .accept .ensures
-    ∙ load-accepted (a .self) (a .file .now) (sym (i .is-empty .ensures) ∙ not-false _ (c .before .before .before .before .if1 .left)) _ (c .before .before .before .load .ensures) (c .before .before .if2 .left)
+    load-accepted (a .self) (a .file .now) (sym (i .is-empty .ensures) ∙ not-false _ (c .before .before .before .if1 .left)) _ (c .before .before .load .ensures) (c .before .if2 .left)
 
 pub load-spec : {M : Type 1} → statement M
 load-spec =
@@ -54,5 +52,4 @@ load-spec =
     load-requires
     refuse-requires-2
     returns-2
-    accept-requires
     returns-3)

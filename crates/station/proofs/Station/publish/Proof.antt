@@ -3,7 +3,7 @@ use mathlib.Core.Path.{refl, sym, ap, _∙_}
 use borrow.Author.Needs.{needs}
 use Rattle.ledger.specs.Calls.{publish}
 use Rattle.ledger.specs.Demands.{outputOf}
-use Rattle.station.specs.Replies.{refusal}
+use Rattle.station.specs.Replies.{refusal, acceptance}
 use Rattle.station.proofs.ReplyLaws.{stop, stopped}
 use Rattle.station.proofs.LowerLaws.{publish-refused, publish-done, publish-output, publish-work}
 use Rattle.station.proofs.Station.publish.Statement.{statement}
@@ -56,9 +56,6 @@ returns-2 c =
       (p .publish .ensures .1 .0 ∙ publish-output (a .t1) (a .out .now) (a .work .now) k, λ f. p .publish .ensures .1 .1 (publish-work (a .t1) (a .out .now) (a .work .now) k f)),
     )
 
-accept-requires : tie.Need-accept-requires
-accept-requires c κs = tt
-
 same-length-3 : tie.Need-same-length-3
 same-length-3 c = search needs
 
@@ -66,12 +63,13 @@ same-length-4 : tie.Need-same-length-4
 same-length-4 c = search needs
 
 returns-3 : tie.Need-returns-3
+unfolding acceptance
 returns-3 c =
-    let p = c .before .before .before .before .before .before .before .before in
+    let p = c .before .before .before .before .before .before .before in
     let l = p .before .before .before .before .before .before in
     let a = l .before .before .before .before .args in
     let k = sym (l .before .is-empty .ensures) ∙ l .if1 .left in (
-      c .accept .ensures ∙ publish-done (a .t1) (a .out .now) (a .work .now) k _ (p .publish .ensures .0) (c .before .before .enum-told .given .1),
+      publish-done (a .t1) (a .out .now) (a .work .now) k _ (p .publish .ensures .0) (c .before .enum-told .given .1),
       (p .publish .ensures .1 .0 ∙ publish-output (a .t1) (a .out .now) (a .work .now) k, λ f. p .publish .ensures .1 .1 (publish-work (a .t1) (a .out .now) (a .work .now) k f)),
     )
 
@@ -90,7 +88,6 @@ publish-spec =
     same-length
     same-length-2
     returns-2
-    accept-requires
     same-length-3
     same-length-4
     returns-3)
