@@ -17,8 +17,8 @@
 //! # Ok::<(), shearcotter::Refusal>(())
 //! ```
 //!
-//! A call needs up to 200 KiB of stack besides the station, which passes by value (16 KiB). Each call touches
-//! [`raw::STACK`] bytes of stack first, so a thread with less ends at its guard page and nowhere else.
+//! A call needs up to 210 KiB of stack, since the station passes by value. Each call touches [`raw::STACK`] bytes of
+//! stack first, so that a thread with less ends at its guard page and nowhere else.
 
 #![deny(missing_docs)]
 #![deny(unsafe_code)]

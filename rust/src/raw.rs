@@ -18,8 +18,8 @@ pub const MOST_ERRORS: usize = 128;
 pub const LONGEST: usize = 256;
 /// Coefficients of a register's connection polynomial.
 pub const COEFFICIENTS: usize = LONGEST + 1;
-/// Bytes of stack that each safe call makes sure of: the calls need some 200 KiB, and four copies of the station.
-pub const STACK: usize = 384 * 1024;
+/// Bytes of stack that each safe call makes sure of; the calls need at most 210 KiB, the station's argument counted.
+pub const STACK: usize = 256 * 1024;
 
 /// `state` of an empty station.
 pub const EMPTY: u8 = 0;

@@ -23,8 +23,5 @@ impl Register {
 
 /// The shortest register of at most 256 elements: refused with the first that applies of 1, 2, 4.
 pub fn register(m: u8, list: &[u16]) -> Result<Register, Refusal> {
-    raw::register(m, list).map(|found| Register {
-        length: found.length,
-        coefficients: found.c,
-    })
+    raw::register(m, list).map(|found| Register { length: found.length, coefficients: found.c })
 }

@@ -45,11 +45,7 @@ impl Shape {
 
     /// The standard's shape at position 1 to 5, else refused with [`Refusal::Shape`].
     pub fn at(position: u8) -> Result<Shape, Refusal> {
-        raw::shape_at(position).map(|shape| Shape {
-            m: shape.m,
-            n: shape.n,
-            t: shape.t,
-        })
+        raw::shape_at(position).map(|shape| Shape { m: shape.m, n: shape.n, t: shape.t })
     }
 
     /// The standard's shape with a name.
@@ -60,9 +56,7 @@ impl Shape {
 
     /// The standard's name: mceliece, then n, then t.
     pub fn name(self) -> Option<String> {
-        Shape::STANDARD
-            .contains(&self)
-            .then(|| format!("mceliece{}{}", self.n, self.t))
+        Shape::STANDARD.contains(&self).then(|| format!("mceliece{}{}", self.n, self.t))
     }
 
     /// The width.

@@ -14,9 +14,7 @@ pub struct Station {
 impl Station {
     /// An empty station.
     pub fn fresh() -> Station {
-        Station {
-            raw: Box::new(raw::fresh()),
-        }
+        Station { raw: Box::new(raw::fresh()) }
     }
 
     /// The shape of the key that it holds.

@@ -7,13 +7,8 @@ use crate::independent::held::Held;
 use crate::independent::random::Random;
 use crate::independent::{bits, calls, matrix, poly};
 
-const STANDARD: [(u8, usize, usize); 5] = [
-    (12, 3488, 64),
-    (13, 4608, 96),
-    (13, 6688, 128),
-    (13, 6960, 119),
-    (13, 8192, 128),
-];
+const STANDARD: [(u8, usize, usize); 5] =
+    [(12, 3488, 64), (13, 4608, 96), (13, 6688, 128), (13, 6960, 119), (13, 8192, 128)];
 
 /// All shapes of m 4; (4, 16, 1) has no key, since every g of degree 1 has a root in the field.
 pub fn small_shapes() -> Vec<(u8, usize, usize)> {
@@ -23,15 +18,8 @@ pub fn small_shapes() -> Vec<(u8, usize, usize)> {
 
 fn answer(result: Result<Pattern, Refusal>) -> calls::Outcome {
     match result {
-        Ok(pattern) => calls::Outcome {
-            number: 0,
-            ones: pattern.ones(),
-            written: pattern.into_bytes(),
-        },
-        Err(refusal) => calls::Outcome {
-            number: refusal.number(),
-            ..Default::default()
-        },
+        Ok(pattern) => calls::Outcome { number: 0, ones: pattern.ones(), written: pattern.into_bytes() },
+        Err(refusal) => calls::Outcome { number: refusal.number(), ..Default::default() },
     }
 }
 
@@ -145,11 +133,7 @@ fn compare_large(random: &mut Random, held: &Held, rounds: usize) {
     let (n, t, rank) = (held.key.n, held.key.t, held.key.capsule_bits());
     let mut station = loaded(held);
     let published = same_public_key(&mut station, held);
-    for errors in [0, 1, t / 2, t / 2 + 1, t - 1, t, t + 1]
-        .into_iter()
-        .cycle()
-        .take(rounds)
-    {
+    for errors in [0, 1, t / 2, t / 2 + 1, t - 1, t, t + 1].into_iter().cycle().take(rounds) {
         let word = near_code_word(random, held, errors.min(n));
         same_reading(&station, held, &word);
     }
@@ -203,14 +187,7 @@ fn the_standard_shapes() {
 #[test]
 fn shapes_between() {
     let mut random = Random::new(13);
-    let at_the_limits = [
-        (12, 13, 1),
-        (13, 14, 1),
-        (12, 4096, 1),
-        (13, 8192, 1),
-        (12, 1537, 128),
-        (13, 1665, 128),
-    ];
+    let at_the_limits = [(12, 13, 1), (13, 14, 1), (12, 4096, 1), (13, 8192, 1), (12, 1537, 128), (13, 1665, 128)];
     for (m, n, t) in at_the_limits {
         let key = random.key(m, n.min((1 << m) - 1), t);
         compare_large(&mut random, &Held::new(key), 7);
@@ -288,11 +265,7 @@ fn registers_are_shortest() {
         let m = *random.pick(&[4, 12, 13]);
         let f = Field::of(m).expect("a width");
         let length = random.below(if round % 50 == 0 { 257 } else { 16 });
-        let list = if round % 3 == 0 {
-            vec![random.element(m); length]
-        } else {
-            random.elements(m, length)
-        };
+        let list = if round % 3 == 0 { vec![random.element(m); length] } else { random.elements(m, length) };
         let found = register(m, &list).expect("a register");
         let (expected, c) = independent::massey(f, &list);
         assert_eq!((found.length(), &found.coefficients()[..]), (expected, &c[..]));

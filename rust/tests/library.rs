@@ -1,6 +1,8 @@
 //! The safe types: texts, shapes and lengths, buffers of the caller, the station's states.
 
-use shearcotter::{field, lock_into, register, Refusal, Shape, Station};
+use std::mem::size_of;
+
+use shearcotter::{field, lock_into, raw, register, Refusal, Shape, Station};
 
 use crate::bench_keys::K1;
 
@@ -11,10 +13,7 @@ fn refusals_have_their_numbers_and_words() {
     assert_eq!(numbers, expected);
     for number in 0..=255 {
         let refusal = Refusal::from_number(number);
-        assert_eq!(
-            refusal.map(Refusal::number),
-            expected.contains(&number).then_some(number)
-        );
+        assert_eq!(refusal.map(Refusal::number), expected.contains(&number).then_some(number));
     }
     assert_eq!(Refusal::NoPattern.to_string(), "refused 13: no pattern for the capsule");
 }
@@ -40,17 +39,20 @@ fn positions_names_and_lengths() {
 #[test]
 fn shapes_out_of_limits() {
     assert_eq!(Shape::new(5, 6, 1), Err(Refusal::Width));
-    for (m, n, t) in [
-        (4, 4, 1),
-        (4, 17, 1),
-        (4, 6, 0),
-        (13, 8192, 129),
-        (12, 4097, 64),
-        (12, 0, 0),
-    ] {
+    for (m, n, t) in [(4, 4, 1), (4, 17, 1), (4, 6, 0), (13, 8192, 129), (12, 4097, 64), (12, 0, 0)] {
         assert_eq!(Shape::new(m, n, t), Err(Refusal::Shape), "{m},{n},{t}");
     }
     assert!(Shape::new(4, 5, 1).is_ok() && Shape::new(12, 13, 1).is_ok());
+}
+
+/// The sizes of the header's structs on x86-64, members in order with C's padding.
+#[test]
+fn sizes_of_the_structs() {
+    assert_eq!(size_of::<raw::Key>(), 6 + 2 * 8192 + 2 * 128);
+    assert_eq!(size_of::<raw::Station>(), 2 + size_of::<raw::Key>());
+    assert_eq!(size_of::<raw::Reply>(), size_of::<raw::Station>() + 4);
+    assert_eq!((size_of::<raw::Element>(), size_of::<raw::Shape>()), (4, 6));
+    assert_eq!(size_of::<raw::Register>(), 536);
 }
 
 #[test]
@@ -58,14 +60,8 @@ fn lent_buffers() {
     let mut station = Station::fresh();
     station.load(&K1).expect("load accepts");
     let (mut out, mut work) = ([7; 6], [7; 4]);
-    assert_eq!(
-        station.publish_into(&mut out[..3], &mut work),
-        Err(Refusal::OutputShort)
-    );
-    assert_eq!(
-        station.publish_into(&mut out, &mut work[..3]),
-        Err(Refusal::WorkspaceShort)
-    );
+    assert_eq!(station.publish_into(&mut out[..3], &mut work), Err(Refusal::OutputShort));
+    assert_eq!(station.publish_into(&mut out, &mut work[..3]), Err(Refusal::WorkspaceShort));
     assert_eq!((out, work), ([7; 6], [7; 4]));
     assert_eq!(station.publish_into(&mut out, &mut work), Ok(()));
     assert_eq!(out, [3, 1, 2, 0, 7, 7]);
@@ -77,10 +73,7 @@ fn lent_buffers() {
     assert_eq!(station.read_into(&[0x24], &mut pattern), Ok(1));
     assert_eq!(pattern, [0x01, 7]);
     let mut capsule = [7; 2];
-    assert_eq!(
-        lock_into(4, 6, 1, &out[..4], &[0x10], &mut capsule[..0]),
-        Err(Refusal::OutputShort)
-    );
+    assert_eq!(lock_into(4, 6, 1, &out[..4], &[0x10], &mut capsule[..0]), Err(Refusal::OutputShort));
     assert_eq!(lock_into(4, 6, 1, &out[..4], &[0x10], &mut capsule), Ok(()));
     assert_eq!(capsule, [3, 7]);
     assert_eq!(lock_into(3, 6, 1, &[], &[], &mut []), Err(Refusal::Width));
@@ -98,16 +91,10 @@ fn states() {
     station.load(&K1).expect("load accepts");
     assert_eq!(station.load(&K1), Err(Refusal::KeyHeld));
     assert_eq!(station.open(&[3]), Err(Refusal::NotPublished));
-    assert_eq!(
-        (station.shape(), station.is_published()),
-        (Shape::new(4, 6, 1).ok(), false)
-    );
+    assert_eq!((station.shape(), station.is_published()), (Shape::new(4, 6, 1).ok(), false));
     station.publish().expect("publish accepts");
     assert!(station.is_published());
-    assert_eq!(
-        format!("{station:?}"),
-        "Station { shape: Some(Shape { m: 4, n: 6, t: 1 }), published: true, .. }"
-    );
+    assert_eq!(format!("{station:?}"), "Station { shape: Some(Shape { m: 4, n: 6, t: 1 }), published: true, .. }");
     assert_eq!(station.drop_key(), Ok(()));
     assert_eq!((station.shape(), station.is_published()), (None, false));
     station.load(&K1).expect("load accepts again");

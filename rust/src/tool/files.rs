@@ -14,9 +14,7 @@ pub const MOST_OF_A_KEY: usize = 5 + 4 * u16::MAX as usize;
 pub fn read(path: &Path, limit: usize) -> Result<Vec<u8>, Failure> {
     let mut bytes = vec![];
     let file = File::open(path).map_err(|error| Failure::file(path, error))?;
-    file.take(limit as u64 + 1)
-        .read_to_end(&mut bytes)
-        .map_err(|error| Failure::file(path, error))?;
+    file.take(limit as u64 + 1).read_to_end(&mut bytes).map_err(|error| Failure::file(path, error))?;
     Ok(bytes)
 }
 

@@ -19,12 +19,7 @@ impl Progress {
     /// Shown where standard error is a terminal and the lines on standard output do not show progress themselves.
     pub fn new(total: Option<u64>, unit: &'static str) -> Progress {
         let wanted = io::stderr().is_terminal() && !io::stdout().is_terminal();
-        Progress {
-            total,
-            unit,
-            next: wanted.then(|| Instant::now() + LONG),
-            shown: false,
-        }
+        Progress { total, unit, next: wanted.then(|| Instant::now() + LONG), shown: false }
     }
 
     pub fn show(&mut self, done: u64) {
@@ -63,13 +58,7 @@ mod tests {
     #[test]
     fn bars() {
         assert_eq!(text(7, None, "words"), "7 words");
-        assert_eq!(
-            text(1, Some(2), "words"),
-            "[###############...............]  50 % 1 of 2 words"
-        );
-        assert_eq!(
-            text(3, Some(3), "words"),
-            "[##############################] 100 % 3 of 3 words"
-        );
+        assert_eq!(text(1, Some(2), "words"), "[###############...............]  50 % 1 of 2 words");
+        assert_eq!(text(3, Some(3), "words"), "[##############################] 100 % 3 of 3 words");
     }
 }

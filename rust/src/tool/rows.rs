@@ -28,12 +28,7 @@ impl Rows {
                 (path.display().to_string(), Box::new(file), total)
             }
         };
-        Ok(Rows {
-            name,
-            input: BufReader::with_capacity(1 << 16, input),
-            length,
-            progress: Progress::new(total, unit),
-        })
+        Ok(Rows { name, input: BufReader::with_capacity(1 << 16, input), length, progress: Progress::new(total, unit) })
     }
 
     /// The next row, shorter at a tail; whether there was one.

@@ -15,10 +15,7 @@ impl<T: Copy + PartialEq + std::fmt::Debug> Guarded<T> {
     pub fn around(content: &[T], canary: T) -> Guarded<T> {
         let side = [canary; CANARY];
         let all = [&side[..], content, &side[..]].concat();
-        Guarded {
-            before: all.clone(),
-            all,
-        }
+        Guarded { before: all.clone(), all }
     }
 
     pub fn content(&self) -> &[T] {
@@ -45,11 +42,7 @@ impl<T: Copy + PartialEq + std::fmt::Debug> Guarded<T> {
     /// The bytes stand at the start, and nothing else has changed.
     pub fn written(&self, bytes: &[T]) {
         let end = CANARY + bytes.len();
-        assert!(
-            self.all[CANARY..end] == *bytes,
-            "{:?} is not {bytes:?}",
-            &self.all[CANARY..end]
-        );
+        assert!(self.all[CANARY..end] == *bytes, "{:?} is not {bytes:?}", &self.all[CANARY..end]);
         assert!(self.all[..CANARY] == self.before[..CANARY], "written before the start");
         assert!(self.all[end..] == self.before[end..], "written past the end");
     }

@@ -52,9 +52,7 @@ fn trials() -> u64 {
 /// Past the capture of test output, so that the count is always seen.
 fn report(total: u64, tally: &Tally) {
     let mut lines = format!("boundary: {total} calls tried\n");
-    for name in [
-        "field", "shape_at", "register", "lock", "load", "publish", "open", "read", "drop",
-    ] {
+    for name in ["field", "shape_at", "register", "lock", "load", "publish", "open", "read", "drop"] {
         let of_name = tally.iter().filter(|((call, _), _)| *call == name);
         let counts: Vec<String> = of_name
             .map(|((_, number), count)| match number {

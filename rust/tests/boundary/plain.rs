@@ -58,13 +58,7 @@ pub fn field(random: &mut Random) -> (&'static str, u8) {
 
 pub fn shape_at(random: &mut Random) -> (&'static str, u8) {
     let position = random.number() as u8 % if random.one_in(2) { 8 } else { 255 };
-    let shapes = [
-        (12, 3488, 64),
-        (13, 4608, 96),
-        (13, 6688, 128),
-        (13, 6960, 119),
-        (13, 8192, 128),
-    ];
+    let shapes = [(12, 3488, 64), (13, 4608, 96), (13, 6688, 128), (13, 6960, 119), (13, 8192, 128)];
     let expected = usize::from(position).checked_sub(1).and_then(|i| shapes.get(i));
     let shape = unsafe { calls::shearcotter_shape_at(position) };
     let number = if expected.is_some() { 0 } else { 3 };
@@ -98,12 +92,7 @@ pub fn register(random: &mut Random) -> (&'static str, u8) {
         Some(f) if number == 0 => massey(f, list.content()),
         _ => (0, vec![0; 257]),
     };
-    assert_eq!(
-        (answer.length, &answer.c[..]),
-        (length, &c[..]),
-        "{m} {:?}",
-        list.content()
-    );
+    assert_eq!((answer.length, &answer.c[..]), (length, &c[..]), "{m} {:?}", list.content());
     ("register", number)
 }
 
@@ -136,11 +125,7 @@ pub fn lock(random: &mut Random, pool: &Pool) -> (&'static str, u8) {
     let held = pool.key(random);
     let (m, n, t) = shape(random, &held);
     let mut lent = public(random, &held);
-    let mut pattern = if random.one_in(8) {
-        random.bytes(held.key.n.div_ceil(8))
-    } else {
-        pattern(random, &held)
-    };
+    let mut pattern = if random.one_in(8) { random.bytes(held.key.n.div_ceil(8)) } else { pattern(random, &held) };
     if random.one_in(4) {
         lent = cut(random, lent);
     }

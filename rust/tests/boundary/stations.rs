@@ -35,11 +35,7 @@ fn random_key(random: &mut Random, station: &mut Station) {
 
 fn other_element(random: &mut Random, station: &mut Station, held: &Held) {
     let at = random.below(held.key.n + held.key.t);
-    let x = if random.one_in(3) {
-        random.number() as u16
-    } else {
-        random.element(held.key.m)
-    };
+    let x = if random.one_in(3) { random.number() as u16 } else { random.element(held.key.m) };
     match at.checked_sub(held.key.n) {
         None => station.key.support[at] = x,
         Some(at) => station.key.g[at] = x,
@@ -95,10 +91,7 @@ fn any(random: &mut Random, pool: &Pool) -> Case {
 }
 
 fn with_state(state: u8, held: Arc<Held>) -> Case {
-    Case {
-        station: raw_calls::holding(state, &held.key),
-        held,
-    }
+    Case { station: raw_calls::holding(state, &held.key), held }
 }
 
 /// A held key for rows where the station's own has none that fits.
@@ -117,12 +110,7 @@ fn same(reply: &Reply, expected: &Outcome, before: &Station, accepted: &Station)
     assert_eq!(reply.refused, expected.number, "state {} {:?}", before.state, key());
     assert_eq!(reply.ones, expected.ones, "state {} {:?}", before.state, key());
     let after = if reply.refused == 0 { accepted } else { before };
-    assert!(
-        reply.station == *after,
-        "the station after {}: {:?}",
-        reply.refused,
-        key()
-    );
+    assert!(reply.station == *after, "the station after {}: {:?}", reply.refused, key());
 }
 
 fn file(random: &mut Random, held: &Held) -> Vec<u8> {
@@ -157,10 +145,7 @@ pub fn load(random: &mut Random, pool: &Pool) -> (&'static str, u8) {
     let file = holding(random, &content);
     let reply = unsafe { calls::shearcotter_load(case.station, file.as_ptr(), file.len()) };
     file.same();
-    let expected = Outcome {
-        number: expected::load(case.station.state, file.content()),
-        ..Outcome::default()
-    };
+    let expected = Outcome { number: expected::load(case.station.state, file.content()), ..Outcome::default() };
     let accepted = match Key::parse(file.content()) {
         Some(key) if expected.number == 0 => raw_calls::holding(1, &key),
         _ => case.station,
@@ -177,10 +162,7 @@ pub fn publish(random: &mut Random, pool: &Pool) -> (&'static str, u8) {
     let reply =
         unsafe { calls::shearcotter_publish(case.station, out.as_mut_ptr(), out.len(), work.as_mut_ptr(), work.len()) };
     let expected = expected::publish(case.station.state, &case.held, out.len(), work.len());
-    let published = Station {
-        state: 2,
-        ..case.station
-    };
+    let published = Station { state: 2, ..case.station };
     same(&reply, &expected, &case.station, &published);
     out.written(&expected.written);
     match expected.number {
@@ -200,15 +182,8 @@ pub fn open(random: &mut Random, pool: &Pool) -> (&'static str, u8) {
     let capsule = holding(random, &row);
     let length = awkward(random, held.key.n.div_ceil(8));
     let mut out = noise(random, length);
-    let reply = unsafe {
-        calls::shearcotter_open(
-            case.station,
-            capsule.as_ptr(),
-            capsule.len(),
-            out.as_mut_ptr(),
-            out.len(),
-        )
-    };
+    let reply =
+        unsafe { calls::shearcotter_open(case.station, capsule.as_ptr(), capsule.len(), out.as_mut_ptr(), out.len()) };
     let expected = expected::open(case.station.state, &case.held, capsule.content(), length);
     same(&reply, &expected, &case.station, &case.station);
     out.written(&expected.written);
@@ -238,10 +213,7 @@ pub fn read(random: &mut Random, pool: &Pool) -> (&'static str, u8) {
 pub fn drop(random: &mut Random, pool: &Pool) -> (&'static str, u8) {
     let case = any(random, pool);
     let reply = unsafe { calls::shearcotter_drop(case.station) };
-    let expected = Outcome {
-        number: expected::drop(case.station.state),
-        ..Outcome::default()
-    };
+    let expected = Outcome { number: expected::drop(case.station.state), ..Outcome::default() };
     same(&reply, &expected, &case.station, &fresh());
     ("drop", reply.refused)
 }

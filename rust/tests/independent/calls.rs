@@ -15,17 +15,11 @@ pub struct Outcome {
 }
 
 fn refused(number: u8) -> Outcome {
-    Outcome {
-        number,
-        ..Outcome::default()
-    }
+    Outcome { number, ..Outcome::default() }
 }
 
 fn written(bytes: Vec<u8>) -> Outcome {
-    Outcome {
-        written: bytes,
-        ..Outcome::default()
-    }
+    Outcome { written: bytes, ..Outcome::default() }
 }
 
 /// The first number of a list of conditions in order.
@@ -60,10 +54,7 @@ pub fn publish(state: u8, held: &Held, out: usize, work: usize) -> Outcome {
     if number != 0 {
         return refused(number);
     }
-    let number = first(&[
-        (out < held.key.public_length(), 10),
-        (work < held.key.work_length(), 11),
-    ]);
+    let number = first(&[(out < held.key.public_length(), 10), (work < held.key.work_length(), 11)]);
     if number != 0 {
         return refused(number);
     }
@@ -72,22 +63,14 @@ pub fn publish(state: u8, held: &Held, out: usize, work: usize) -> Outcome {
 
 /// 8, 9 and 10 for a row of the given number of bits.
 fn row_number(held: &Held, bits: usize, row: &[u8], out: usize) -> u8 {
-    first(&[
-        (row.len() != bits.div_ceil(8), 8),
-        (bits::filler_set(bits, row), 9),
-        (out < held.key.n.div_ceil(8), 10),
-    ])
+    first(&[(row.len() != bits.div_ceil(8), 8), (bits::filler_set(bits, row), 9), (out < held.key.n.div_ceil(8), 10)])
 }
 
 fn pattern(held: &Held, places: Option<Vec<usize>>, none: u8) -> Outcome {
     let Some(places) = places else {
         return refused(none);
     };
-    Outcome {
-        number: 0,
-        ones: places.len() as u16,
-        written: bits::pack(held.key.n, places),
-    }
+    Outcome { number: 0, ones: places.len() as u16, written: bits::pack(held.key.n, places) }
 }
 
 pub fn open(state: u8, held: &Held, capsule: &[u8], out: usize) -> Outcome {
@@ -125,10 +108,7 @@ pub fn lock(shape: (u8, u16, u16), public: &[u8], pattern: &[u8], out: usize) ->
         return refused(8);
     }
     let number = first(&[
-        (
-            public.chunks(row).any(|r| bits::filler_set(n - rank, r)) || bits::filler_set(n, pattern),
-            9,
-        ),
+        (public.chunks(row).any(|r| bits::filler_set(n - rank, r)) || bits::filler_set(n, pattern), 9),
         (bits::places(n, pattern).len() != t, 12),
         (out < rank.div_ceil(8), 10),
     ]);

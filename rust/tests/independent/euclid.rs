@@ -16,11 +16,7 @@ impl Reader {
     pub fn new(key: &Key) -> Reader {
         let (f, g) = (key.field(), key.polynomial());
         let inverse = |x: &u16| f.invert(value(f, &g, *x));
-        Reader {
-            square: multiply(f, &g, &g),
-            inverse: key.support.iter().map(inverse).collect(),
-            key: key.clone(),
-        }
+        Reader { square: multiply(f, &g, &g), inverse: key.support.iter().map(inverse).collect(), key: key.clone() }
     }
 
     /// The sum over the places of 1/(x − α) modulo g²: (g²(x) − g²(α)) / (x − α) / g²(α) by synthetic division.

@@ -25,12 +25,7 @@ fn word_of(row: &[u8]) -> u16 {
 
 impl Held {
     pub fn new(key: Key) -> Held {
-        Held {
-            key,
-            number: OnceLock::new(),
-            public: OnceLock::new(),
-            reader: OnceLock::new(),
-        }
+        Held { key, number: OnceLock::new(), public: OnceLock::new(), reader: OnceLock::new() }
     }
 
     /// Load's number for the key, or 0.

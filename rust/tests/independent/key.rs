@@ -41,13 +41,7 @@ impl Key {
         let m = *file.first()?;
         let n = number_at(file, 1);
         let t = number_at(file, 3 + 2 * n);
-        let key = Key {
-            m,
-            n,
-            t,
-            support: elements_at(file, 3, n),
-            g: elements_at(file, 5 + 2 * n, t),
-        };
+        let key = Key { m, n, t, support: elements_at(file, 3, n), g: elements_at(file, 5 + 2 * n, t) };
         (file.len() == 5 + 2 * n + 2 * t).then_some(key)
     }
 

@@ -60,9 +60,7 @@ fn clear_below(f: &Field, rows: &mut [Vec<u16>], column: usize) {
 
 /// The least length for which a register makes the list.
 pub fn shortest(f: &Field, list: &[u16]) -> usize {
-    (0..=list.len())
-        .find(|length| solvable(f, list, *length))
-        .expect("a register as long as the list makes it")
+    (0..=list.len()).find(|length| solvable(f, list, *length)).expect("a register as long as the list makes it")
 }
 
 /// Whether the polynomial (c_0 = 1, then c_1..c_length, then zeros) makes the list.

@@ -27,10 +27,7 @@ fn columns(key: &Key) -> Vec<u16> {
 impl Reader {
     /// Only for m 4; n is then at most 16 and t at most 3.
     pub fn new(key: &Key) -> Reader {
-        let mut reader = Reader {
-            columns: columns(key),
-            patterns: vec![None; 1 << (4 * key.t)],
-        };
+        let mut reader = Reader { columns: columns(key), patterns: vec![None; 1 << (4 * key.t)] };
         reader.enter(0, 0, 0, key.t);
         reader
     }
@@ -50,9 +47,7 @@ impl Reader {
 
     pub fn read(&self, word: u16) -> Option<u16> {
         let ones = self.columns.iter().enumerate();
-        let sums = ones
-            .filter(|(i, _)| word >> i & 1 == 1)
-            .fold(0, |sum, (_, column)| sum ^ column);
+        let sums = ones.filter(|(i, _)| word >> i & 1 == 1).fold(0, |sum, (_, column)| sum ^ column);
         self.patterns[usize::from(sums)]
     }
 }

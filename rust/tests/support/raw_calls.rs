@@ -30,13 +30,7 @@ pub fn drop(station: Station) -> Reply {
 
 /// The station that holds a key, with zeros past n and t.
 pub fn holding(state: u8, key: &key::Key) -> Station {
-    let mut raw = Key {
-        m: key.m,
-        n: key.n as u16,
-        t: key.t as u16,
-        support: [0; MOST_PLACES],
-        g: [0; MOST_ERRORS],
-    };
+    let mut raw = Key { m: key.m, n: key.n as u16, t: key.t as u16, support: [0; MOST_PLACES], g: [0; MOST_ERRORS] };
     raw.support[..key.n].copy_from_slice(&key.support);
     raw.g[..key.t].copy_from_slice(&key.g);
     Station { state, key: raw }

@@ -14,11 +14,7 @@ pub fn tool() -> Command {
 pub fn run(words: &[&str], input: &[u8]) -> Output {
     let mut command = tool();
     command.args(words).stdin(Stdio::piped());
-    let mut child = command
-        .stdout(Stdio::piped())
-        .stderr(Stdio::piped())
-        .spawn()
-        .expect("the tool starts");
+    let mut child = command.stdout(Stdio::piped()).stderr(Stdio::piped()).spawn().expect("the tool starts");
     let mut stdin = child.stdin.take().expect("its standard input");
     let bytes = input.to_vec();
     // The tool may end before it has read all.
@@ -60,15 +56,8 @@ impl Folder {
 
     pub fn names(&self) -> Vec<String> {
         let entries = fs::read_dir(&self.0).expect("the folder");
-        let mut names: Vec<String> = entries
-            .map(|entry| {
-                entry
-                    .expect("an entry")
-                    .file_name()
-                    .into_string()
-                    .expect("a plain name")
-            })
-            .collect();
+        let mut names: Vec<String> =
+            entries.map(|entry| entry.expect("an entry").file_name().into_string().expect("a plain name")).collect();
         names.sort();
         names
     }

@@ -29,9 +29,7 @@ pub fn exists(name: &str) -> bool {
 pub fn names(name: &str) -> Vec<String> {
     let entries = fs::read_dir(folder().join(name)).expect("a folder of the vectors");
     let name_of = |entry: std::io::Result<fs::DirEntry>| entry.expect("an entry").file_name();
-    let mut names: Vec<String> = entries
-        .map(|entry| name_of(entry).into_string().expect("a plain name"))
-        .collect();
+    let mut names: Vec<String> = entries.map(|entry| name_of(entry).into_string().expect("a plain name")).collect();
     names.sort();
     names
 }

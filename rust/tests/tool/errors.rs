@@ -1,7 +1,10 @@
 //! Bad usage and missing files give 2, refusals give 1, both in words.
 
+use std::fs::File;
+
 use super::{fails, with_k1};
 use crate::bench_keys::{K1, K3};
+use crate::support::run::{status, text, tool};
 
 #[test]
 fn bad_usage() {
@@ -54,18 +57,18 @@ fn refused_keys() {
 
 #[test]
 fn refused_shapes() {
-    for shape in [
-        "0",
-        "6",
-        "256",
-        "99999999999999999999",
-        "4,4,1",
-        "4,17,1",
-        "13,70000,1",
-        "12,4096,129",
-    ] {
+    for shape in ["0", "6", "256", "99999999999999999999", "4,4,1", "4,17,1", "13,70000,1", "12,4096,129"] {
         fails(&["lock", shape, "a", "b", "c"], 1, "refused 3: shape out of limits");
     }
     fails(&["lock", "5,6,1", "a", "b", "c"], 1, "refused 1: width");
     fails(&["lock", "260,6,1", "a", "b", "c"], 1, "refused 1: width");
+}
+
+#[test]
+fn a_failing_standard_input() {
+    let (folder, key) = with_k1();
+    let unreadable = File::open(folder.path()).expect("the folder opens");
+    let output = tool().args(["open", &key]).stdin(unreadable).output().expect("the tool ends");
+    assert_eq!((status(&output), text(&output.stdout)), (2, ""));
+    assert!(text(&output.stderr).starts_with("shearcotter: standard input: "), "{}", text(&output.stderr));
 }

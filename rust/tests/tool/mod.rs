@@ -16,11 +16,7 @@ fn outcome(words: &[&str], input: &[u8]) -> (i32, String, String) {
 }
 
 fn accepted(words: &[&str], input: &[u8], expected: &str) {
-    assert_eq!(
-        outcome(words, input),
-        (0, expected.to_owned(), String::new()),
-        "{words:?}"
-    );
+    assert_eq!(outcome(words, input), (0, expected.to_owned(), String::new()), "{words:?}");
 }
 
 /// Refused or failed, with words on standard error and nothing on standard output.

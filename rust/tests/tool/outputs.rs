@@ -1,10 +1,11 @@
 //! Outputs: written whole, left alone on refusal, nothing left beside them.
 
 use std::fs;
+use std::process::Command;
 
 use super::{accepted, fails, with_k1};
 use crate::bench_keys::{K1, K3};
-use crate::support::run::Folder;
+use crate::support::run::{status, text, Folder};
 use crate::support::vectors;
 
 #[test]
@@ -56,11 +57,7 @@ fn a_refusal_leaves_the_output() {
         (&[3, 1, 2, 0], &[0x00], "refused 12: pattern to lock has not t ones"),
         (&[3, 1, 2, 0], &[0x50], "refused 9: filler bit set"),
         (&[3, 1, 6, 0], &[0x10], "refused 9: filler bit set"),
-        (
-            &[3, 1, 2, 0, 0],
-            &[0x10],
-            "refused 8: word, capsule, pattern or public key of wrong byte length",
-        ),
+        (&[3, 1, 2, 0, 0], &[0x10], "refused 8: word, capsule, pattern or public key of wrong byte length"),
         (&[3, 1, 2, 0], &[], "refused 8"),
     ];
     for (lent, ones, says) in cases {
@@ -72,10 +69,7 @@ fn a_refusal_leaves_the_output() {
     fails(&["publish", &key, &key], 2, "key.bin is an input too");
     assert_eq!(fs::read(&out).expect("the output"), b"kept");
     assert_eq!(fs::read(&key).expect("the key"), K1);
-    assert_eq!(
-        folder.names(),
-        ["k3.bin", "key.bin", "out", "pattern.bin", "public.bin"]
-    );
+    assert_eq!(folder.names(), ["k3.bin", "key.bin", "out", "pattern.bin", "public.bin"]);
 }
 
 #[cfg(unix)]
@@ -88,6 +82,24 @@ fn a_link_keeps_pointing() {
     accepted(&["publish", &key, &link], &[], "");
     assert!(fs::symlink_metadata(&link).expect("the link").is_symlink());
     assert_eq!(fs::read(&target).expect("the target"), [3, 1, 2, 0]);
+}
+
+#[cfg(unix)]
+#[test]
+fn a_failed_write_leaves_nothing() {
+    let (folder, _) = with_k1();
+    let key = folder.write("large.bin", &vectors::file("mceliece348864/count0/key.bin"));
+    let out = folder.write("out", b"kept");
+    // The shell's limit is one block, and the public key is longer.
+    let line = "trap '' XFSZ; ulimit -f 1; exec \"$0\" publish \"$1\" \"$2\"";
+    let ended = Command::new("sh")
+        .args(["-c", line, env!("CARGO_BIN_EXE_shearcotter"), &key, &out])
+        .output()
+        .expect("the shell starts");
+    assert_eq!(status(&ended), 2, "{}", text(&ended.stderr));
+    assert!(text(&ended.stderr).contains("out: "), "{}", text(&ended.stderr));
+    assert_eq!(fs::read(&out).expect("the output"), b"kept");
+    assert_eq!(folder.names(), ["key.bin", "large.bin", "out"]);
 }
 
 #[test]

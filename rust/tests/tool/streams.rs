@@ -8,11 +8,7 @@ use crate::support::run::{status, tool, Folder};
 use crate::support::vectors;
 
 fn some_refused(words: &[&str], input: &[u8], expected: &str) {
-    assert_eq!(
-        outcome(words, input),
-        (1, expected.to_owned(), String::new()),
-        "{words:?}"
-    );
+    assert_eq!(outcome(words, input), (1, expected.to_owned(), String::new()), "{words:?}");
 }
 
 #[test]
@@ -45,10 +41,7 @@ fn a_short_tail_is_refused_8() {
     let at = |part: &str| vectors::file(&format!("mceliece348864/count0/{part}"));
     let key = folder.write("key.bin", &at("key.bin"));
     let (capsule, pattern) = (at("capsule.bin"), at("pattern.bin"));
-    let places: String = (0..3488)
-        .filter(|i| pattern[i / 8] >> (i % 8) & 1 == 1)
-        .map(|i| format!(" {i}"))
-        .collect();
+    let places: String = (0..3488).filter(|i| pattern[i / 8] >> (i % 8) & 1 == 1).map(|i| format!(" {i}")).collect();
     let input = [&capsule[..], &at("capsule_reject.bin"), &capsule, &capsule[..95]].concat();
     let lines = format!("1 open{places}\n2 refused 13\n3 open{places}\n4 refused 8\n");
     some_refused(&["open", &key], &input, &lines);
@@ -68,12 +61,8 @@ fn a_long_input_is_read_to_its_end() {
 #[test]
 fn a_line_comes_before_the_next_capsule() {
     let (_folder, key) = with_k1();
-    let mut child = tool()
-        .args(["open", &key])
-        .stdin(Stdio::piped())
-        .stdout(Stdio::piped())
-        .spawn()
-        .expect("the tool starts");
+    let mut child =
+        tool().args(["open", &key]).stdin(Stdio::piped()).stdout(Stdio::piped()).spawn().expect("the tool starts");
     let mut input = child.stdin.take().expect("its standard input");
     let mut lines = BufReader::new(child.stdout.take().expect("its standard output")).lines();
     for position in 1..=3 {
@@ -91,18 +80,11 @@ fn a_closed_standard_output_ends_it_quietly() {
     let (folder, key) = with_k1();
     let file = folder.write("words", &vec![0x53; 100_000]);
     // A short text may be written before standard output is closed.
-    let cases: [(&[&str], &[i32]); 3] = [
-        (&["read", &key, &file], &[2]),
-        (&["--help"], &[0, 2]),
-        (&["shapes"], &[0, 2]),
-    ];
+    let cases: [(&[&str], &[i32]); 3] =
+        [(&["read", &key, &file], &[2]), (&["--help"], &[0, 2]), (&["shapes"], &[0, 2])];
     for (words, statuses) in cases {
-        let mut child = tool()
-            .args(words)
-            .stdout(Stdio::piped())
-            .stderr(Stdio::piped())
-            .spawn()
-            .expect("the tool starts");
+        let mut child =
+            tool().args(words).stdout(Stdio::piped()).stderr(Stdio::piped()).spawn().expect("the tool starts");
         drop(child.stdout.take());
         let output = child.wait_with_output().expect("the tool ends");
         assert_eq!(output.stderr, b"", "{words:?}");

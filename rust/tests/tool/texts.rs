@@ -41,16 +41,6 @@ fn shapes() {
     assert_eq!((status, error.as_str()), (0, ""));
     let lines: Vec<Vec<&str>> = out.lines().map(|line| line.split_whitespace().collect()).collect();
     assert_eq!(lines.len(), 6);
-    let expected = [
-        "4",
-        "mceliece6960119",
-        "13",
-        "6960",
-        "119",
-        "14163",
-        "1047319",
-        "194",
-        "870",
-    ];
+    let expected = ["4", "mceliece6960119", "13", "6960", "119", "14163", "1047319", "194", "870"];
     assert_eq!(lines[4], expected);
 }

@@ -17,11 +17,7 @@ fn refused_key(name: &str, said: &str, key: &str, input: &[u8]) {
     assert_eq!(status(&output), 1, "{name}");
     if let Some(number) = said.strip_prefix("key refused ") {
         let words = format!("refused {}:", number.trim_end());
-        assert!(
-            text(&output.stderr).contains(&words),
-            "{name}: {}",
-            text(&output.stderr)
-        );
+        assert!(text(&output.stderr).contains(&words), "{name}: {}", text(&output.stderr));
     }
 }
 
@@ -54,14 +50,10 @@ fn short_runs() {
 
 #[test]
 fn a_run_of_the_most_bytes() {
-    names("program")
-        .iter()
-        .for_each(|name| compare(name, |length| length == MOST));
+    names("program").iter().for_each(|name| compare(name, |length| length == MOST));
 }
 
 #[test]
 fn a_run_of_one_byte_more() {
-    names("program")
-        .iter()
-        .for_each(|name| compare(name, |length| length > MOST));
+    names("program").iter().for_each(|name| compare(name, |length| length > MOST));
 }

@@ -12,10 +12,7 @@ fn published_vector(shape: Shape) {
     let (public, capsule, pattern) = (at("public.bin"), at("capsule.bin"), at("pattern.bin"));
     let mut station = loaded(&at("key.bin"));
     assert_eq!(station.shape(), Some(shape));
-    assert!(
-        station.publish().expect("publish accepts") == public,
-        "public key of {name}"
-    );
+    assert!(station.publish().expect("publish accepts") == public, "public key of {name}");
     assert_eq!(lock(shape, &public, &pattern), Ok(capsule.clone()));
     let opened = station.open(&capsule).expect("it opens");
     assert_eq!((opened.bytes(), opened.ones()), (&pattern[..], shape.t()));

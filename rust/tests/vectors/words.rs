@@ -24,11 +24,7 @@ impl Label {
         assert!(station.publish().ok() == public, "public key of {folder}");
         let raw = raw_calls::load(raw_calls::fresh(), &key).station;
         let marked = raw_calls::holding(2, &held(&raw));
-        Label {
-            station,
-            marked,
-            public,
-        }
+        Label { station, marked, public }
     }
 
     /// Opening as if published.
