@@ -3,19 +3,19 @@
 //! Refused with [`Width`](crate::Refusal::Width) where m is no width, with [`Element`](crate::Refusal::Element)
 //! where an operand is 2^m or more.
 
-use crate::{raw, Refusal};
+use crate::{calls, Refusal};
 
 /// The sum, which is the exclusive or.
 pub fn add(m: u8, a: u32, b: u32) -> Result<u16, Refusal> {
-    raw::add(m, a, b)
+    calls::add(m, a, b)
 }
 
 /// The product of the polynomials over two elements, reduced by the width's modulus.
 pub fn multiply(m: u8, a: u32, b: u32) -> Result<u16, Refusal> {
-    raw::multiply(m, a, b)
+    calls::multiply(m, a, b)
 }
 
 /// The inverse; 0 for 0.
 pub fn invert(m: u8, a: u32) -> Result<u16, Refusal> {
-    raw::invert(m, a)
+    calls::invert(m, a)
 }

@@ -23,6 +23,7 @@
 #![deny(missing_docs)]
 #![deny(unsafe_code)]
 
+mod calls;
 pub mod field;
 mod locking;
 mod pattern;

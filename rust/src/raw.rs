@@ -1,14 +1,7 @@
-//! The C interface as it is (`include/shearcotter.h`), and the only unsafe code of the crate.
+//! The C interface as it is: the declarations of `include/shearcotter.h`.
 //!
-//! The functions of [`calls`] are unsafe: pointers must be valid for their lengths and not null even with length 0,
-//! the buffers of one call must not overlap, and the thread must have [`STACK`] bytes of stack left.
-
-#![allow(unsafe_code)]
-
-use std::hint::black_box;
-use std::mem::MaybeUninit;
-
-use crate::Refusal;
+//! The functions are unsafe: pointers must be valid for their lengths and not null even with length 0, the buffers of
+//! one call must not overlap, and the thread must have [`STACK`] bytes of stack left.
 
 /// The most places of a key, 2^13.
 pub const MOST_PLACES: usize = 8192;
@@ -102,144 +95,57 @@ pub struct Register {
     pub c: [u16; COEFFICIENTS],
 }
 
-/// The functions of the archive.
-#[allow(missing_docs)]
-pub mod calls {
-    use super::{Element, Register, Reply, Shape, Station};
-
-    extern "C" {
-        pub fn shearcotter_add(m: u8, a: u32, b: u32) -> Element;
-        pub fn shearcotter_multiply(m: u8, a: u32, b: u32) -> Element;
-        pub fn shearcotter_invert(m: u8, a: u32) -> Element;
-        pub fn shearcotter_shape_at(position: u8) -> Shape;
-        pub fn shearcotter_shortest_register(m: u8, list: *const u16, list_length: usize) -> Register;
-        pub fn shearcotter_lock(
-            m: u8,
-            n: u16,
-            t: u16,
-            public_key: *const u8,
-            public_length: usize,
-            pattern: *const u8,
-            pattern_length: usize,
-            out: *mut u8,
-            out_length: usize,
-        ) -> u8;
-        pub fn shearcotter_fresh() -> Station;
-        pub fn shearcotter_load(station: Station, file: *const u8, file_length: usize) -> Reply;
-        pub fn shearcotter_publish(
-            station: Station,
-            out: *mut u8,
-            out_length: usize,
-            work: *mut u8,
-            work_length: usize,
-        ) -> Reply;
-        pub fn shearcotter_open(
-            station: Station,
-            capsule: *const u8,
-            capsule_length: usize,
-            out: *mut u8,
-            out_length: usize,
-        ) -> Reply;
-        pub fn shearcotter_read(
-            station: Station,
-            word: *const u8,
-            word_length: usize,
-            out: *mut u8,
-            out_length: usize,
-        ) -> Reply;
-        pub fn shearcotter_drop(station: Station) -> Reply;
-    }
-}
-
-/// Touches [`STACK`] bytes of stack, page after page, so that a call that would not fit ends here.
-#[inline(never)]
-fn touch_stack() {
-    black_box(MaybeUninit::<[u8; STACK]>::uninit().as_mut_ptr());
-}
-
-fn element(answer: Element) -> Result<u16, Refusal> {
-    Refusal::check(answer.refused).map(|()| answer.value)
-}
-
-pub(crate) fn add(m: u8, a: u32, b: u32) -> Result<u16, Refusal> {
-    element(unsafe { calls::shearcotter_add(m, a, b) })
-}
-
-pub(crate) fn multiply(m: u8, a: u32, b: u32) -> Result<u16, Refusal> {
-    element(unsafe { calls::shearcotter_multiply(m, a, b) })
-}
-
-pub(crate) fn invert(m: u8, a: u32) -> Result<u16, Refusal> {
-    element(unsafe { calls::shearcotter_invert(m, a) })
-}
-
-pub(crate) fn shape_at(position: u8) -> Result<Shape, Refusal> {
-    let shape = unsafe { calls::shearcotter_shape_at(position) };
-    Refusal::check(shape.refused).map(|()| shape)
-}
-
-pub(crate) fn register(m: u8, list: &[u16]) -> Result<Register, Refusal> {
-    touch_stack();
-    let found = unsafe { calls::shearcotter_shortest_register(m, list.as_ptr(), list.len()) };
-    Refusal::check(found.refused).map(|()| found)
-}
-
-pub(crate) fn lock(shape: (u8, u16, u16), public: &[u8], pattern: &[u8], out: &mut [u8]) -> Result<(), Refusal> {
-    touch_stack();
-    let (m, n, t) = shape;
-    Refusal::check(unsafe {
-        calls::shearcotter_lock(
-            m,
-            n,
-            t,
-            public.as_ptr(),
-            public.len(),
-            pattern.as_ptr(),
-            pattern.len(),
-            out.as_mut_ptr(),
-            out.len(),
-        )
-    })
-}
-
-pub(crate) fn fresh() -> Station {
-    touch_stack();
-    unsafe { calls::shearcotter_fresh() }
-}
-
-pub(crate) fn load(station: &mut Station, file: &[u8]) -> Result<(), Refusal> {
-    touch_stack();
-    let reply = unsafe { calls::shearcotter_load(*station, file.as_ptr(), file.len()) };
-    *station = reply.station;
-    Refusal::check(reply.refused)
-}
-
-pub(crate) fn publish(station: &mut Station, out: &mut [u8], work: &mut [u8]) -> Result<(), Refusal> {
-    touch_stack();
-    let reply =
-        unsafe { calls::shearcotter_publish(*station, out.as_mut_ptr(), out.len(), work.as_mut_ptr(), work.len()) };
-    *station = reply.station;
-    Refusal::check(reply.refused)
-}
-
-/// The station that the call hands back is the caller's own.
-pub(crate) fn open(station: &Station, capsule: &[u8], out: &mut [u8]) -> Result<u16, Refusal> {
-    touch_stack();
-    let reply =
-        unsafe { calls::shearcotter_open(*station, capsule.as_ptr(), capsule.len(), out.as_mut_ptr(), out.len()) };
-    Refusal::check(reply.refused).map(|()| reply.ones)
-}
-
-/// The station that the call hands back is the caller's own.
-pub(crate) fn read(station: &Station, word: &[u8], out: &mut [u8]) -> Result<u16, Refusal> {
-    touch_stack();
-    let reply = unsafe { calls::shearcotter_read(*station, word.as_ptr(), word.len(), out.as_mut_ptr(), out.len()) };
-    Refusal::check(reply.refused).map(|()| reply.ones)
-}
-
-pub(crate) fn drop_key(station: &mut Station) -> Result<(), Refusal> {
-    touch_stack();
-    let reply = unsafe { calls::shearcotter_drop(*station) };
-    *station = reply.station;
-    Refusal::check(reply.refused)
+extern "C" {
+    /// a + b.
+    pub fn shearcotter_add(m: u8, a: u32, b: u32) -> Element;
+    /// a · b.
+    pub fn shearcotter_multiply(m: u8, a: u32, b: u32) -> Element;
+    /// 1/a, and 0 for 0.
+    pub fn shearcotter_invert(m: u8, a: u32) -> Element;
+    /// The standard's shape at a position from 1 to 5.
+    pub fn shearcotter_shape_at(position: u8) -> Shape;
+    /// The shortest register of a list.
+    pub fn shearcotter_shortest_register(m: u8, list: *const u16, list_length: usize) -> Register;
+    /// Writes the capsule of a pattern; 0, or the refusal's number.
+    pub fn shearcotter_lock(
+        m: u8,
+        n: u16,
+        t: u16,
+        public_key: *const u8,
+        public_length: usize,
+        pattern: *const u8,
+        pattern_length: usize,
+        out: *mut u8,
+        out_length: usize,
+    ) -> u8;
+    /// An empty station.
+    pub fn shearcotter_fresh() -> Station;
+    /// Keeps the key of a key file.
+    pub fn shearcotter_load(station: Station, file: *const u8, file_length: usize) -> Reply;
+    /// Writes the public key.
+    pub fn shearcotter_publish(
+        station: Station,
+        out: *mut u8,
+        out_length: usize,
+        work: *mut u8,
+        work_length: usize,
+    ) -> Reply;
+    /// Writes the pattern of a capsule.
+    pub fn shearcotter_open(
+        station: Station,
+        capsule: *const u8,
+        capsule_length: usize,
+        out: *mut u8,
+        out_length: usize,
+    ) -> Reply;
+    /// Writes the pattern that turns a word into the code word within t places.
+    pub fn shearcotter_read(
+        station: Station,
+        word: *const u8,
+        word_length: usize,
+        out: *mut u8,
+        out_length: usize,
+    ) -> Reply;
+    /// Drops the key.
+    pub fn shearcotter_drop(station: Station) -> Reply;
 }

@@ -1,6 +1,6 @@
 //! The shortest register of a list of elements.
 
-use crate::{raw, Refusal};
+use crate::{calls, raw, Refusal};
 
 /// A shortest register: its length and its connection polynomial.
 #[derive(Clone, PartialEq, Eq, Debug)]
@@ -23,5 +23,5 @@ impl Register {
 
 /// The shortest register of at most 256 elements: refused with the first that applies of 1, 2, 4.
 pub fn register(m: u8, list: &[u16]) -> Result<Register, Refusal> {
-    raw::register(m, list).map(|found| Register { length: found.length, coefficients: found.c })
+    calls::register(m, list).map(|found| Register { length: found.length, coefficients: found.c })
 }

@@ -2,7 +2,7 @@
 
 use std::fmt;
 
-use crate::{raw, Refusal};
+use crate::{calls, raw, Refusal};
 
 /// A shape (m, n, t): m 4, 12 or 13, t from 1 to 128, m·t < n ≤ 2^m.
 #[derive(Clone, Copy, PartialEq, Eq, Hash, Debug)]
@@ -45,7 +45,7 @@ impl Shape {
 
     /// The standard's shape at position 1 to 5, else refused with [`Refusal::Shape`].
     pub fn at(position: u8) -> Result<Shape, Refusal> {
-        raw::shape_at(position).map(|shape| Shape { m: shape.m, n: shape.n, t: shape.t })
+        calls::shape_at(position).map(|shape| Shape { m: shape.m, n: shape.n, t: shape.t })
     }
 
     /// The standard's shape with a name.

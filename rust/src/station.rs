@@ -2,7 +2,7 @@
 
 use std::fmt;
 
-use crate::{raw, Pattern, Refusal, Shape};
+use crate::{calls, raw, Pattern, Refusal, Shape};
 
 /// A station: empty, loaded with a key, or published.
 ///
@@ -14,7 +14,7 @@ pub struct Station {
 impl Station {
     /// An empty station.
     pub fn fresh() -> Station {
-        Station { raw: Box::new(raw::fresh()) }
+        Station { raw: Box::new(calls::fresh()) }
     }
 
     /// The shape of the key that it holds.
@@ -31,7 +31,7 @@ impl Station {
 
     /// Takes the key of a key file: refused with the first that applies of 22, 1, 2, 3, 4, 5, 6, 7.
     pub fn load(&mut self, file: &[u8]) -> Result<(), Refusal> {
-        raw::load(&mut self.raw, file)
+        calls::load(&mut self.raw, file)
     }
 
     /// The public key T; afterwards published. Refused with 21 or 23.
@@ -46,7 +46,7 @@ impl Station {
     /// Writes T from the start of `out`: refused with the first that applies of 21, 10, 11, 23. What the
     /// workspace holds afterwards is free where it was long enough, else unchanged.
     pub fn publish_into(&mut self, out: &mut [u8], workspace: &mut [u8]) -> Result<(), Refusal> {
-        raw::publish(&mut self.raw, out, workspace)
+        calls::publish(&mut self.raw, out, workspace)
     }
 
     /// The pattern of a capsule: refused with the first that applies of 21, 24, 8, 9, 13.
@@ -59,7 +59,7 @@ impl Station {
     /// Writes the pattern from the start of `out` and gives its number of ones: refused with the first that applies
     /// of 21, 24, 8, 9, 10, 13.
     pub fn open_into(&self, capsule: &[u8], out: &mut [u8]) -> Result<u16, Refusal> {
-        raw::open(&self.raw, capsule, out)
+        calls::open(&self.raw, capsule, out)
     }
 
     /// The pattern that turns a word into the code word within t places: refused with the first that applies of
@@ -73,12 +73,12 @@ impl Station {
     /// Writes the pattern from the start of `out` and gives its number of ones: refused with the first that applies
     /// of 21, 8, 9, 10, 14.
     pub fn read_into(&self, word: &[u8], out: &mut [u8]) -> Result<u16, Refusal> {
-        raw::read(&self.raw, word, out)
+        calls::read(&self.raw, word, out)
     }
 
     /// Drops the key; afterwards equal to a fresh station. Refused with 21.
     pub fn drop_key(&mut self) -> Result<(), Refusal> {
-        raw::drop_key(&mut self.raw)
+        calls::drop_key(&mut self.raw)
     }
 
     fn pattern_buffer(&self) -> Vec<u8> {

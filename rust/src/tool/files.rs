@@ -42,13 +42,9 @@ fn target(path: &Path) -> io::Result<PathBuf> {
 
 /// A new file beside the target.
 fn create_beside(target: &Path) -> io::Result<(PathBuf, File)> {
-    let Some(name) = target.file_name() else {
-        return Err(io::Error::other("no file name"));
-    };
     let mut attempt = 0;
     loop {
-        let beside = format!(".{}.{}.{attempt}.tmp", name.to_string_lossy(), process::id());
-        let path = target.with_file_name(beside);
+        let path = target.with_file_name(format!(".shearcotter.{}.{attempt}.tmp", process::id()));
         match OpenOptions::new().write(true).create_new(true).open(&path) {
             Err(error) if error.kind() == io::ErrorKind::AlreadyExists && attempt < 100 => attempt += 1,
             other => return other.map(|file| (path, file)),

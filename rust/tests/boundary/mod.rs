@@ -4,6 +4,8 @@
 //! SHEARCOTTER_TRIALS sets the number of calls (1,000,000 where it is not set).
 
 mod buffers;
+#[cfg(target_os = "linux")]
+mod pages;
 mod plain;
 mod pool;
 mod stations;

@@ -1,6 +1,6 @@
 //! Trials of the calls without a station.
 
-use shearcotter::raw::calls;
+use shearcotter::raw;
 
 use super::buffers::{awkward, cut, holding, noise, Guarded};
 use super::pool::{pattern, Pool};
@@ -40,9 +40,9 @@ pub fn field(random: &mut Random) -> (&'static str, u8) {
     let kind = random.below(3);
     let answer = unsafe {
         match kind {
-            0 => calls::shearcotter_add(m, a, b),
-            1 => calls::shearcotter_multiply(m, a, b),
-            _ => calls::shearcotter_invert(m, a),
+            0 => raw::shearcotter_add(m, a, b),
+            1 => raw::shearcotter_multiply(m, a, b),
+            _ => raw::shearcotter_invert(m, a),
         }
     };
     let operands = if kind < 2 { vec![a, b] } else { vec![a] };
@@ -60,7 +60,7 @@ pub fn shape_at(random: &mut Random) -> (&'static str, u8) {
     let position = random.number() as u8 % if random.one_in(2) { 8 } else { 255 };
     let shapes = [(12, 3488, 64), (13, 4608, 96), (13, 6688, 128), (13, 6960, 119), (13, 8192, 128)];
     let expected = usize::from(position).checked_sub(1).and_then(|i| shapes.get(i));
-    let shape = unsafe { calls::shearcotter_shape_at(position) };
+    let shape = unsafe { raw::shearcotter_shape_at(position) };
     let number = if expected.is_some() { 0 } else { 3 };
     assert_eq!(shape.refused, number);
     assert_eq!((shape.m, shape.n, shape.t), *expected.unwrap_or(&(0, 0, 0)));
@@ -84,7 +84,7 @@ fn list(random: &mut Random, m: u8) -> Vec<u16> {
 pub fn register(random: &mut Random) -> (&'static str, u8) {
     let m = width(random);
     let list = Guarded::around(&list(random, m), random.number() as u16);
-    let answer = unsafe { calls::shearcotter_shortest_register(m, list.as_ptr(), list.len()) };
+    let answer = unsafe { raw::shearcotter_shortest_register(m, list.as_ptr(), list.len()) };
     list.same();
     let number = expected::register(m, list.content());
     assert_eq!(answer.refused, number, "{m} {:?}", list.content());
@@ -136,7 +136,7 @@ pub fn lock(random: &mut Random, pool: &Pool) -> (&'static str, u8) {
     let length = awkward(random, held.key.capsule_bits().div_ceil(8));
     let mut out = noise(random, length);
     let number = unsafe {
-        calls::shearcotter_lock(
+        raw::shearcotter_lock(
             m,
             n,
             t,

@@ -2,7 +2,7 @@
 
 use std::sync::Arc;
 
-use shearcotter::raw::{calls, Reply, Station};
+use shearcotter::raw::{self, Reply, Station};
 
 use super::buffers::{awkward, cut, holding, noise};
 use super::pool::{capsule, word, Pool};
@@ -143,7 +143,7 @@ pub fn load(random: &mut Random, pool: &Pool) -> (&'static str, u8) {
     let held = pool.key(random);
     let content = file(random, &held);
     let file = holding(random, &content);
-    let reply = unsafe { calls::shearcotter_load(case.station, file.as_ptr(), file.len()) };
+    let reply = unsafe { raw::shearcotter_load(case.station, file.as_ptr(), file.len()) };
     file.same();
     let expected = Outcome { number: expected::load(case.station.state, file.content()), ..Outcome::default() };
     let accepted = match Key::parse(file.content()) {
@@ -160,7 +160,7 @@ pub fn publish(random: &mut Random, pool: &Pool) -> (&'static str, u8) {
     let (out, work) = (awkward(random, key.public_length()), awkward(random, key.work_length()));
     let (mut out, mut work) = (noise(random, out), noise(random, work));
     let reply =
-        unsafe { calls::shearcotter_publish(case.station, out.as_mut_ptr(), out.len(), work.as_mut_ptr(), work.len()) };
+        unsafe { raw::shearcotter_publish(case.station, out.as_mut_ptr(), out.len(), work.as_mut_ptr(), work.len()) };
     let expected = expected::publish(case.station.state, &case.held, out.len(), work.len());
     let published = Station { state: 2, ..case.station };
     same(&reply, &expected, &case.station, &published);
@@ -183,7 +183,7 @@ pub fn open(random: &mut Random, pool: &Pool) -> (&'static str, u8) {
     let length = awkward(random, held.key.n.div_ceil(8));
     let mut out = noise(random, length);
     let reply =
-        unsafe { calls::shearcotter_open(case.station, capsule.as_ptr(), capsule.len(), out.as_mut_ptr(), out.len()) };
+        unsafe { raw::shearcotter_open(case.station, capsule.as_ptr(), capsule.len(), out.as_mut_ptr(), out.len()) };
     let expected = expected::open(case.station.state, &case.held, capsule.content(), length);
     same(&reply, &expected, &case.station, &case.station);
     out.written(&expected.written);
@@ -201,8 +201,7 @@ pub fn read(random: &mut Random, pool: &Pool) -> (&'static str, u8) {
     let word = holding(random, &row);
     let length = awkward(random, held.key.n.div_ceil(8));
     let mut out = noise(random, length);
-    let reply =
-        unsafe { calls::shearcotter_read(case.station, word.as_ptr(), word.len(), out.as_mut_ptr(), out.len()) };
+    let reply = unsafe { raw::shearcotter_read(case.station, word.as_ptr(), word.len(), out.as_mut_ptr(), out.len()) };
     let expected = expected::read(case.station.state, &case.held, word.content(), length);
     same(&reply, &expected, &case.station, &case.station);
     out.written(&expected.written);
@@ -212,7 +211,7 @@ pub fn read(random: &mut Random, pool: &Pool) -> (&'static str, u8) {
 
 pub fn drop(random: &mut Random, pool: &Pool) -> (&'static str, u8) {
     let case = any(random, pool);
-    let reply = unsafe { calls::shearcotter_drop(case.station) };
+    let reply = unsafe { raw::shearcotter_drop(case.station) };
     let expected = Outcome { number: expected::drop(case.station.state), ..Outcome::default() };
     same(&reply, &expected, &case.station, &fresh());
     ("drop", reply.refused)

@@ -1,31 +1,31 @@
 //! The raw calls on slices, and stations made by hand.
 
-use shearcotter::raw::{calls, Key, Reply, Station, MOST_ERRORS, MOST_PLACES};
+use shearcotter::raw::{self, Key, Reply, Station, MOST_ERRORS, MOST_PLACES};
 
 use crate::independent::key;
 
 pub fn fresh() -> Station {
-    unsafe { calls::shearcotter_fresh() }
+    unsafe { raw::shearcotter_fresh() }
 }
 
 pub fn load(station: Station, file: &[u8]) -> Reply {
-    unsafe { calls::shearcotter_load(station, file.as_ptr(), file.len()) }
+    unsafe { raw::shearcotter_load(station, file.as_ptr(), file.len()) }
 }
 
 pub fn publish(station: Station, out: &mut [u8], work: &mut [u8]) -> Reply {
-    unsafe { calls::shearcotter_publish(station, out.as_mut_ptr(), out.len(), work.as_mut_ptr(), work.len()) }
+    unsafe { raw::shearcotter_publish(station, out.as_mut_ptr(), out.len(), work.as_mut_ptr(), work.len()) }
 }
 
 pub fn open(station: Station, capsule: &[u8], out: &mut [u8]) -> Reply {
-    unsafe { calls::shearcotter_open(station, capsule.as_ptr(), capsule.len(), out.as_mut_ptr(), out.len()) }
+    unsafe { raw::shearcotter_open(station, capsule.as_ptr(), capsule.len(), out.as_mut_ptr(), out.len()) }
 }
 
 pub fn read(station: Station, word: &[u8], out: &mut [u8]) -> Reply {
-    unsafe { calls::shearcotter_read(station, word.as_ptr(), word.len(), out.as_mut_ptr(), out.len()) }
+    unsafe { raw::shearcotter_read(station, word.as_ptr(), word.len(), out.as_mut_ptr(), out.len()) }
 }
 
 pub fn drop(station: Station) -> Reply {
-    unsafe { calls::shearcotter_drop(station) }
+    unsafe { raw::shearcotter_drop(station) }
 }
 
 /// The station that holds a key, with zeros past n and t.
