@@ -1,0 +1,104 @@
+//! The calls on slices: the only unsafe code of the crate.
+//!
+//! Slices give pointers that are valid and not null, and `&mut` keeps the buffers of a call apart; that the stack is
+//! long enough is made sure of before.
+
+#![allow(unsafe_code)]
+
+use std::hint::black_box;
+use std::mem::MaybeUninit;
+
+use crate::{raw, Refusal};
+
+/// Touches [`raw::STACK`] bytes of stack, page after page, so that a call that would not fit ends here.
+#[inline(never)]
+fn touch_stack() {
+    black_box(MaybeUninit::<[u8; raw::STACK]>::uninit().as_mut_ptr());
+}
+
+fn element(answer: raw::Element) -> Result<u16, Refusal> {
+    Refusal::check(answer.refused).map(|()| answer.value)
+}
+
+pub(crate) fn add(m: u8, a: u32, b: u32) -> Result<u16, Refusal> {
+    element(unsafe { raw::shearcotter_add(m, a, b) })
+}
+
+pub(crate) fn multiply(m: u8, a: u32, b: u32) -> Result<u16, Refusal> {
+    element(unsafe { raw::shearcotter_multiply(m, a, b) })
+}
+
+pub(crate) fn invert(m: u8, a: u32) -> Result<u16, Refusal> {
+    element(unsafe { raw::shearcotter_invert(m, a) })
+}
+
+pub(crate) fn shape_at(position: u8) -> Result<raw::Shape, Refusal> {
+    let shape = unsafe { raw::shearcotter_shape_at(position) };
+    Refusal::check(shape.refused).map(|()| shape)
+}
+
+pub(crate) fn register(m: u8, list: &[u16]) -> Result<raw::Register, Refusal> {
+    touch_stack();
+    let found = unsafe { raw::shearcotter_shortest_register(m, list.as_ptr(), list.len()) };
+    Refusal::check(found.refused).map(|()| found)
+}
+
+pub(crate) fn lock(shape: (u8, u16, u16), public: &[u8], pattern: &[u8], out: &mut [u8]) -> Result<(), Refusal> {
+    touch_stack();
+    let (m, n, t) = shape;
+    Refusal::check(unsafe {
+        raw::shearcotter_lock(
+            m,
+            n,
+            t,
+            public.as_ptr(),
+            public.len(),
+            pattern.as_ptr(),
+            pattern.len(),
+            out.as_mut_ptr(),
+            out.len(),
+        )
+    })
+}
+
+pub(crate) fn fresh() -> raw::Station {
+    touch_stack();
+    unsafe { raw::shearcotter_fresh() }
+}
+
+pub(crate) fn load(station: &mut raw::Station, file: &[u8]) -> Result<(), Refusal> {
+    touch_stack();
+    let reply = unsafe { raw::shearcotter_load(*station, file.as_ptr(), file.len()) };
+    *station = reply.station;
+    Refusal::check(reply.refused)
+}
+
+pub(crate) fn publish(station: &mut raw::Station, out: &mut [u8], work: &mut [u8]) -> Result<(), Refusal> {
+    touch_stack();
+    let reply =
+        unsafe { raw::shearcotter_publish(*station, out.as_mut_ptr(), out.len(), work.as_mut_ptr(), work.len()) };
+    *station = reply.station;
+    Refusal::check(reply.refused)
+}
+
+/// The station that the call hands back is the caller's own.
+pub(crate) fn open(station: &raw::Station, capsule: &[u8], out: &mut [u8]) -> Result<u16, Refusal> {
+    touch_stack();
+    let reply =
+        unsafe { raw::shearcotter_open(*station, capsule.as_ptr(), capsule.len(), out.as_mut_ptr(), out.len()) };
+    Refusal::check(reply.refused).map(|()| reply.ones)
+}
+
+/// The station that the call hands back is the caller's own.
+pub(crate) fn read(station: &raw::Station, word: &[u8], out: &mut [u8]) -> Result<u16, Refusal> {
+    touch_stack();
+    let reply = unsafe { raw::shearcotter_read(*station, word.as_ptr(), word.len(), out.as_mut_ptr(), out.len()) };
+    Refusal::check(reply.refused).map(|()| reply.ones)
+}
+
+pub(crate) fn drop_key(station: &mut raw::Station) -> Result<(), Refusal> {
+    touch_stack();
+    let reply = unsafe { raw::shearcotter_drop(*station) };
+    *station = reply.station;
+    Refusal::check(reply.refused)
+}

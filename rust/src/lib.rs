@@ -1,0 +1,41 @@
+//! Classic McEliece capsules: the proved calls of `libshearcotter.a` as safe types.
+//!
+//! A [`Station`] keeps one key: [`load`](Station::load) it from a key file, [`publish`](Station::publish) its
+//! public key, [`open`](Station::open) capsules and [`read`](Station::read) words. [`lock`](lock()) makes a capsule
+//! from a public key. A call that is refused answers a [`Refusal`] and changes nothing.
+//!
+//! ```
+//! use shearcotter::{lock, Shape, Station};
+//!
+//! let file = [4, 6, 0, 1, 0, 9, 0, 13, 0, 15, 0, 14, 0, 11, 0, 1, 0, 0, 0];
+//! let mut station = Station::fresh();
+//! station.load(&file)?;
+//! let public = station.publish()?;
+//! let capsule = lock(Shape::new(4, 6, 1)?, &public, &[0x10])?;
+//! assert_eq!(capsule, [0x03]);
+//! assert_eq!(station.open(&capsule)?.places().collect::<Vec<_>>(), [4]);
+//! # Ok::<(), shearcotter::Refusal>(())
+//! ```
+//!
+//! A call needs up to 210 KiB of stack, since the station passes by value. Each call touches [`raw::STACK`] bytes of
+//! stack first, so that a thread with less ends at its guard page and nowhere else.
+
+#![deny(missing_docs)]
+#![deny(unsafe_code)]
+
+mod calls;
+pub mod field;
+mod locking;
+mod pattern;
+pub mod raw;
+mod refusal;
+mod register;
+mod shape;
+mod station;
+
+pub use locking::{lock, lock_into};
+pub use pattern::Pattern;
+pub use refusal::Refusal;
+pub use register::{register, Register};
+pub use shape::Shape;
+pub use station::Station;

@@ -1,0 +1,151 @@
+//! The C interface as it is: the declarations of `include/shearcotter.h`.
+//!
+//! The functions are unsafe: pointers must be valid for their lengths and not null even with length 0, the buffers of
+//! one call must not overlap, and the thread must have [`STACK`] bytes of stack left.
+
+/// The most places of a key, 2^13.
+pub const MOST_PLACES: usize = 8192;
+/// The most errors of a key, the limit of t.
+pub const MOST_ERRORS: usize = 128;
+/// The longest list for the shortest register.
+pub const LONGEST: usize = 256;
+/// Coefficients of a register's connection polynomial.
+pub const COEFFICIENTS: usize = LONGEST + 1;
+/// Bytes of stack that each safe call makes sure of; the calls need at most 210 KiB, the station's argument counted.
+pub const STACK: usize = 256 * 1024;
+
+/// `state` of an empty station.
+pub const EMPTY: u8 = 0;
+/// `state` of a loaded station.
+pub const LOADED: u8 = 1;
+/// `state` of a published station.
+pub const PUBLISHED: u8 = 2;
+
+/// A kept key; numbers past n and t do not count.
+#[derive(Clone, Copy, PartialEq, Eq)]
+#[repr(C)]
+pub struct Key {
+    /// The width.
+    pub m: u8,
+    /// The number of places.
+    pub n: u16,
+    /// The degree of g.
+    pub t: u16,
+    /// The support.
+    pub support: [u16; MOST_PLACES],
+    /// The coefficients of g below the leading one.
+    pub g: [u16; MOST_ERRORS],
+}
+
+/// A station: its state and its key.
+#[derive(Clone, Copy, PartialEq, Eq)]
+#[repr(C)]
+pub struct Station {
+    /// [`EMPTY`], [`LOADED`], or any other number for published.
+    pub state: u8,
+    /// The kept key.
+    pub key: Key,
+}
+
+/// What a station's call hands back.
+#[derive(Clone, Copy, PartialEq, Eq)]
+#[repr(C)]
+pub struct Reply {
+    /// The new station; the caller's own after a refusal.
+    pub station: Station,
+    /// 0, or the refusal's number.
+    pub refused: u8,
+    /// The ones of the pattern that open or read has written.
+    pub ones: u16,
+}
+
+/// What a field call hands back.
+#[derive(Clone, Copy, PartialEq, Eq, Debug)]
+#[repr(C)]
+pub struct Element {
+    /// 0, or the refusal's number.
+    pub refused: u8,
+    /// The element.
+    pub value: u16,
+}
+
+/// What the call for a position hands back.
+#[derive(Clone, Copy, PartialEq, Eq, Debug)]
+#[repr(C)]
+pub struct Shape {
+    /// 0, or the refusal's number.
+    pub refused: u8,
+    /// The width.
+    pub m: u8,
+    /// The number of places.
+    pub n: u16,
+    /// The degree of g.
+    pub t: u16,
+}
+
+/// What the register's call hands back.
+#[derive(Clone, Copy, PartialEq, Eq, Debug)]
+#[repr(C)]
+pub struct Register {
+    /// 0, or the refusal's number.
+    pub refused: u8,
+    /// The register's length.
+    pub length: usize,
+    /// The connection polynomial, 0 past the length.
+    pub c: [u16; COEFFICIENTS],
+}
+
+extern "C" {
+    /// a + b.
+    pub fn shearcotter_add(m: u8, a: u32, b: u32) -> Element;
+    /// a · b.
+    pub fn shearcotter_multiply(m: u8, a: u32, b: u32) -> Element;
+    /// 1/a, and 0 for 0.
+    pub fn shearcotter_invert(m: u8, a: u32) -> Element;
+    /// The standard's shape at a position from 1 to 5.
+    pub fn shearcotter_shape_at(position: u8) -> Shape;
+    /// The shortest register of a list.
+    pub fn shearcotter_shortest_register(m: u8, list: *const u16, list_length: usize) -> Register;
+    /// Writes the capsule of a pattern; 0, or the refusal's number.
+    pub fn shearcotter_lock(
+        m: u8,
+        n: u16,
+        t: u16,
+        public_key: *const u8,
+        public_length: usize,
+        pattern: *const u8,
+        pattern_length: usize,
+        out: *mut u8,
+        out_length: usize,
+    ) -> u8;
+    /// An empty station.
+    pub fn shearcotter_fresh() -> Station;
+    /// Keeps the key of a key file.
+    pub fn shearcotter_load(station: Station, file: *const u8, file_length: usize) -> Reply;
+    /// Writes the public key.
+    pub fn shearcotter_publish(
+        station: Station,
+        out: *mut u8,
+        out_length: usize,
+        work: *mut u8,
+        work_length: usize,
+    ) -> Reply;
+    /// Writes the pattern of a capsule.
+    pub fn shearcotter_open(
+        station: Station,
+        capsule: *const u8,
+        capsule_length: usize,
+        out: *mut u8,
+        out_length: usize,
+    ) -> Reply;
+    /// Writes the pattern that turns a word into the code word within t places.
+    pub fn shearcotter_read(
+        station: Station,
+        word: *const u8,
+        word_length: usize,
+        out: *mut u8,
+        out_length: usize,
+    ) -> Reply;
+    /// Drops the key.
+    pub fn shearcotter_drop(station: Station) -> Reply;
+}

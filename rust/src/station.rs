@@ -1,0 +1,103 @@
+//! The station that keeps one key.
+
+use std::fmt;
+
+use crate::{calls, raw, Pattern, Refusal, Shape};
+
+/// A station: empty, loaded with a key, or published.
+///
+/// Its calls take it as the C interface's calls do, by value inside; a refusal leaves it as it was.
+pub struct Station {
+    raw: Box<raw::Station>,
+}
+
+impl Station {
+    /// An empty station.
+    pub fn fresh() -> Station {
+        Station { raw: Box::new(calls::fresh()) }
+    }
+
+    /// The shape of the key that it holds.
+    pub fn shape(&self) -> Option<Shape> {
+        let key = &self.raw.key;
+        let held = self.raw.state != raw::EMPTY;
+        held.then(|| Shape::new(key.m, key.n, key.t).ok()).flatten()
+    }
+
+    /// Whether it holds a key and has published it.
+    pub fn is_published(&self) -> bool {
+        self.raw.state == raw::PUBLISHED
+    }
+
+    /// Takes the key of a key file: refused with the first that applies of 22, 1, 2, 3, 4, 5, 6, 7.
+    pub fn load(&mut self, file: &[u8]) -> Result<(), Refusal> {
+        calls::load(&mut self.raw, file)
+    }
+
+    /// The public key T; afterwards published. Refused with 21 or 23.
+    pub fn publish(&mut self) -> Result<Vec<u8>, Refusal> {
+        let shape = self.shape().ok_or(Refusal::NoKey)?;
+        let mut public = vec![0; shape.public_length()];
+        let mut workspace = vec![0; shape.workspace_length()];
+        self.publish_into(&mut public, &mut workspace)?;
+        Ok(public)
+    }
+
+    /// Writes T from the start of `out`: refused with the first that applies of 21, 10, 11, 23. What the
+    /// workspace holds afterwards is free where it was long enough, else unchanged.
+    pub fn publish_into(&mut self, out: &mut [u8], workspace: &mut [u8]) -> Result<(), Refusal> {
+        calls::publish(&mut self.raw, out, workspace)
+    }
+
+    /// The pattern of a capsule: refused with the first that applies of 21, 24, 8, 9, 13.
+    pub fn open(&self, capsule: &[u8]) -> Result<Pattern, Refusal> {
+        let mut out = self.pattern_buffer();
+        let ones = self.open_into(capsule, &mut out)?;
+        Ok(Pattern::new(out, ones))
+    }
+
+    /// Writes the pattern from the start of `out` and gives its number of ones: refused with the first that applies
+    /// of 21, 24, 8, 9, 10, 13.
+    pub fn open_into(&self, capsule: &[u8], out: &mut [u8]) -> Result<u16, Refusal> {
+        calls::open(&self.raw, capsule, out)
+    }
+
+    /// The pattern that turns a word into the code word within t places: refused with the first that applies of
+    /// 21, 8, 9, 14.
+    pub fn read(&self, word: &[u8]) -> Result<Pattern, Refusal> {
+        let mut out = self.pattern_buffer();
+        let ones = self.read_into(word, &mut out)?;
+        Ok(Pattern::new(out, ones))
+    }
+
+    /// Writes the pattern from the start of `out` and gives its number of ones: refused with the first that applies
+    /// of 21, 8, 9, 10, 14.
+    pub fn read_into(&self, word: &[u8], out: &mut [u8]) -> Result<u16, Refusal> {
+        calls::read(&self.raw, word, out)
+    }
+
+    /// Drops the key; afterwards equal to a fresh station. Refused with 21.
+    pub fn drop_key(&mut self) -> Result<(), Refusal> {
+        calls::drop_key(&mut self.raw)
+    }
+
+    fn pattern_buffer(&self) -> Vec<u8> {
+        vec![0; self.shape().map_or(0, Shape::pattern_length)]
+    }
+}
+
+impl Default for Station {
+    fn default() -> Station {
+        Station::fresh()
+    }
+}
+
+/// Without the key, which is secret.
+impl fmt::Debug for Station {
+    fn fmt(&self, f: &mut fmt::Formatter<'_>) -> fmt::Result {
+        f.debug_struct("Station")
+            .field("shape", &self.shape())
+            .field("published", &self.is_published())
+            .finish_non_exhaustive()
+    }
+}

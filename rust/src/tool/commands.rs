@@ -1,0 +1,184 @@
+//! The commands.
+
+use std::ffi::OsString;
+use std::io::{self, Write};
+use std::path::Path;
+
+use shearcotter::{lock, Pattern, Refusal, Shape, Station};
+
+use crate::failure::Failure;
+use crate::files;
+use crate::rows::{self, Rows};
+use crate::shapes;
+
+/// A command: its name, its operands (the last `optional` may be missing), its texts, and what it does.
+pub struct Command {
+    pub name: &'static str,
+    operands: &'static [&'static str],
+    optional: usize,
+    pub about: &'static str,
+    pub details: &'static str,
+    /// Whether everything was accepted.
+    pub run: fn(&[OsString]) -> Result<bool, Failure>,
+}
+
+impl Command {
+    pub fn usage(&self) -> String {
+        let needed = self.operands.len() - self.optional;
+        let word = |(i, name): (usize, &&str)| {
+            if i < needed {
+                format!(" {name}")
+            } else {
+                format!(" [{name}]")
+            }
+        };
+        let operands: String = self.operands.iter().enumerate().map(word).collect();
+        format!("shearcotter {}{operands}", self.name)
+    }
+
+    pub fn takes(&self, count: usize) -> bool {
+        let most = self.operands.len();
+        (most - self.optional..=most).contains(&count)
+    }
+}
+
+pub const COMMANDS: &[Command] = &[
+    Command {
+        name: "check",
+        operands: &["KEY"],
+        optional: 0,
+        about: "check a key file",
+        details: "\
+Loads the key file KEY and prints `accepted` and its shape; a refused key is named on standard error.
+",
+        run: check,
+    },
+    Command {
+        name: "publish",
+        operands: &["KEY", "OUT"],
+        optional: 0,
+        about: "write a key's public key",
+        details: "\
+Writes the public key of the key file KEY to OUT. OUT is replaced in one step, and left alone on refusal.
+",
+        run: publish,
+    },
+    Command {
+        name: "lock",
+        operands: &["SHAPE", "PUBLIC", "PATTERN", "OUT"],
+        optional: 0,
+        about: "lock a pattern to a capsule",
+        details: "\
+Locks the pattern in the file PATTERN with the public key in the file PUBLIC, and writes the capsule to OUT.
+OUT is replaced in one step, and left alone on refusal. The pattern has n bits, t of them ones.
+SHAPE is a position from 1 to 5, a name such as mceliece348864, or m,n,t as 4,16,2; see shearcotter shapes.
+",
+        run: lock_pattern,
+    },
+    Command {
+        name: "open",
+        operands: &["KEY", "FILE"],
+        optional: 1,
+        about: "open capsules",
+        details: "\
+Opens the capsules that stand back to back in FILE, or on standard input, with the key file KEY.
+A line for each: its position from 1, then `open` and the places of ones, rising, from 0, or `refused` and the
+number. A short tail is refused 8. A refused key is named on standard error.
+",
+        run: open,
+    },
+    Command {
+        name: "read",
+        operands: &["KEY", "FILE"],
+        optional: 1,
+        about: "read words of n bits",
+        details: "\
+Reads the words that stand back to back in FILE, or on standard input, with the key file KEY.
+A line for each: `read`, how many places differ from the code word, and those places, rising, from 0, or
+`refused` and the number. A short tail is refused 8. A refused key is named on standard error.
+",
+        run: read,
+    },
+    Command {
+        name: "shapes",
+        operands: &[],
+        optional: 0,
+        about: "list the standard's shapes",
+        details: "\
+Lists the standard's shapes with their positions, and the lengths of their files in bytes.
+",
+        run: list_shapes,
+    },
+];
+
+fn load(key: &Path) -> Result<(Station, Shape), Failure> {
+    let file = files::read(key, files::MOST_OF_A_KEY)?;
+    let refused = |refusal| Failure::refused(key, refusal);
+    let mut station = Station::fresh();
+    station.load(&file).map_err(refused)?;
+    let shape = station.shape().ok_or(refused(Refusal::NoKey))?;
+    Ok((station, shape))
+}
+
+fn check(operands: &[OsString]) -> Result<bool, Failure> {
+    let (_, shape) = load(Path::new(&operands[0]))?;
+    let name = shape.name().map_or(String::new(), |name| format!(" {name}"));
+    let mut out = io::stdout().lock();
+    writeln!(out, "accepted {shape}{name}")?;
+    out.flush()?;
+    Ok(true)
+}
+
+fn publish(operands: &[OsString]) -> Result<bool, Failure> {
+    let (key, out) = (Path::new(&operands[0]), Path::new(&operands[1]));
+    files::not_an_input(out, &[key])?;
+    let (mut station, _) = load(key)?;
+    let public = station.publish().map_err(|refusal| Failure::refused(key, refusal))?;
+    files::replace(out, &public)?;
+    Ok(true)
+}
+
+fn lock_pattern(operands: &[OsString]) -> Result<bool, Failure> {
+    let shape = shapes::parse(&operands[0])?;
+    let [public, pattern, out] = [1, 2, 3].map(|i| Path::new(&operands[i]));
+    files::not_an_input(out, &[public, pattern])?;
+    let lent = files::read(public, shape.public_length())?;
+    let ones = files::read(pattern, shape.pattern_length())?;
+    let capsule = lock(shape, &lent, &ones).map_err(|refusal| {
+        let both = format!("{} with {}", pattern.display(), public.display());
+        Failure::Refused(both, refusal)
+    })?;
+    files::replace(out, &capsule)?;
+    Ok(true)
+}
+
+fn places(pattern: &Pattern) -> String {
+    pattern.places().map(|place| format!(" {place}")).collect()
+}
+
+fn open(operands: &[OsString]) -> Result<bool, Failure> {
+    let key = Path::new(&operands[0]);
+    let (mut station, shape) = load(key)?;
+    station.publish().map_err(|refusal| Failure::refused(key, refusal))?;
+    let rows = Rows::new(operands.get(1), shape.capsule_length(), "capsules")?;
+    rows::each(rows, |position, capsule| match station.open(capsule) {
+        Ok(pattern) => (format!("{position} open{}", places(&pattern)), true),
+        Err(refusal) => (format!("{position} refused {}", refusal.number()), false),
+    })
+}
+
+fn read(operands: &[OsString]) -> Result<bool, Failure> {
+    let (station, shape) = load(Path::new(&operands[0]))?;
+    let rows = Rows::new(operands.get(1), shape.pattern_length(), "words")?;
+    rows::each(rows, |_, word| match station.read(word) {
+        Ok(pattern) => (format!("read {}{}", pattern.ones(), places(&pattern)), true),
+        Err(refusal) => (format!("refused {}", refusal.number()), false),
+    })
+}
+
+fn list_shapes(_: &[OsString]) -> Result<bool, Failure> {
+    let mut out = io::stdout().lock();
+    out.write_all(shapes::table().as_bytes())?;
+    out.flush()?;
+    Ok(true)
+}

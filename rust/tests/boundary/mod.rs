@@ -1,0 +1,113 @@
+//! A deterministic trial of every call at the C boundary: awkward lengths, stations of every kind, forged ones too.
+//!
+//! Every answer is compared with the second implementation, and every buffer stands between canaries.
+//! SHEARCOTTER_TRIALS sets the number of calls (1,000,000 where it is not set).
+
+mod buffers;
+#[cfg(target_os = "linux")]
+mod pages;
+mod plain;
+mod pool;
+mod stations;
+
+use std::collections::BTreeMap;
+use std::io::Write;
+use std::{env, io, thread};
+
+use crate::independent::random::Random;
+use pool::Pool;
+
+/// How many calls of each kind had which number.
+type Tally = BTreeMap<(&'static str, u8), u64>;
+
+const STREAMS: u64 = 2;
+
+fn one_call(random: &mut Random, pool: &Pool) -> (&'static str, u8) {
+    match random.below(100) {
+        0..=14 => plain::field(random),
+        15..=16 => plain::shape_at(random),
+        17..=24 => plain::register(random),
+        25..=39 => plain::lock(random, pool),
+        40..=52 => stations::load(random, pool),
+        53..=64 => stations::publish(random, pool),
+        65..=79 => stations::open(random, pool),
+        80..=94 => stations::read(random, pool),
+        _ => stations::drop(random, pool),
+    }
+}
+
+fn stream(seed: u64, trials: u64, pool: &Pool) -> Tally {
+    let mut random = Random::new(seed);
+    let mut tally = Tally::new();
+    for _ in 0..trials {
+        let outcome = one_call(&mut random, pool);
+        *tally.entry(outcome).or_default() += 1;
+    }
+    tally
+}
+
+fn trials() -> u64 {
+    let set = env::var("SHEARCOTTER_TRIALS").unwrap_or_else(|_| "1000000".to_owned());
+    set.parse().expect("SHEARCOTTER_TRIALS is a number")
+}
+
+/// Past the capture of test output, so that the count is always seen.
+fn report(total: u64, tally: &Tally) {
+    let mut lines = format!("boundary: {total} calls tried\n");
+    for name in ["field", "shape_at", "register", "lock", "load", "publish", "open", "read", "drop"] {
+        let of_name = tally.iter().filter(|((call, _), _)| *call == name);
+        let counts: Vec<String> = of_name
+            .map(|((_, number), count)| match number {
+                0 => format!("accepted {count}"),
+                _ => format!("{number}: {count}"),
+            })
+            .collect();
+        lines += &format!("  {name}: {}\n", counts.join(", "));
+    }
+    io::stderr().write_all(lines.as_bytes()).expect("standard error");
+}
+
+/// Every number that a call has in document 01 was met.
+fn all_numbers_met(tally: &Tally) {
+    let orders: [(&str, &[u8]); 9] = [
+        ("field", &[0, 1, 4]),
+        ("shape_at", &[0, 3]),
+        ("register", &[0, 1, 2, 4]),
+        ("lock", &[0, 1, 3, 8, 9, 12, 10]),
+        ("load", &[0, 22, 1, 2, 3, 4, 5, 6, 7]),
+        ("publish", &[0, 21, 25, 10, 11, 23]),
+        ("open", &[0, 21, 25, 24, 8, 9, 10, 13]),
+        ("read", &[0, 21, 25, 8, 9, 10, 14]),
+        ("drop", &[0, 21]),
+    ];
+    for (call, numbers) in orders {
+        for number in numbers {
+            assert!(tally.contains_key(&(call, *number)), "{call} never answered {number}");
+        }
+    }
+}
+
+#[test]
+fn every_call_at_the_boundary() {
+    let total = trials();
+    let pool = Pool::new(&mut Random::new(1));
+    let mut tally = Tally::new();
+    thread::scope(|scope| {
+        let share = |i: u64| total / STREAMS + u64::from(i < total % STREAMS);
+        let start = |i: u64| {
+            let pool = &pool;
+            scope.spawn(move || stream(100 + i, share(i), pool))
+        };
+        let streams: Vec<_> = (0..STREAMS).map(start).collect();
+        for stream in streams {
+            for (outcome, count) in stream.join().expect("no difference") {
+                *tally.entry(outcome).or_default() += count;
+            }
+        }
+    });
+    assert_eq!(tally.values().sum::<u64>(), total);
+    report(total, &tally);
+    if total >= 100_000 {
+        all_numbers_met(&tally);
+    }
+}

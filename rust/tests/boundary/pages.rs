@@ -1,0 +1,140 @@
+//! Buffers that end where a page begins that nothing may touch: a byte read or written past the end stops the test.
+
+use std::ffi::{c_int, c_void};
+use std::ptr;
+use std::slice;
+
+use shearcotter::raw;
+
+use crate::compare::near_code_word;
+use crate::independent::held::Held;
+use crate::independent::random::Random;
+use crate::independent::{calls, matrix};
+use crate::support::raw_calls;
+
+const PAGE: usize = 4096;
+const NO_ACCESS: c_int = 0;
+const READ_WRITE: c_int = 3;
+const PRIVATE_ANONYMOUS: c_int = 0x22;
+
+extern "C" {
+    fn mmap(at: *mut c_void, length: usize, access: c_int, flags: c_int, file: c_int, offset: i64) -> *mut c_void;
+    fn mprotect(at: *mut c_void, length: usize, access: c_int) -> c_int;
+    fn munmap(at: *mut c_void, length: usize) -> c_int;
+}
+
+/// A buffer right before a page that nothing may touch; such a page stands before its first page too.
+struct Walled {
+    map: *mut u8,
+    pages: usize,
+    length: usize,
+}
+
+impl Walled {
+    fn new(content: &[u8]) -> Walled {
+        let pages = 2 + content.len().div_ceil(PAGE);
+        let walled = unsafe {
+            let map = mmap(ptr::null_mut(), pages * PAGE, READ_WRITE, PRIVATE_ANONYMOUS, -1, 0).cast::<u8>();
+            assert_ne!(map as isize, -1, "no memory");
+            assert_eq!(mprotect(map.cast(), PAGE, NO_ACCESS), 0);
+            assert_eq!(mprotect(map.add((pages - 1) * PAGE).cast(), PAGE, NO_ACCESS), 0);
+            Walled { map, pages, length: content.len() }
+        };
+        unsafe { slice::from_raw_parts_mut(walled.start(), content.len()) }.copy_from_slice(content);
+        walled
+    }
+
+    fn start(&self) -> *mut u8 {
+        unsafe { self.map.add((self.pages - 1) * PAGE - self.length) }
+    }
+
+    fn bytes(&self) -> &[u8] {
+        unsafe { slice::from_raw_parts(self.start(), self.length) }
+    }
+}
+
+impl Drop for Walled {
+    fn drop(&mut self) {
+        unsafe { munmap(self.map.cast(), self.pages * PAGE) };
+    }
+}
+
+/// An output of the given length, beside what is expected at its start.
+fn written(out: &Walled, expected: &calls::Outcome) {
+    let (start, rest) = out.bytes().split_at(expected.written.len());
+    assert!(start == expected.written && rest.iter().all(|byte| *byte == 0));
+}
+
+fn load_and_publish(held: &Held, cut: usize) {
+    let key = &held.key;
+    let file = key.file();
+    let file = Walled::new(&file[..file.len() - cut]);
+    let reply = unsafe { raw::shearcotter_load(raw_calls::fresh(), file.start(), file.length) };
+    assert_eq!(reply.refused, calls::load(0, file.bytes()));
+    let out = Walled::new(&vec![0; key.public_length() - cut]);
+    let work = Walled::new(&vec![0; key.work_length()]);
+    let station = raw_calls::holding(1, key);
+    let reply = unsafe { raw::shearcotter_publish(station, out.start(), out.length, work.start(), work.length) };
+    let expected = calls::publish(1, held, out.length, work.length);
+    assert_eq!(reply.refused, expected.number);
+    written(&out, &expected);
+}
+
+fn open_and_read(random: &mut Random, held: &Held, cut: usize) {
+    let (key, station) = (&held.key, raw_calls::holding(2, &held.key));
+    let pattern = random.pattern(key.n, key.t);
+    let capsule = held
+        .public()
+        .map_or_else(|| random.row(key.capsule_bits()), |public| matrix::lock(key.m, key.n, key.t, public, &pattern));
+    let capsule = Walled::new(&capsule[cut..]);
+    let out = Walled::new(&vec![0; key.n.div_ceil(8)]);
+    let reply = unsafe { raw::shearcotter_open(station, capsule.start(), capsule.length, out.start(), out.length) };
+    let expected = calls::open(2, held, capsule.bytes(), out.length);
+    assert_eq!((reply.refused, reply.ones), (expected.number, expected.ones));
+    written(&out, &expected);
+    let word = Walled::new(&near_code_word(random, held, key.t)[cut..]);
+    let out = Walled::new(&vec![0; key.n.div_ceil(8)]);
+    let reply = unsafe { raw::shearcotter_read(station, word.start(), word.length, out.start(), out.length) };
+    let expected = calls::read(2, held, word.bytes(), out.length);
+    assert_eq!((reply.refused, reply.ones), (expected.number, expected.ones));
+    written(&out, &expected);
+}
+
+fn lock(random: &mut Random, held: &Held, cut: usize) {
+    let key = &held.key;
+    let shape = (key.m, key.n as u16, key.t as u16);
+    let public = Walled::new(held.public().expect("a public key"));
+    let pattern = Walled::new(&random.pattern(key.n, key.t));
+    let out = Walled::new(&vec![0; key.capsule_bits().div_ceil(8) - cut]);
+    let number = unsafe {
+        raw::shearcotter_lock(
+            shape.0,
+            shape.1,
+            shape.2,
+            public.start(),
+            public.length,
+            pattern.start(),
+            pattern.length,
+            out.start(),
+            out.length,
+        )
+    };
+    let expected = calls::lock(shape, public.bytes(), pattern.bytes(), out.length);
+    assert_eq!(number, expected.number);
+    written(&out, &expected);
+}
+
+#[test]
+fn nothing_past_the_ends() {
+    let mut random = Random::new(9);
+    let mut shapes = crate::compare::small_shapes();
+    shapes.extend([(12, 100, 5), (12, 3488, 64), (13, 4608, 96), (13, 6960, 119)]);
+    for (m, n, t) in shapes {
+        let held = random.published(m, n, t);
+        for cut in [0, 1] {
+            load_and_publish(&held, cut);
+            open_and_read(&mut random, &held, cut);
+            lock(&mut random, &held, cut);
+        }
+    }
+}

@@ -1,0 +1,132 @@
+//! What each call answers: the first number in document 01's order whose condition holds, or what is written.
+
+use super::bits;
+use super::field::Field;
+use super::held::Held;
+use super::key::{load_number, shape_number};
+use super::matrix;
+
+/// A number, or 0 with the bytes written from the output's start and the ones among them.
+#[derive(Clone, PartialEq, Eq, Debug, Default)]
+pub struct Outcome {
+    pub number: u8,
+    pub ones: u16,
+    pub written: Vec<u8>,
+}
+
+fn refused(number: u8) -> Outcome {
+    Outcome { number, ..Outcome::default() }
+}
+
+fn written(bytes: Vec<u8>) -> Outcome {
+    Outcome { written: bytes, ..Outcome::default() }
+}
+
+/// The first number of a list of conditions in order.
+fn first(conditions: &[(bool, u8)]) -> u8 {
+    let holds = conditions.iter().find(|(condition, _)| *condition);
+    holds.map_or(0, |(_, number)| *number)
+}
+
+pub fn load(state: u8, file: &[u8]) -> u8 {
+    if state != 0 {
+        22
+    } else {
+        load_number(file)
+    }
+}
+
+pub fn drop(state: u8) -> u8 {
+    first(&[(state == 0, 21)])
+}
+
+/// 21 and 25, which publish, open and read ask for first.
+fn held_number(state: u8, held: &Held) -> u8 {
+    if state == 0 {
+        21
+    } else {
+        first(&[(held.number() != 0, 25)])
+    }
+}
+
+pub fn publish(state: u8, held: &Held, out: usize, work: usize) -> Outcome {
+    let number = held_number(state, held);
+    if number != 0 {
+        return refused(number);
+    }
+    let number = first(&[(out < held.key.public_length(), 10), (work < held.key.work_length(), 11)]);
+    if number != 0 {
+        return refused(number);
+    }
+    held.public().map_or(refused(23), |t| written(t.to_vec()))
+}
+
+/// 8, 9 and 10 for a row of the given number of bits.
+fn row_number(held: &Held, bits: usize, row: &[u8], out: usize) -> u8 {
+    first(&[(row.len() != bits.div_ceil(8), 8), (bits::filler_set(bits, row), 9), (out < held.key.n.div_ceil(8), 10)])
+}
+
+fn pattern(held: &Held, places: Option<Vec<usize>>, none: u8) -> Outcome {
+    let Some(places) = places else {
+        return refused(none);
+    };
+    Outcome { number: 0, ones: places.len() as u16, written: bits::pack(held.key.n, places) }
+}
+
+pub fn open(state: u8, held: &Held, capsule: &[u8], out: usize) -> Outcome {
+    let number = match held_number(state, held) {
+        0 if state == 1 => 24,
+        0 => row_number(held, held.key.capsule_bits(), capsule, out),
+        other => other,
+    };
+    if number != 0 {
+        return refused(number);
+    }
+    pattern(held, held.open(capsule), 13)
+}
+
+pub fn read(state: u8, held: &Held, word: &[u8], out: usize) -> Outcome {
+    let number = match held_number(state, held) {
+        0 => row_number(held, held.key.n, word, out),
+        other => other,
+    };
+    if number != 0 {
+        return refused(number);
+    }
+    pattern(held, held.read(word), 14)
+}
+
+pub fn lock(shape: (u8, u16, u16), public: &[u8], pattern: &[u8], out: usize) -> Outcome {
+    let (m, n, t) = (shape.0, usize::from(shape.1), usize::from(shape.2));
+    let number = shape_number(m, n, t);
+    if number != 0 {
+        return refused(number);
+    }
+    let rank = usize::from(m) * t;
+    let (row, length) = ((n - rank).div_ceil(8), n.div_ceil(8));
+    if public.len() != rank * row || pattern.len() != length {
+        return refused(8);
+    }
+    let number = first(&[
+        (public.chunks(row).any(|r| bits::filler_set(n - rank, r)) || bits::filler_set(n, pattern), 9),
+        (bits::places(n, pattern).len() != t, 12),
+        (out < rank.div_ceil(8), 10),
+    ]);
+    if number != 0 {
+        return refused(number);
+    }
+    written(matrix::lock(m, n, t, public, pattern))
+}
+
+/// The number of a field call on the operands, or 0.
+pub fn field(m: u8, operands: &[u32]) -> u8 {
+    let Some(f) = Field::of(m) else { return 1 };
+    let outside = |x: &u32| *x >= f.size() as u32;
+    first(&[(operands.iter().any(outside), 4)])
+}
+
+pub fn register(m: u8, list: &[u16]) -> u8 {
+    let Some(f) = Field::of(m) else { return 1 };
+    let outside = |x: &u16| usize::from(*x) >= f.size();
+    first(&[(list.len() > 256, 2), (list.iter().any(outside), 4)])
+}

@@ -1,0 +1,63 @@
+//! A key together with what is worked out from it once: its number, its public key, its reader.
+
+use std::sync::OnceLock;
+
+use super::bits;
+use super::key::Key;
+use super::{euclid, matrix, search};
+
+enum Reader {
+    Search(search::Reader),
+    Euclid(euclid::Reader),
+}
+
+pub struct Held {
+    pub key: Key,
+    number: OnceLock<u8>,
+    public: OnceLock<Option<Vec<u8>>>,
+    reader: OnceLock<Reader>,
+}
+
+fn word_of(row: &[u8]) -> u16 {
+    let byte = |i: usize| u16::from(row.get(i).copied().unwrap_or(0));
+    byte(0) | byte(1) << 8
+}
+
+impl Held {
+    pub fn new(key: Key) -> Held {
+        Held { key, number: OnceLock::new(), public: OnceLock::new(), reader: OnceLock::new() }
+    }
+
+    /// Load's number for the key, or 0.
+    pub fn number(&self) -> u8 {
+        *self.number.get_or_init(|| self.key.number())
+    }
+
+    pub fn public(&self) -> Option<&[u8]> {
+        let made = self.public.get_or_init(|| matrix::public_key(&self.key));
+        made.as_deref()
+    }
+
+    fn reader(&self) -> &Reader {
+        self.reader.get_or_init(|| match self.key.m {
+            4 => Reader::Search(search::Reader::new(&self.key)),
+            _ => Reader::Euclid(euclid::Reader::new(&self.key)),
+        })
+    }
+
+    /// The pattern within t places for a well-formed word or capsule; bits that are not there are 0.
+    pub fn read(&self, word: &[u8]) -> Option<Vec<usize>> {
+        match self.reader() {
+            Reader::Search(reader) => {
+                let pattern = reader.read(word_of(word))?;
+                Some(bits::places(self.key.n, &pattern.to_le_bytes()))
+            }
+            Reader::Euclid(reader) => reader.read(word),
+        }
+    }
+
+    /// The same, accepted only with exactly t ones.
+    pub fn open(&self, capsule: &[u8]) -> Option<Vec<usize>> {
+        self.read(capsule).filter(|places| places.len() == self.key.t)
+    }
+}

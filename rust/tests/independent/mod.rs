@@ -1,0 +1,14 @@
+//! A second implementation, written from document 01 alone: the public key by plain elimination of the
+//! defined matrix, reading by Euclid's algorithm on the syndrome of g², and by search over all patterns for m 4.
+
+pub mod bits;
+pub mod calls;
+pub mod euclid;
+pub mod field;
+pub mod held;
+pub mod key;
+pub mod matrix;
+pub mod poly;
+pub mod random;
+pub mod register;
+pub mod search;

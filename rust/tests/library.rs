@@ -1,0 +1,131 @@
+//! The safe types: texts, shapes and lengths, buffers of the caller, the station's states.
+
+use std::mem::size_of;
+
+use shearcotter::{field, lock_into, raw, register, Refusal, Shape, Station};
+
+use crate::bench_keys::K1;
+
+#[test]
+fn refusals_have_their_numbers_and_words() {
+    let numbers: Vec<u8> = Refusal::ALL.iter().map(|refusal| refusal.number()).collect();
+    let expected: Vec<u8> = (1..=14).chain(21..=25).collect();
+    assert_eq!(numbers, expected);
+    for number in 0..=255 {
+        let refusal = Refusal::from_number(number);
+        assert_eq!(refusal.map(Refusal::number), expected.contains(&number).then_some(number));
+    }
+    assert_eq!(Refusal::NoPattern.to_string(), "refused 13: no pattern for the capsule");
+}
+
+#[test]
+fn positions_names_and_lengths() {
+    for (position, shape) in (1..).zip(Shape::STANDARD) {
+        assert_eq!(Shape::at(position), Ok(shape));
+        assert_eq!(Shape::new(shape.m(), shape.n(), shape.t()), Ok(shape));
+        assert_eq!(Shape::named(&shape.name().expect("a name")), Some(shape));
+    }
+    for position in [0, 6, 255] {
+        assert_eq!(Shape::at(position), Err(Refusal::Shape));
+    }
+    assert_eq!(Shape::MCELIECE6960119.name().as_deref(), Some("mceliece6960119"));
+    assert_eq!(Shape::MCELIECE6960119.public_length(), 1_047_319);
+    assert_eq!(Shape::MCELIECE8192128.capsule_length(), 208);
+    assert_eq!(Shape::MCELIECE348864.workspace_length(), 768 * 436);
+    assert_eq!(Shape::MCELIECE8192128.key_file_length(), 16_645);
+    assert_eq!(Shape::named("mceliece"), None);
+}
+
+#[test]
+fn shapes_out_of_limits() {
+    assert_eq!(Shape::new(5, 6, 1), Err(Refusal::Width));
+    for (m, n, t) in [(4, 4, 1), (4, 17, 1), (4, 6, 0), (13, 8192, 129), (12, 4097, 64), (12, 0, 0)] {
+        assert_eq!(Shape::new(m, n, t), Err(Refusal::Shape), "{m},{n},{t}");
+    }
+    assert!(Shape::new(4, 5, 1).is_ok() && Shape::new(12, 13, 1).is_ok());
+}
+
+/// The sizes of the header's structs on x86-64, members in order with C's padding.
+#[test]
+fn sizes_of_the_structs() {
+    assert_eq!(size_of::<raw::Key>(), 6 + 2 * 8192 + 2 * 128);
+    assert_eq!(size_of::<raw::Station>(), 2 + size_of::<raw::Key>());
+    assert_eq!(size_of::<raw::Reply>(), size_of::<raw::Station>() + 4);
+    assert_eq!((size_of::<raw::Element>(), size_of::<raw::Shape>()), (4, 6));
+    assert_eq!(size_of::<raw::Register>(), 536);
+}
+
+#[test]
+fn lent_buffers() {
+    let mut station = Station::fresh();
+    station.load(&K1).expect("load accepts");
+    let (mut out, mut work) = ([7; 6], [7; 4]);
+    assert_eq!(station.publish_into(&mut out[..3], &mut work), Err(Refusal::OutputShort));
+    assert_eq!(station.publish_into(&mut out, &mut work[..3]), Err(Refusal::WorkspaceShort));
+    assert_eq!((out, work), ([7; 6], [7; 4]));
+    assert_eq!(station.publish_into(&mut out, &mut work), Ok(()));
+    assert_eq!(out, [3, 1, 2, 0, 7, 7]);
+    let mut pattern = [7; 2];
+    assert_eq!(station.open_into(&[3], &mut pattern[..0]), Err(Refusal::OutputShort));
+    assert_eq!(station.read_into(&[0x24], &mut pattern[..0]), Err(Refusal::OutputShort));
+    assert_eq!(station.open_into(&[3], &mut pattern), Ok(1));
+    assert_eq!(pattern, [0x10, 7]);
+    assert_eq!(station.read_into(&[0x24], &mut pattern), Ok(1));
+    assert_eq!(pattern, [0x01, 7]);
+    let mut capsule = [7; 2];
+    assert_eq!(lock_into(4, 6, 1, &out[..4], &[0x10], &mut capsule[..0]), Err(Refusal::OutputShort));
+    assert_eq!(lock_into(4, 6, 1, &out[..4], &[0x10], &mut capsule), Ok(()));
+    assert_eq!(capsule, [3, 7]);
+    assert_eq!(lock_into(3, 6, 1, &[], &[], &mut []), Err(Refusal::Width));
+    assert_eq!(lock_into(4, 4, 1, &[], &[], &mut []), Err(Refusal::Shape));
+}
+
+#[test]
+fn states() {
+    let mut station = Station::default();
+    assert_eq!((station.shape(), station.is_published()), (None, false));
+    assert_eq!(station.publish(), Err(Refusal::NoKey));
+    assert_eq!(station.open(&[3]), Err(Refusal::NoKey));
+    assert_eq!(station.read(&[3]), Err(Refusal::NoKey));
+    assert_eq!(station.drop_key(), Err(Refusal::NoKey));
+    station.load(&K1).expect("load accepts");
+    assert_eq!(station.load(&K1), Err(Refusal::KeyHeld));
+    assert_eq!(station.open(&[3]), Err(Refusal::NotPublished));
+    assert_eq!((station.shape(), station.is_published()), (Shape::new(4, 6, 1).ok(), false));
+    station.publish().expect("publish accepts");
+    assert!(station.is_published());
+    assert_eq!(format!("{station:?}"), "Station { shape: Some(Shape { m: 4, n: 6, t: 1 }), published: true, .. }");
+    assert_eq!(station.drop_key(), Ok(()));
+    assert_eq!((station.shape(), station.is_published()), (None, false));
+    station.load(&K1).expect("load accepts again");
+}
+
+#[test]
+fn field_and_register_numbers() {
+    assert_eq!(field::add(4, 9, 15), Ok(6));
+    assert_eq!(field::invert(13, 0), Ok(0));
+    assert_eq!(field::add(5, 0, 0), Err(Refusal::Width));
+    assert_eq!(field::multiply(12, 4096, 0), Err(Refusal::Element));
+    let found = register(4, &[0, 15]).expect("a register");
+    assert_eq!((found.length(), &found.coefficients()[..4]), (2, &[1, 0, 15, 0][..]));
+    assert_eq!(register(4, &[0; 257]), Err(Refusal::Length));
+    assert_eq!(register(4, &[16]), Err(Refusal::Element));
+    assert_eq!(register(0, &[16; 257]), Err(Refusal::Width));
+    assert_eq!(register(4, &[]).map(|found| found.length()), Ok(0));
+}
+
+#[test]
+fn many_stations_on_many_threads() {
+    let opened = |_| {
+        std::thread::spawn(|| {
+            let mut station = Station::fresh();
+            station.load(&K1).expect("load accepts");
+            station.publish().expect("publish accepts");
+            station.open(&[3]).expect("it opens").places().collect::<Vec<_>>()
+        })
+    };
+    let threads: Vec<_> = (0..8).map(opened).collect();
+    for thread in threads {
+        assert_eq!(thread.join().expect("the thread ends"), [4]);
+    }
+}

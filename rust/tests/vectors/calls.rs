@@ -1,0 +1,85 @@
+//! calls.txt: lists of calls on one station, with the ledger at the end.
+
+use shearcotter::raw::{Reply, Station};
+
+use super::expected;
+use crate::independent::key::Key;
+use crate::support::raw_calls::{drop, fresh, holding, load, open, publish, read};
+use crate::support::{bytes, vectors::cases};
+
+const UNTOUCHED: u8 = 0xA5;
+
+/// The reply, and the output's bytes.
+fn call(station: Station, case: &[String]) -> (Reply, Vec<u8>) {
+    let length = |i: usize| case[i].parse().expect("a length");
+    let buffer = |i: usize| vec![UNTOUCHED; length(i)];
+    match case[0].as_str() {
+        "load" => (load(station, &bytes(&case[1])), vec![]),
+        "drop" => (drop(station), vec![]),
+        "publish" => {
+            let (mut out, mut work) = (buffer(1), buffer(2));
+            let reply = publish(station, &mut out, &mut work);
+            (reply, out)
+        }
+        "open" => {
+            let mut out = buffer(2);
+            let reply = open(station, &bytes(&case[1]), &mut out);
+            (reply, out)
+        }
+        "read" => {
+            let mut out = buffer(2);
+            let reply = read(station, &bytes(&case[1]), &mut out);
+            (reply, out)
+        }
+        other => panic!("no such call: {other}"),
+    }
+}
+
+fn run(station: Station, case: &[String]) -> Station {
+    let arrow = case.iter().position(|field| field == "->").expect("an arrow");
+    let (reply, out) = call(station, &case[..arrow]);
+    let mut written = vec![];
+    match expected(&case[arrow + 1..]) {
+        Ok(fields) => {
+            assert_eq!(reply.refused, 0, "{case:?}");
+            written = fields.first().map_or(vec![], |field| bytes(field));
+            let ones = fields.get(1).map_or(0, |ones| ones.parse().expect("a number"));
+            assert_eq!(reply.ones, ones, "{case:?}");
+        }
+        Err(number) => {
+            assert_eq!(reply.refused, number, "{case:?}");
+            assert!(reply.station == station, "a refusal changed the station: {case:?}");
+        }
+    }
+    assert_eq!(out[..written.len()], written, "{case:?}");
+    assert!(out[written.len()..].iter().all(|byte| *byte == UNTOUCHED), "{case:?}");
+    reply.station
+}
+
+/// The station that the ledger's last line describes.
+fn ledger(case: &[String]) -> Station {
+    if case[1] == "-" {
+        return fresh();
+    }
+    let state = if case[2] == "1" { 2 } else { 1 };
+    holding(state, &Key::parse(&bytes(&case[1])).expect("a key"))
+}
+
+#[test]
+fn lists_end_as_the_ledger() {
+    let (mut station, mut lists, mut calls) = (fresh(), 0, 0);
+    for case in cases("calls.txt") {
+        match case[0].as_str() {
+            "list" => {
+                station = fresh();
+                lists += 1;
+            }
+            "end" => assert!(station == ledger(&case), "{case:?}"),
+            _ => {
+                station = run(station, &case);
+                calls += 1;
+            }
+        }
+    }
+    assert!(lists > 100 && calls > 1500, "{lists} lists, {calls} calls");
+}

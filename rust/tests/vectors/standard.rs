@@ -1,0 +1,49 @@
+//! The standard's published keys and capsules, count 0 of each shape.
+
+use shearcotter::{lock, Refusal, Shape};
+
+use super::{loaded, same_pattern};
+use crate::support::bytes;
+use crate::support::vectors::{cases, file};
+
+fn published_vector(shape: Shape) {
+    let name = shape.name().expect("a name");
+    let at = |part: &str| file(&format!("{name}/count0/{part}"));
+    let (public, capsule, pattern) = (at("public.bin"), at("capsule.bin"), at("pattern.bin"));
+    let mut station = loaded(&at("key.bin"));
+    assert_eq!(station.shape(), Some(shape));
+    assert!(station.publish().expect("publish accepts") == public, "public key of {name}");
+    assert_eq!(lock(shape, &public, &pattern), Ok(capsule.clone()));
+    let opened = station.open(&capsule).expect("it opens");
+    assert_eq!((opened.bytes(), opened.ones()), (&pattern[..], shape.t()));
+    assert_eq!(station.open(&at("capsule_reject.bin")), Err(Refusal::NoPattern));
+    for case in cases(&format!("{name}/count0/many.txt")) {
+        assert_eq!(case[0], "open");
+        same_pattern(station.open(&bytes(&case[1])), &case[2..]);
+    }
+}
+
+#[test]
+fn mceliece348864() {
+    published_vector(Shape::MCELIECE348864);
+}
+
+#[test]
+fn mceliece460896() {
+    published_vector(Shape::MCELIECE460896);
+}
+
+#[test]
+fn mceliece6688128() {
+    published_vector(Shape::MCELIECE6688128);
+}
+
+#[test]
+fn mceliece6960119() {
+    published_vector(Shape::MCELIECE6960119);
+}
+
+#[test]
+fn mceliece8192128() {
+    published_vector(Shape::MCELIECE8192128);
+}
