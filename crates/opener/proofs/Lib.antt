@@ -1,0 +1,5 @@
+pub mod Written
+pub mod Digits
+pub mod Text
+pub mod Capsules
+pub mod Lengths
