@@ -2,14 +2,15 @@
 use Prim.Native.Nat.{ℕ, zero, suc, _+_, _-_, _≤_, _<_, min}
 use mathlib.Core.Path.{_≡_, refl, sym, ap, _∙_}
 use mathlib.Core.List.{List, [], _∷_, _++_}
-use native.Mathlib.Nat.{min-eq-left, min-eq-right}
+use native.Mathlib.Nat.{min-le-right, min-eq-left, min-eq-right}
 use native.Mathlib.Decide.{decLe}
 use native.Mathlib.Numerals.{add-one}
 use native.Mathlib.Omega.{arith}
 use lib.ListN.{length, take, drop, length-append, length-drop}
-use lib.Seq.{take-all, drop-drop}
+use lib.Seq.{length-take-le, take-all, drop-drop}
 use Rattle.bits.specs.Bits.{bytesFor, unpack}
 use Rattle.key.specs.Kept.{kept}
+use Rattle.key.specs.Keys.{Key}
 use Rattle.code.specs.Publish.{capsuleBits}
 use Rattle.ledger.specs.Station.{Station}
 use Rattle.ledger.specs.Calls.{open-capsule}
@@ -17,7 +18,7 @@ use Rattle.station.specs.Replies.{view, handed}
 use Rattle.station.specs.declared.Station as Code
 use Rattle.station.specs.declared.Reply.{Reply}
 use Rattle.station.proofs.StepView.{same}
-use Rattle.opener.specs.Report.{newline, decimal, answer, room, line, lines, cut, opened}
+use Rattle.opener.specs.Report.{newline, decimal, answer, room, line, lines, cut, opened, Four}
 
 -- the line, from what the station hands back
 pub line-parts : (s : Code.Station) (p : ℕ) (capsule : List ℕ) {r : Reply} {out : List ℕ}
@@ -26,16 +27,23 @@ pub line-parts : (s : Code.Station) (p : ℕ) (capsule : List ℕ) {r : Reply} {
 unfolding line view kept handed
 line-parts s p capsule {r} {out} e f =
     ap (λ (k : ℕ). decimal p ++ (answer k (unpack (s .key .n) (handed s (open-capsule capsule room) .output)) ++ newline))
-        (sym (same s (open-capsule capsule room) .number) ∙ sym (ap (λ (x : Reply). x .refused) e))
+    (sym (same s (open-capsule capsule room) .number) ∙ sym (ap (λ (x : Reply). x .refused) e))
     ∙ ap (λ (o : List ℕ). decimal p ++ (answer (r .refused) (unpack (s .key .n) o) ++ newline)) (sym f)
 
 take-min : (c : ℕ) (l : List ℕ) (n : ℕ) → length l ≡ n → take (min c n) l ≡ take c l
 take-min c l n e = elim (decLe c n) [
   | yes h ↦ ap (λ (k : ℕ). take k l) (min-eq-left h)
   | no h ↦
-    let b : n ≤ c = omega arith in
-    ap (λ (k : ℕ). take k l) (min-eq-right b) ∙ take-all n l (omega arith) ∙ sym (take-all c l (omega arith))
+      let b : n ≤ c = omega arith in
+      ap (λ (k : ℕ). take k l) (min-eq-right b) ∙ take-all n l (omega arith) ∙ sym (take-all c l (omega arith))
 ]
+
+-- the first c bytes, or all
+pub taken : (c : ℕ) (l : List ℕ) {k : ℕ} → k ≡ min c (length l) → take k l ≡ take c l
+taken c l e = ap (λ (k : ℕ). take k l) e ∙ take-min c l (length l) refl
+
+pub taken-length : (c : ℕ) (l : List ℕ) {k : ℕ} → k ≡ min c (length l) → length (take k l) ≡ k
+taken-length c l {k} e = length-take-le k l (omega (arith, min-le-right c (length l)))
 
 -- c bytes from i on, or what is left
 pub take-within : (c i : ℕ) (l : List ℕ) {k : ℕ} → k ≡ min c (length l - i) → take (i + k - i) (drop i l) ≡ take c (drop i l)
@@ -91,6 +99,10 @@ module _ (s : Station) (c p : ℕ) (input : List ℕ) where
 pub lines-all : (s : Station) (input : List ℕ) {c : ℕ} → c ≡ bytesFor (capsuleBits (s .key)) → linesLeft s c 1 input 0 ≡ opened s input
 unfolding linesLeft opened
 lines-all s input e = ap (λ (k : ℕ). lines s 1 (cut (length input) k input)) e
+
+pub capsule-bits : {k : Key} → Four k → (0 < capsuleBits k) × (capsuleBits k < 16)
+unfolding capsuleBits
+capsule-bits {k} f = rw (f .width) (omega (arith, f .some), omega (arith, f .over, f .fits))
 
 -- a capsule has a byte, and no more bytes than bits
 pub capsule-some : {c bits : ℕ} → c ≡ bytesFor bits → 0 < bits → 0 < c

@@ -29,9 +29,9 @@ digits-enough (suc k) zero n h g = absurd (omega arith)
 digits-enough (suc k) (suc j) n h g = elim (decLt n 10) [
   | yes s ↦ digits-small k n s ∙ sym (digits-small j n s)
   | no l ↦
-    let e : 10 ≤ n = omega arith in
-    let t : n / 10 < n = tenth n e in
-    digits-large k n e ∙ ap (λ (d : List ℕ). d ++ ((48 + n % 10) ∷ [])) (digits-enough k j (n / 10) (omega arith) (omega arith)) ∙ sym (digits-large j n e)
+      let e : 10 ≤ n = omega arith in
+      let t : n / 10 < n = tenth n e in
+      digits-large k n e ∙ ap (λ (d : List ℕ). d ++ ((48 + n % 10) ∷ [])) (digits-enough k j (n / 10) (omega arith) (omega arith)) ∙ sym (digits-large j n e)
 ]
 
 pub decimal-small : (n : ℕ) → n < 10 → decimal n ≡ (48 + n) ∷ []
@@ -50,7 +50,7 @@ decimal-short zero n h = rw (decimal-small n h) (omega arith)
 decimal-short (suc k) n h = elim (decLt n 10) [
   | yes s ↦ rw (decimal-small n s) (omega arith)
   | no l ↦
-    let e : 10 ≤ n = omega arith in
-    let r : length (decimal (n / 10)) ≤ suc k = decimal-short k (n / 10) (omega (arith, pow-suc 10 (suc k))) in
-    rw (decimal-large n e) (simp length-append (omega arith))
+      let e : 10 ≤ n = omega arith in
+      let r : length (decimal (n / 10)) ≤ suc k = decimal-short k (n / 10) (omega (arith, pow-suc 10 (suc k))) in
+      rw (decimal-large n e) (simp length-append (omega arith))
 ]

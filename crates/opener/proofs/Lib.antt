@@ -3,3 +3,4 @@ pub mod Digits
 pub mod Text
 pub mod Capsules
 pub mod Lengths
+pub mod Stages

@@ -5,8 +5,9 @@ use mathlib.Core.List.{List, [], _∷_, _++_}
 use native.Mathlib.Nat.{add-zero, add-suc, suc-add}
 use native.Mathlib.Numerals.{add-one}
 use native.Mathlib.Omega.{arith}
-use lib.ListN.{length, drop, getD, set, length-append}
+use lib.ListN.{length, take, drop, getD, set, length-append}
 use lib.Seq.{sets, drop-cons}
+use Rattle.bits.specs.Bits.{over}
 use Rattle.opener.specs.Wrote.{Wrote}
 
 -- one text, then another
@@ -40,10 +41,10 @@ pub joined : (a b : List ℕ) {out mid after : List ℕ} {at next end : ℕ} →
 joined a b {out} {mid} {after} {at} {next} {end} x y = record {
   place = simp length-append (omega (arith, x .place, y .place));
   output =
-    y .output
-    ∙ ap (λ (o : List ℕ). sets o next b) (x .output)
-    ∙ ap (λ (k : ℕ). sets (sets out at a) k b) (x .place)
-    ∙ sym (sets-append out at a b);
+      y .output
+      ∙ ap (λ (o : List ℕ). sets o next b) (x .output)
+      ∙ ap (λ (k : ℕ). sets (sets out at a) k b) (x .place)
+      ∙ sym (sets-append out at a b);
 }
 
 -- the same text
@@ -66,11 +67,11 @@ pub left-step : (a b : List ℕ) {l out after whole out₀ : List ℕ} {at next 
 left-step a b {out = out} {after = after} {at = at} {next = next} e l w = record {
   place = omega (arith, w .place, l .place, length-append a b, ap length e);
   output =
-    ap (λ (o : List ℕ). sets o next b) (w .output)
-    ∙ ap (λ (k : ℕ). sets (sets out at a) k b) (w .place)
-    ∙ sym (sets-append out at a b)
-    ∙ ap (sets out at) (sym e)
-    ∙ l .output;
+      ap (λ (o : List ℕ). sets o next b) (w .output)
+      ∙ ap (λ (k : ℕ). sets (sets out at a) k b) (w .place)
+      ∙ sym (sets-append out at a b)
+      ∙ ap (sets out at) (sym e)
+      ∙ l .output;
 }
 
 pub left-none : {a out whole out₀ : List ℕ} {at at₀ : ℕ} → a ≡ [] → Left a out at whole out₀ at₀ → Wrote whole out₀ at₀ at out
@@ -78,3 +79,19 @@ left-none {out = out} {at = at} e l = record {
   place = omega (arith, l .place, ap length e);
   output = ap (sets out at) (sym e) ∙ l .output;
 }
+
+sets-empty : (at : ℕ) (text : List ℕ) → sets [] at text ≡ []
+sets-empty at [] = refl
+sets-empty at (b ∷ text) = sets-empty (suc at) text
+
+sets-behind : (x : ℕ) (out : List ℕ) (at : ℕ) (text : List ℕ) → sets (x ∷ out) (suc at) text ≡ x ∷ sets out at text
+sets-behind x out at [] = refl
+sets-behind x out at (b ∷ text) = sets-behind x (set out at b) (suc at) text
+
+-- from the start: as much of the text as there is room for, and the rest of the output as it was
+pub sets-over : (text out : List ℕ) → sets out 0 text ≡ over (take (length out) text) out
+unfolding over
+sets-over [] [] = refl
+sets-over [] (x ∷ out) = refl
+sets-over (b ∷ text) [] = sets-empty 1 text
+sets-over (b ∷ text) (x ∷ out) = sets-behind b out 0 text ∙ ap (_∷_ b) (sets-over text out)

@@ -11,7 +11,7 @@ ghost use Rattle.code.specs.Publish.{capsuleBits};
 ghost use Rattle.key.specs.Kept.{kept};
 ghost use Rattle.ledger.specs.Calls.{publish};
 ghost use Rattle.station.specs.Replies.{view, handed};
-ghost use Rattle.opener.specs.Report.{room, newline};
+ghost use Rattle.opener.specs.Report.{room, Four};
 ghost use Rattle.opener.specs.Report as Report;
 ghost use Rattle.opener.specs.Wrote.{Wrote};
 
@@ -103,7 +103,15 @@ fn line(station: Station, p: usize, capsule: &[u8], out: &mut [u8], at: usize) -
 }
 
 // The line of the c bytes from i on, or of what is left of them.
-fn line_at(station: Station, p: usize, input: &[u8], i: usize, c: usize, out: &mut [u8], at: usize) -> usize
+fn line_at(
+    station: Station,
+    p: usize,
+    input: &[u8],
+    i: usize,
+    c: usize,
+    out: &mut [u8],
+    at: usize,
+) -> usize
     requires { ⌜ i ≤ length (now input) ⌝ }
     requires { ⌜ at + length (Report.line (view station) p (take c (drop i (now input)))) < 2 ^ 64 ⌝ }
     ensures { λ r. ⌜ Wrote (Report.line (view station) p (take c (drop i (now (input .entry))))) (now (out .entry)) at r (now (out .exit)) ⌝ }
@@ -122,8 +130,7 @@ fn capsule_bytes(station: Station) -> usize
 
 // The lines of the capsules.
 fn lines(station: Station, input: &[u8], out: &mut [u8]) -> usize
-    requires { ⌜ (0 < capsuleBits (view station .key)) × (capsuleBits (view station .key) < view station .key .n) ⌝ }
-    requires { ⌜ (view station .key .n ≤ 8192) × (length (now input) ≤ 65536) ⌝ }
+    requires { ⌜ Four (view station .key) × (length (now input) ≤ 65536) ⌝ }
     ensures { λ r. ⌜ Wrote (Report.opened (view station) (now (input .entry))) (now (out .entry)) 0 r (now (out .exit)) ⌝ }
 {
     let c = capsule_bytes(station);

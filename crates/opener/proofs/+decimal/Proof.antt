@@ -39,12 +39,12 @@ decimal-same-length : (t : ℕ) → decimal-lts.Need-same-length (put-reads.Aske
 decimal-same-length t c = search needs
 
 decimal-returns : (t : ℕ) → decimal-lts.Need-returns (put-reads.Asked, put-reads.Learnt, decimal-below t, decimal.Post) (decimal-at t) decimal.Post
-decimal-returns t c = 
+decimal-returns t c =
     same-text (sym (decimal-small (c .before .before .before .before .before .before .args .n) (omega arith)))
     (c .before .before .put .ensures)
 
 decimal-decimal-requires : (t : ℕ) → decimal-lts.Need-decimal-requires (put-reads.Asked, put-reads.Learnt, decimal-below t, decimal.Post) (decimal-at t) decimal.Post
-decimal-decimal-requires t c κs = 
+decimal-decimal-requires t c κs =
     let a = c .before .before .before in
     let n = a .args .n in
     let h : 10 ≤ n = omega arith in
@@ -58,7 +58,7 @@ decimal-add-put-2 : (t : ℕ) → decimal-lts.Need-add-put-2 (put-reads.Asked, p
 decimal-add-put-2 t c = omega arith
 
 decimal-put-requires-2 : (t : ℕ) → decimal-lts.Need-put-requires-2 (put-reads.Asked, put-reads.Learnt, decimal-below t, decimal.Post) (decimal-at t) decimal.Post
-decimal-put-requires-2 t c κs = 
+decimal-put-requires-2 t c κs =
     let d = c .before .before .before in
     let a = d .before .before .before .before in
     let n = a .args .n in
@@ -70,7 +70,7 @@ decimal-same-length-2 : (t : ℕ) → decimal-lts.Need-same-length-2 (put-reads.
 decimal-same-length-2 t c = search needs
 
 decimal-returns-2 : (t : ℕ) → decimal-lts.Need-returns-2 (put-reads.Asked, put-reads.Learnt, decimal-below t, decimal.Post) (decimal-at t) decimal.Post
-decimal-returns-2 t c = 
+decimal-returns-2 t c =
     let d = c .before .before .before .before .before .before in
     let a = d .before .before .before .before in
     let n = a .args .n in

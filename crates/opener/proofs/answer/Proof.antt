@@ -21,14 +21,14 @@ slice-aggregate-write c = search needs
 
 write-requires : tie.Need-write-requires
 unfolding refuses
-write-requires c κs = 
+write-requires c κs =
     let s = c .before .before .before .before .before in
     let a = s .args in
     omega (arith, s .pre, length-append refuses (decimal (a .refused)), ap length (answer-refused (a .refused) (unpack (a .n) (a .pattern .now)) (c .before .before .if1 .taken)))
 
 decimal-requires : tie.Need-decimal-requires
 unfolding refuses
-decimal-requires c κs = 
+decimal-requires c κs =
     let w = c .before .before .before in
     let s = w .before .before .before .before .before .before in
     let a = s .args in
@@ -39,7 +39,7 @@ same-length c = search needs
 
 returns : tie.Need-returns
 unfolding refuses
-returns c = 
+returns c =
     let w = c .before .before .before .before .before .before in
     let a = w .before .before .before .before .before .before .args in
     same-text (sym (answer-refused (a .refused) (unpack (a .n) (a .pattern .now)) (w .before .before .before .if1 .taken)))
@@ -50,7 +50,7 @@ slice-aggregate-write-2 c = search needs
 
 write-requires-2 : tie.Need-write-requires-2
 unfolding opens
-write-requires-2 c κs = 
+write-requires-2 c κs =
     let s = c .before .before .before .before .before in
     let a = s .args in
     let e = unpack (a .n) (a .pattern .now) in
@@ -58,7 +58,7 @@ write-requires-2 c κs =
 
 places-requires : tie.Need-places-requires
 unfolding opens
-places-requires c κs = 
+places-requires c κs =
     let w = c .before .before .before in
     let s = w .before .before .before .before .before .before in
     let a = s .args in
@@ -70,7 +70,7 @@ same-length-2 c = search needs
 
 returns-2 : tie.Need-returns-2
 unfolding opens
-returns-2 c = 
+returns-2 c =
     let w = c .before .before .before .before .before .before in
     let a = w .before .before .before .before .before .before .args in
     let e = unpack (a .n) (a .pattern .now) in

@@ -22,7 +22,7 @@ cast-bytes-for-2 : tie.Need-cast-bytes-for-2
 cast-bytes-for-2 c = search needs
 
 mul-bytes-for : tie.Need-mul-bytes-for
-mul-bytes-for c = 
+mul-bytes-for c =
     let k = c .before .before .before .args .station .key in
     let h : k .m ≤ 255 = omega arith in
     let l : k .t ≤ 65535 = omega arith in

@@ -23,13 +23,13 @@ write-requires : tie.Need-write-requires
 write-requires c κs = search needs
 
 decimal-requires : tie.Need-decimal-requires
-decimal-requires c κs = 
+decimal-requires c κs =
     let w = c .before .before .before in
     let a = w .before .before .before .before .args in
     omega (arith, w .write .ensures .place, decimal-short 19 (a .number) (omega arith))
 
 put-requires : tie.Need-put-requires
-put-requires c κs = 
+put-requires c κs =
     let d = c .before .before .before in
     let w = d .before .before .before .before in
     let a = w .before .before .before .before .args in
@@ -40,14 +40,14 @@ same-length c = search needs
 
 returns : tie.Need-returns
 unfolding keyRefused newline
-returns c = 
+returns c =
     let d = c .before .before .before .before .before .before in
     let w = d .before .before .before .before in
     let s = w .before .before .before .before in
     let a = s .args in
     same-text (sym (key-refused (a .number) [] (λ e. omega (arith, s .pre, e))))
     (joined keyRefused (decimal (a .number) ++ newline) (w .write .ensures)
-     (joined (decimal (a .number)) newline (d .decimal .ensures) (c .before .before .put .ensures)))
+    (joined (decimal (a .number)) newline (d .decimal .ensures) (c .before .before .put .ensures)))
 
 pub key-refused-spec : {M : Type 1} → statement M
 key-refused-spec =

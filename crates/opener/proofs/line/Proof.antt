@@ -25,7 +25,7 @@ open-requires c κs = search needs
 
 decimal-requires : tie.Need-decimal-requires
 unfolding room newline
-decimal-requires c κs = 
+decimal-requires c κs =
     let s = c .before .before .before .before .before .before .before in
     let a = s .args in
     let o = c .before .before in
@@ -39,7 +39,7 @@ cast-answer c = search needs
 
 answer-requires : tie.Need-answer-requires
 unfolding room newline
-answer-requires c κs = 
+answer-requires c κs =
     let s = c .before .before .before .before .before .before .before .before .before .before .before .before .before in
     let a = s .args in
     let o = c .before .before .before .before .before .before .before .before in
@@ -47,7 +47,7 @@ answer-requires c κs =
 
 put-requires : tie.Need-put-requires
 unfolding room newline
-put-requires c κs = 
+put-requires c κs =
     let w = c .before .before .before in
     let s = w .before .before .before .before .before .before .before .before .before .before .before .before .before .before in
     let a = s .args in
@@ -59,14 +59,14 @@ same-length c = search needs
 
 returns : tie.Need-returns
 unfolding room newline
-returns c = 
+returns c =
     let w = c .before .before .before .before .before .before in
     let s = w .before .before .before .before .before .before .before .before .before .before .before .before .before .before in
     let a = s .args in
     let o = w .before .before .before .before .before .before .before .before .before in
     same-text (sym (line-parts (a .station) (a .p) (a .capsule .now) (o .«open» .ensures .0) (o .«open» .ensures .1)))
     (joined (decimal (a .p)) (answer (o .«open» .result .refused) (unpack (a .station .key .n) (o .«open» .last .1 .1 .0)) ++ newline) (w .before .before .before .before .before .before .decimal .ensures)
-     (joined (answer (o .«open» .result .refused) (unpack (a .station .key .n) (o .«open» .last .1 .1 .0))) newline (w .answer .ensures) (c .before .before .put .ensures)))
+    (joined (answer (o .«open» .result .refused) (unpack (a .station .key .n) (o .«open» .last .1 .1 .0))) newline (w .answer .ensures) (c .before .before .put .ensures)))
 
 pub line-spec : {M : Type 1} → statement M
 line-spec =

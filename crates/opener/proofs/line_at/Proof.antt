@@ -34,18 +34,18 @@ part-line-end : tie.Need-part-line-end
 part-line-end c = search needs
 
 line-requires : tie.Need-line-requires
-line-requires c κs = 
+line-requires c κs =
     let s = c .before .before .before .before .before in
     let a = s .args in
     let e : take (a .i + c .before .before .smaller .result - a .i) (drop (a .i) (a .input .now)) ≡ take (a .c) (drop (a .i) (a .input .now)) =
-        take-within (a .c) (a .i) (a .input .now) (c .before .before .smaller .ensures) in
+    take-within (a .c) (a .i) (a .input .now) (c .before .before .smaller .ensures) in
     rw e (s .pre .1)
 
 same-length : tie.Need-same-length
 same-length c = search needs
 
 returns : tie.Need-returns
-returns c = 
+returns c =
     let a = c .before .before .before .before .before .before .before .before .args in
     same-text (ap (line (view (a .station)) (a .p)) (take-within (a .c) (a .i) (a .input .now) (c .before .before .before .before .before .smaller .ensures))) (c .before .before .line .ensures)
 

@@ -16,17 +16,17 @@ use Rattle.opener.proofs.decimal.Reads as decimal-reads
 use Rattle.opener.proofs.put.Reads as put-reads
 
 returns : tie.Need-returns
-returns c = 
+returns c =
     let a = c .before .before .args in
     same-text (sym (place-zero (a .bit) (a .i) (c .if1 .taken))) (wrote-nothing (a .out .now) (a .at))
 
 put-requires : tie.Need-put-requires
-put-requires c κs = 
+put-requires c κs =
     let a = c .before .before .before in
     omega (arith, a .pre, ap length (place-one (a .args .bit) (a .args .i) (c .before .if1 .left)))
 
 decimal-requires : tie.Need-decimal-requires
-decimal-requires c κs = 
+decimal-requires c κs =
     let p = c .before .before .before in
     let a = p .before .before .before .before in
     omega (arith, a .pre, p .put .ensures .place, ap length (place-one (a .args .bit) (a .args .i) (p .before .before .if1 .left)))
@@ -35,7 +35,7 @@ same-length : tie.Need-same-length
 same-length c = search needs
 
 returns-2 : tie.Need-returns-2
-returns-2 c = 
+returns-2 c =
     let p = c .before .before .before .before .before .before in
     let a = p .before .before .before .before .args in
     same-text (sym (place-one (a .bit) (a .i) (p .before .before .if1 .left))) (joined (32 ∷ []) (decimal (a .i)) (p .put .ensures) (c .before .before .decimal .ensures))

@@ -30,7 +30,7 @@ bit-at-requires : tie.Need-bit-at-requires Inv-loop μ-loop
 bit-at-requires c κs = tt
 
 place-requires : tie.Need-place-requires Inv-loop μ-loop
-place-requires c κs = 
+place-requires c κs =
     let l = c .before .before .before .loop in
     let s = c .before .before .before .before .before .before in
     let a = s .args in
@@ -44,7 +44,7 @@ loop-less : tie.Need-loop-less Inv-loop μ-loop
 loop-less c = omega arith
 
 loop-again : tie.Need-loop-again Inv-loop μ-loop
-loop-again c = 
+loop-again c =
     let p = c .before .before .place in
     let b = c .before .before .before .before .bit-at in
     let l = c .before .before .before .before .before .before .loop in
@@ -53,7 +53,7 @@ loop-again c =
       p .kept .1 .1 .0 ∙ l .inv .1,
       left-step (place (b .result) (l .i)) (placesLeft (a .pattern .now) (a .n) (l .i + 1))
           (left-next (a .pattern .now) (a .n) (l .i) (omega arith)
-           ∙ ap (λ (x : ℕ). place x (l .i) ++ placesLeft (a .pattern .now) (a .n) (l .i + 1)) (sym (b .ensures)))
+          ∙ ap (λ (x : ℕ). place x (l .i) ++ placesLeft (a .pattern .now) (a .n) (l .i + 1)) (sym (b .ensures)))
           (l .inv .2) (p .ensures),
     )
 
@@ -61,7 +61,7 @@ same-length : tie.Need-same-length Inv-loop μ-loop
 same-length c = c .before .loop .inv .1
 
 returns : tie.Need-returns Inv-loop μ-loop
-returns c = 
+returns c =
     let a = c .before .before .before .before .args in
     let l = c .before .loop in
     left-none (left-done (a .pattern .now) (a .n) (l .i) (c .loop-test .left)) (l .inv .2)
