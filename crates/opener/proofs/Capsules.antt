@@ -1,7 +1,7 @@
 -- The lines of the capsules, one after the other. Assumes nothing.
-use Prim.Native.Nat.{ℕ, zero, suc, _+_, _-_, _≤_, _<_, min}
 use mathlib.Core.Path.{_≡_, refl, sym, ap, _∙_}
 use mathlib.Core.List.{List, [], _∷_, _++_}
+use Prim.Native.Nat.{ℕ, zero, suc, _+_, _-_, _≤_, _<_, min}
 use native.Mathlib.Nat.{min-le-right, min-eq-left, min-eq-right}
 use native.Mathlib.Decide.{decLe}
 use native.Mathlib.Numerals.{add-one}
@@ -15,9 +15,9 @@ use Rattle.code.specs.Publish.{capsuleBits}
 use Rattle.ledger.specs.Station.{Station}
 use Rattle.ledger.specs.Calls.{open-capsule}
 use Rattle.station.specs.Replies.{view, handed}
-use Rattle.station.specs.declared.Station as Code
 use Rattle.station.specs.declared.Reply.{Reply}
 use Rattle.station.proofs.StepView.{same}
+use Rattle.station.specs.declared.Station as Code
 use Rattle.opener.specs.Report.{newline, decimal, answer, room, line, lines, cut, opened, Four}
 
 -- the line, from what the station hands back

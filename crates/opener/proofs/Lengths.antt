@@ -1,8 +1,7 @@
 -- The text is short enough for its length to be counted. Assumes nothing.
-use Prim.Native.Nat.{ℕ, zero, suc, _+_, _*_, _^_, _≤_, _<_}
-use mathlib.Core.Path.{_≡_, refl, sym, ap, _∙_}
 use mathlib.Core.Bool.{Bool, true, false, cond}
 use mathlib.Core.List.{List, [], _∷_, _++_}
+use Prim.Native.Nat.{ℕ, zero, suc, _+_, _*_, _^_, _≤_, _<_}
 use native.Mathlib.Nat.{suc-mul}
 use native.Mathlib.Omega.{arith}
 use lib.ListN.{length, drop, length-append}
@@ -12,8 +11,8 @@ use Rattle.field.specs.Numbers.{firstOf}
 use Rattle.code.specs.Publish.{capsuleBits}
 use Rattle.decoder.specs.Calls as Calls
 use Rattle.ledger.specs.Station.{Station, heldBy, openConditions}
-use Rattle.ledger.specs.Calls.{Call, open-capsule, conditionsOf, step}
-use Rattle.ledger.proofs.StepLaws.{callNumber, step-number}
+use Rattle.ledger.specs.Calls.{open-capsule, conditionsOf, step}
+use Rattle.ledger.proofs.StepLaws.{step-number}
 use Rattle.opener.specs.Report.{newline, refuses, opens, decimal, place, places, answer, room, line, lines, cut, opened}
 use Rattle.opener.proofs.Digits.{decimal-short}
 

@@ -1,21 +1,19 @@
 -- The text, by what loading and publishing hand back. Assumes nothing.
-use Prim.Native.Nat.{ℕ, zero, suc, _*_, _≤_, _<_}
 use mathlib.Core.Path.{_≡_, refl, sym, ap, _∙_}
-use mathlib.Core.Bool.{Bool, true, false, cond, not, _||_, true≢false}
+use mathlib.Core.Bool.{Bool, true, false, cond, _||_, true≢false}
 use mathlib.Core.List.{List, []}
-use native.Mathlib.Omega.{arith}
-use lib.Dec.{eqb}
+use Prim.Native.Nat.{ℕ}
 use borrow.Author.Tests.{eqb-true}
+use lib.Dec.{eqb}
 use Rattle.field.specs.Numbers.{firstOf}
 use Rattle.field.specs.Field.{isWidth}
-use Rattle.key.specs.Keys.{Key, parse, fileConditions, keyNumber}
+use Rattle.key.specs.Keys.{Key, parse, keyNumber}
 use Rattle.key.proofs.Accepted.{Accepted, accepted}
 use Rattle.key.proofs.Parse.{accepted-key}
-use Rattle.code.specs.Publish.{capsuleBits}
-use Rattle.ledger.specs.Station.{isEmpty, heldBy, loadConditions, fresh, Result}
-use Rattle.ledger.specs.Station as Definition
-use Rattle.ledger.specs.Calls.{Call, load, publish, conditionsOf, step}
+use Rattle.ledger.specs.Station.{isEmpty, heldBy, loadConditions, fresh}
+use Rattle.ledger.specs.Calls.{load, publish, conditionsOf, step}
 use Rattle.ledger.proofs.StepLaws.{step-number, load-station, publish-station}
+use Rattle.ledger.specs.Station as Definition
 use Rattle.station.specs.Replies.{view, freshStation, handed}
 use Rattle.station.specs.declared.Station.{Station}
 use Rattle.station.specs.declared.Reply.{Reply}

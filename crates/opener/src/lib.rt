@@ -3,18 +3,18 @@
 use station::Reply;
 use station::Station;
 ghost use mathlib.Core.Path.{_≡_};
-ghost use mathlib.Core.List.{[], _∷_, _++_};
+ghost use mathlib.Core.List.{[], _∷_};
 ghost use Prim.Native.Nat.{_+_, _^_, _≤_, _<_};
 ghost use lib.ListN.{length, take, drop};
 ghost use Rattle.bits.specs.Bits.{bytesFor, unpack, over};
 ghost use Rattle.code.specs.Publish.{capsuleBits};
-ghost use Rattle.key.specs.Kept.{kept};
 ghost use Rattle.ledger.specs.Calls.{publish};
 ghost use Rattle.station.specs.Replies.{view, handed};
 ghost use Rattle.opener.specs.Report.{room, Four};
 ghost use Rattle.opener.specs.Report as Report;
 ghost use Rattle.opener.specs.Wrote.{Wrote};
 
+// One byte.
 fn put(b: u8, out: &mut [u8], at: usize) -> usize
     requires { ⌜ at + 1 < 2 ^ 64 ⌝ }
     ensures { λ r. ⌜ Wrote (b ∷ []) (now (out .entry)) at r (now (out .exit)) ⌝ }
@@ -26,6 +26,7 @@ fn put(b: u8, out: &mut [u8], at: usize) -> usize
     at + 1
 }
 
+// The bytes of `text`.
 fn write(text: &[u8], out: &mut [u8], at: usize) -> usize
     requires { ⌜ at + length (now text) < 2 ^ 64 ⌝ }
     ensures { λ r. ⌜ Wrote (now (text .entry)) (now (out .entry)) at r (now (out .exit)) ⌝ }

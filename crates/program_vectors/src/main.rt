@@ -10,7 +10,14 @@ const LAST: u8 = 28;
 fn read(case: u8, ending: [u8; 3], bytes: &mut [u8]) -> usize
     ensures { λ r. ⌜ Counts r (now (bytes .exit)) ⌝ }
 {
-    let name = [b'0' + case / 10 % 10, b'0' + case % 10, b'.', ending[0], ending[1], ending[2]];
+    let name = [
+        b'0' + case / 10 % 10,
+        b'0' + case % 10,
+        b'.',
+        ending[0],
+        ending[1],
+        ending[2],
+    ];
     let fd = os::open_read(&name);
     if fd < 0 {
         return 0;

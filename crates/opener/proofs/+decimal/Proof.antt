@@ -1,20 +1,18 @@
 -- The number itself falls: a tenth of it, then the last digit. Assumes nothing.
-use mathlib.Core.Path.{_≡_, sym, ap, subst, _∙_}
-use mathlib.Core.List.{List, [], _∷_, _++_}
-use native.Mathlib.Nat.{mod-lt}
+use mathlib.Core.Path.{sym, ap, subst}
+use Prim.Native.Nat.{ℕ, _/_, _≤_, _<_}
 use native.Mathlib.Omega.{arith}
 use borrow.Author.Needs.{needs}
+use borrow.Fn.Kinds.{In}
+use borrow.Fn.PlainCycle.{Measures, is, falls, and}
 use lib.ListN.{length, length-append}
 use Rattle.opener.proofs.Written.{joined, same-text}
 use Rattle.opener.proofs.Digits.{tenth, decimal-small, decimal-large}
-use Prim.Native.Nat.{ℕ, _+_, _/_, _%_, _≤_, _<_}
-use borrow.Fn.Kinds.{In}
-use borrow.Fn.PlainCycle.{Measures, is, falls, and}
+use Rattle.opener.proofs.+decimal.{statement}
 use Rattle.opener.proofs.decimal.Reads as decimal
 use Rattle.opener.proofs.decimal.Kinds as decimal-kinds
 use Rattle.opener.proofs.+decimal.Lts-decimal as decimal-lts
 use Rattle.opener.proofs.put.Reads as put-reads
-use Rattle.opener.proofs.+decimal.{statement}
 use Rattle.opener.proofs.+decimal.Tie.{close}
 
 abbrev μ-decimal : Measures 1 decimal-kinds.ps ℕ

@@ -1,20 +1,14 @@
-use mathlib.Core.Path.{_≡_, refl, sym, ap, subst, _∙_}
-use mathlib.Core.List.{List, [], _∷_, _++_}
-use Prim.Native.Nat.{ℕ, zero, suc, _+_, _-_, _*_, _/_, _%_, _≤_, _<_}
+-- ` open` and the places, or ` refused ` and the number. Assumes nothing.
+use mathlib.Core.Path.{sym, ap}
 use native.Mathlib.Omega.{arith}
-use lib.ListN.{length, length-append, take, drop}
-use Rattle.opener.proofs.Written.{joined, same-text}
+use borrow.Author.Needs.{needs}
+use lib.ListN.{length, length-append}
 use Rattle.bits.specs.Bits.{unpack}
 use Rattle.opener.specs.Report.{refuses, opens, decimal, places}
+use Rattle.opener.proofs.Written.{joined, same-text}
 use Rattle.opener.proofs.Text.{answer-open, answer-refused}
-use borrow.Author.Needs.{needs}
 use Rattle.opener.proofs.answer.Statement.{statement}
 use Rattle.opener.proofs.answer.Tie as tie
-use Rattle.opener.proofs.answer.Reads as reads
-use Rattle.opener.proofs.answer.Lts as lts
-use Rattle.opener.proofs.decimal.Reads as decimal-reads
-use Rattle.opener.proofs.places.Reads as places-reads
-use Rattle.opener.proofs.write.Reads as write-reads
 
 slice-aggregate-write : tie.Need-slice-aggregate-write
 slice-aggregate-write c = search needs

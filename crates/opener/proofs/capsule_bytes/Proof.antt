@@ -1,19 +1,13 @@
-use mathlib.Core.Path.{_≡_, refl, sym, ap, subst, _∙_}
-use mathlib.Core.List.{List, [], _∷_, _++_}
-use Prim.Native.Nat.{ℕ, zero, suc, _+_, _-_, _*_, _/_, _%_, _≤_, _<_}
+-- m·t bits, in bytes. Assumes nothing.
+use Prim.Native.Nat.{_≤_}
+use native.Mathlib.Nat.{mul-le-mul}
 use native.Mathlib.Omega.{arith}
-use lib.ListN.{length, length-append, take, drop}
-use Rattle.opener.proofs.Written.{joined, same-text}
+use borrow.Author.Needs.{needs}
+use Rattle.key.specs.Kept.{kept}
 use Rattle.code.specs.Publish.{capsuleBits}
 use Rattle.station.specs.Replies.{view}
-use Rattle.key.specs.Kept.{kept}
-use native.Mathlib.Nat.{mul-le-mul}
-use borrow.Author.Needs.{needs}
 use Rattle.opener.proofs.capsule_bytes.Statement.{statement}
 use Rattle.opener.proofs.capsule_bytes.Tie as tie
-use Rattle.opener.proofs.capsule_bytes.Reads as reads
-use Rattle.opener.proofs.capsule_bytes.Lts as lts
-use Rattle.bits.proofs.bytes_for.Reads as bytes-for-reads
 
 cast-bytes-for : tie.Need-cast-bytes-for
 cast-bytes-for c = search needs

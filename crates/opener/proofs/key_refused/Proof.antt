@@ -1,20 +1,14 @@
-use mathlib.Core.Path.{_≡_, refl, sym, ap, subst, _∙_}
-use mathlib.Core.List.{List, [], _∷_, _++_}
-use Prim.Native.Nat.{ℕ, zero, suc, _+_, _-_, _*_, _/_, _%_, _≤_, _<_}
+-- The words, the number and the newline. Assumes nothing.
+use mathlib.Core.Path.{sym}
+use mathlib.Core.List.{[], _++_}
 use native.Mathlib.Omega.{arith}
-use lib.ListN.{length, length-append, take, drop}
-use Rattle.opener.proofs.Written.{joined, same-text}
+use borrow.Author.Needs.{needs}
 use Rattle.opener.specs.Report.{keyRefused, decimal, newline}
+use Rattle.opener.proofs.Written.{joined, same-text}
 use Rattle.opener.proofs.Digits.{decimal-short}
 use Rattle.opener.proofs.Text.{key-refused}
-use borrow.Author.Needs.{needs}
 use Rattle.opener.proofs.key_refused.Statement.{statement}
 use Rattle.opener.proofs.key_refused.Tie as tie
-use Rattle.opener.proofs.key_refused.Reads as reads
-use Rattle.opener.proofs.key_refused.Lts as lts
-use Rattle.opener.proofs.decimal.Reads as decimal-reads
-use Rattle.opener.proofs.put.Reads as put-reads
-use Rattle.opener.proofs.write.Reads as write-reads
 
 slice-aggregate-write : tie.Need-slice-aggregate-write
 slice-aggregate-write c = search needs

@@ -1,15 +1,8 @@
-use mathlib.Core.Path.{_≡_, refl, sym, ap, subst, _∙_}
-use mathlib.Core.List.{List, [], _∷_, _++_}
-use Prim.Native.Nat.{ℕ, zero, suc, _+_, _-_, _*_, _/_, _%_, _≤_, _<_}
-use native.Mathlib.Omega.{arith}
-use lib.ListN.{length, length-append, take, drop}
-use Rattle.opener.proofs.Written.{joined, same-text}
-use Rattle.opener.proofs.Text.{large-empty, large-twelve, large-other}
+-- The first byte, where there is one. Assumes nothing.
 use borrow.Author.Needs.{needs}
+use Rattle.opener.proofs.Text.{large-empty, large-twelve, large-other}
 use Rattle.opener.proofs.large.Statement.{statement}
 use Rattle.opener.proofs.large.Tie as tie
-use Rattle.opener.proofs.large.Reads as reads
-use Rattle.opener.proofs.large.Lts as lts
 
 returns : tie.Need-returns
 returns c = large-empty (c .before .args .file .now) (c .if1 .taken)

@@ -1,21 +1,15 @@
-use mathlib.Core.Path.{_≡_, refl, sym, ap, subst, _∙_}
-use mathlib.Core.List.{List, [], _∷_, _++_}
-use Prim.Native.Nat.{ℕ, zero, suc, _+_, _-_, _*_, _/_, _%_, _≤_, _<_}
+-- The position, what the station answers, and the newline. Assumes nothing.
+use mathlib.Core.Path.{sym, ap}
+use mathlib.Core.List.{_++_}
 use native.Mathlib.Omega.{arith}
-use lib.ListN.{length, length-append, take, drop}
-use Rattle.opener.proofs.Written.{joined, same-text}
+use borrow.Author.Needs.{needs}
+use lib.ListN.{length, length-append}
 use Rattle.bits.specs.Bits.{unpack}
 use Rattle.opener.specs.Report.{room, newline, decimal, answer}
+use Rattle.opener.proofs.Written.{joined, same-text}
 use Rattle.opener.proofs.Capsules.{line-parts}
-use borrow.Author.Needs.{needs}
 use Rattle.opener.proofs.line.Statement.{statement}
 use Rattle.opener.proofs.line.Tie as tie
-use Rattle.opener.proofs.line.Reads as reads
-use Rattle.opener.proofs.line.Lts as lts
-use Rattle.opener.proofs.answer.Reads as answer-reads
-use Rattle.opener.proofs.decimal.Reads as decimal-reads
-use Rattle.opener.proofs.put.Reads as put-reads
-use Rattle.station.proofs.Station.open.Reads as open-reads
 
 slice-aggregate-open : tie.Need-slice-aggregate-open
 slice-aggregate-open c = search needs

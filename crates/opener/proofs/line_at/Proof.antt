@@ -1,19 +1,14 @@
-use mathlib.Core.Path.{_≡_, refl, sym, ap, subst, _∙_}
-use mathlib.Core.List.{List, [], _∷_, _++_}
-use Prim.Native.Nat.{ℕ, zero, suc, _+_, _-_, _*_, _/_, _%_, _≤_, _<_}
-use native.Mathlib.Omega.{arith}
-use lib.ListN.{length, length-append, take, drop}
-use Rattle.opener.proofs.Written.{joined, same-text}
+-- The part that is lent is the capsule. Assumes nothing.
+use mathlib.Core.Path.{_≡_, ap}
+use Prim.Native.Nat.{_+_, _-_}
+use borrow.Author.Needs.{needs}
+use lib.ListN.{take, drop}
 use Rattle.station.specs.Replies.{view}
 use Rattle.opener.specs.Report.{line}
+use Rattle.opener.proofs.Written.{same-text}
 use Rattle.opener.proofs.Capsules.{take-within}
-use borrow.Author.Needs.{needs}
 use Rattle.opener.proofs.line_at.Statement.{statement}
 use Rattle.opener.proofs.line_at.Tie as tie
-use Rattle.opener.proofs.line_at.Reads as reads
-use Rattle.opener.proofs.line_at.Lts as lts
-use Rattle.bits.proofs.smaller.Reads as smaller-reads
-use Rattle.opener.proofs.line.Reads as line-reads
 
 sub-smaller : tie.Need-sub-smaller
 sub-smaller c = search needs

@@ -1,21 +1,15 @@
-use mathlib.Core.Path.{_≡_, refl, sym, ap, subst, _∙_}
-use mathlib.Core.List.{List, [], _∷_, _++_}
-use Prim.Native.Nat.{ℕ, zero, suc, _+_, _-_, _*_, _/_, _%_, _≤_, _<_}
+-- The invariant: the lines that are left, written behind the others, give all lines. Assumes nothing.
+use mathlib.Core.Path.{_≡_, refl, _∙_}
+use Prim.Native.Nat.{_+_, _-_, _≤_}
 use native.Mathlib.Omega.{arith}
-use lib.ListN.{length, length-append, take, drop}
-use Rattle.opener.proofs.Written.{joined, same-text}
+use lib.ListN.{length, take, drop}
 use Rattle.station.specs.Replies.{view}
 use Rattle.opener.specs.Report.{line, opened}
 use Rattle.opener.proofs.Written.{Left, left-start, left-step, left-none}
 use Rattle.opener.proofs.Capsules.{linesLeft, lines-all, lines-next, lines-done, line-room, capsule-some, capsule-few, capsule-bits}
 use Rattle.opener.proofs.Lengths.{opened-short}
-use borrow.Author.Needs.{needs}
 use Rattle.opener.proofs.lines.Statement.{statement}
 use Rattle.opener.proofs.lines.Tie as tie
-use Rattle.opener.proofs.lines.Reads as reads
-use Rattle.opener.proofs.lines.Lts as lts
-use Rattle.opener.proofs.capsule_bytes.Reads as capsule-bytes-reads
-use Rattle.opener.proofs.line_at.Reads as line-at-reads
 
 abbrev Inv-loop : tie.InvT-loop
 Inv-loop station input out₀ c at₀ i₀ p₀ out at i p =

@@ -1,19 +1,14 @@
-use mathlib.Core.Path.{_≡_, refl, sym, ap, subst, _∙_}
-use mathlib.Core.List.{List, [], _∷_, _++_}
-use Prim.Native.Nat.{ℕ, zero, suc, _+_, _-_, _*_, _/_, _%_, _≤_, _<_}
+-- Nothing, or a blank and the place. Assumes nothing.
+use mathlib.Core.Path.{sym, ap}
+use mathlib.Core.List.{[], _∷_}
 use native.Mathlib.Omega.{arith}
-use lib.ListN.{length, length-append, take, drop}
-use Rattle.opener.proofs.Written.{joined, same-text}
-use Rattle.opener.specs.Report.{decimal}
-use Rattle.opener.proofs.Written.{wrote-nothing}
-use Rattle.opener.proofs.Text.{place-zero, place-one}
 use borrow.Author.Needs.{needs}
+use lib.ListN.{length}
+use Rattle.opener.specs.Report.{decimal}
+use Rattle.opener.proofs.Written.{joined, same-text, wrote-nothing}
+use Rattle.opener.proofs.Text.{place-zero, place-one}
 use Rattle.opener.proofs.place.Statement.{statement}
 use Rattle.opener.proofs.place.Tie as tie
-use Rattle.opener.proofs.place.Reads as reads
-use Rattle.opener.proofs.place.Lts as lts
-use Rattle.opener.proofs.decimal.Reads as decimal-reads
-use Rattle.opener.proofs.put.Reads as put-reads
 
 returns : tie.Need-returns
 returns c =

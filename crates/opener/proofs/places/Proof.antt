@@ -1,20 +1,15 @@
-use mathlib.Core.Path.{_≡_, refl, sym, ap, subst, _∙_}
-use mathlib.Core.List.{List, [], _∷_, _++_}
-use Prim.Native.Nat.{ℕ, zero, suc, _+_, _-_, _*_, _/_, _%_, _≤_, _<_}
+-- The invariant: the places that are left, written behind the others, give all places. Assumes nothing.
+use mathlib.Core.Path.{_≡_, refl, sym, ap, _∙_}
+use mathlib.Core.List.{_++_}
+use Prim.Native.Nat.{ℕ, _+_, _-_, _≤_}
 use native.Mathlib.Omega.{arith}
-use lib.ListN.{length, length-append, take, drop}
-use Rattle.opener.proofs.Written.{joined, same-text}
+use lib.ListN.{length}
 use Rattle.bits.specs.Bits.{unpack}
 use Rattle.opener.specs.Report.{place, places}
 use Rattle.opener.proofs.Written.{Left, left-start, left-step, left-none}
 use Rattle.opener.proofs.Text.{placesLeft, place-room, left-all, left-next, left-done}
-use borrow.Author.Needs.{needs}
 use Rattle.opener.proofs.places.Statement.{statement}
 use Rattle.opener.proofs.places.Tie as tie
-use Rattle.opener.proofs.places.Reads as reads
-use Rattle.opener.proofs.places.Lts as lts
-use Rattle.bits.proofs.bit_at.Reads as bit-at-reads
-use Rattle.opener.proofs.place.Reads as place-reads
 
 abbrev Inv-loop : tie.InvT-loop
 Inv-loop pattern n out₀ at next₀ i₀ out next i =

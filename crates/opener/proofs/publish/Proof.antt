@@ -1,16 +1,8 @@
-use mathlib.Core.Path.{_≡_, refl, sym, ap, subst, _∙_}
-use mathlib.Core.List.{List, [], _∷_, _++_}
-use Prim.Native.Nat.{ℕ, zero, suc, _+_, _-_, _*_, _/_, _%_, _≤_, _<_}
-use native.Mathlib.Omega.{arith}
-use lib.ListN.{length, length-append, take, drop}
-use Rattle.opener.proofs.Written.{joined, same-text}
-use Rattle.opener.specs.Report.{room}
+-- The station's call, with room for both buffers. Assumes nothing.
 use borrow.Author.Needs.{needs}
+use Rattle.opener.specs.Report.{room}
 use Rattle.opener.proofs.publish.Statement.{statement}
 use Rattle.opener.proofs.publish.Tie as tie
-use Rattle.opener.proofs.publish.Reads as reads
-use Rattle.opener.proofs.publish.Lts as lts
-use Rattle.station.proofs.Station.publish.Reads as publish-reads
 
 slice-aggregate-publish : tie.Need-slice-aggregate-publish
 slice-aggregate-publish c = search needs

@@ -1,20 +1,14 @@
-use mathlib.Core.Path.{_≡_, refl, sym, ap, ap₂, subst, _∙_}
-use mathlib.Core.List.{List, [], _∷_, _++_}
-use Prim.Native.Nat.{ℕ, zero, suc, _+_, _-_, _*_, _/_, _%_, _≤_, _<_}
-use native.Mathlib.Omega.{arith}
-use lib.ListN.{length, length-append, take, drop}
-use Rattle.opener.proofs.Written.{joined, same-text}
+-- The parts that are lent are the first bytes of the file and of the input. Assumes nothing.
+use mathlib.Core.Path.{sym, ap₂, _∙_}
 use native.Mathlib.Nat.{min-le-left, zero-add}
-use Rattle.opener.specs.Report.{whole, report}
-use Rattle.opener.proofs.Written.{sets-over}
-use Rattle.opener.proofs.Capsules.{taken, taken-length}
+use native.Mathlib.Omega.{arith}
 use borrow.Author.Needs.{needs}
+use lib.ListN.{length}
+use Rattle.opener.specs.Report.{whole, report}
+use Rattle.opener.proofs.Written.{same-text, sets-over}
+use Rattle.opener.proofs.Capsules.{taken, taken-length}
 use Rattle.opener.proofs.report.Statement.{statement}
 use Rattle.opener.proofs.report.Tie as tie
-use Rattle.opener.proofs.report.Reads as reads
-use Rattle.opener.proofs.report.Lts as lts
-use Rattle.bits.proofs.smaller.Reads as smaller-reads
-use Rattle.opener.proofs.whole.Reads as whole-reads
 
 smaller-requires : tie.Need-smaller-requires
 smaller-requires c κs = search needs

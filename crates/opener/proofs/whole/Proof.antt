@@ -1,23 +1,11 @@
-use mathlib.Core.Path.{_≡_, refl, sym, ap, subst, _∙_}
-use mathlib.Core.List.{List, [], _∷_, _++_}
-use Prim.Native.Nat.{ℕ, zero, suc, _+_, _-_, _*_, _/_, _%_, _≤_, _<_}
-use native.Mathlib.Omega.{arith}
-use lib.ListN.{length, length-append, take, drop}
-use Rattle.opener.proofs.Written.{joined, same-text}
-use Rattle.opener.specs.Report.{tooLarge}
-use Rattle.opener.proofs.Stages.{whole-large, whole-load-refused, whole-publish-refused, whole-opened, shape}
+-- The width, then what load and publish hand back. Assumes nothing.
+use mathlib.Core.Path.{sym, _∙_}
 use borrow.Author.Needs.{needs}
+use Rattle.opener.specs.Report.{tooLarge}
+use Rattle.opener.proofs.Written.{same-text}
+use Rattle.opener.proofs.Stages.{whole-large, whole-load-refused, whole-publish-refused, whole-opened, shape}
 use Rattle.opener.proofs.whole.Statement.{statement}
 use Rattle.opener.proofs.whole.Tie as tie
-use Rattle.opener.proofs.whole.Reads as reads
-use Rattle.opener.proofs.whole.Lts as lts
-use Rattle.opener.proofs.key_refused.Reads as key-refused-reads
-use Rattle.opener.proofs.large.Reads as large-reads
-use Rattle.opener.proofs.lines.Reads as lines-reads
-use Rattle.opener.proofs.publish.Reads as publish-reads
-use Rattle.opener.proofs.write.Reads as write-reads
-use Rattle.station.proofs.Station.fresh.Reads as fresh-reads
-use Rattle.station.proofs.Station.load.Reads as load-reads
 
 large-requires : tie.Need-large-requires
 large-requires c κs = search needs
