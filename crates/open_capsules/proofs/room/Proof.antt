@@ -1,0 +1,16 @@
+-- `open_capsules::room` meets its contract. Assumes nothing.
+use Prim.Native.Nat.{ℕ}
+use mathlib.Core.Path.{_≡_, sym}
+use lib.ListN.{length, replicate, length-replicate}
+use Rattle.open_capsules.proofs.room.Statement.{statement}
+use Rattle.open_capsules.proofs.room.Tie as tie
+
+-- for any length: the numeral below is not counted down
+sized : (n : ℕ) → n ≡ length (replicate {A = ℕ} n 0)
+sized n = sym (length-replicate n 0)
+
+returns : tie.Need-returns
+returns c = sized 1103006
+
+pub room-spec : {M : Type 1} → statement M
+room-spec = tie.close (tie.spec returns)

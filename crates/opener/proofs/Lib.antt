@@ -1,0 +1,6 @@
+pub mod Written
+pub mod Digits
+pub mod Text
+pub mod Capsules
+pub mod Lengths
+pub mod Stages

@@ -1,0 +1,88 @@
+-- The invariant: the lines that are left, written behind the others, give all lines. Assumes nothing.
+use mathlib.Core.Path.{_≡_, refl, _∙_}
+use Prim.Native.Nat.{_+_, _-_, _≤_}
+use native.Mathlib.Omega.{arith}
+use lib.ListN.{length, take, drop}
+use Rattle.station.specs.Replies.{view}
+use Rattle.opener.specs.Report.{line, opened}
+use Rattle.opener.proofs.Written.{Left, left-start, left-step, left-none}
+use Rattle.opener.proofs.Capsules.{linesLeft, lines-all, lines-next, lines-done, line-room, capsule-some, capsule-few, capsule-bits}
+use Rattle.opener.proofs.Lengths.{opened-short}
+use Rattle.opener.proofs.lines.Statement.{statement}
+use Rattle.opener.proofs.lines.Tie as tie
+
+abbrev Inv-loop : tie.InvT-loop
+Inv-loop station input out₀ c at₀ i₀ p₀ out at i p =
+    (length out ≡ length out₀) × (p ≤ i + 1) × Left (linesLeft (view station) c p input i) out at (opened (view station) input) out₀ 0
+
+abbrev μ-loop : tie.MeasureT-loop
+μ-loop station input out₀ c at₀ i₀ p₀ out at i p = length input - i
+
+capsule-bytes-requires : tie.Need-capsule-bytes-requires Inv-loop μ-loop
+capsule-bytes-requires c κs = tt
+
+loop-holds : tie.Need-loop-holds Inv-loop μ-loop
+loop-holds c =
+    let a = c .before .before .before .args in
+    (refl, omega arith, left-start (a .out .now) 0 (lines-all (view (a .station)) (a .input .now) (c .capsule-bytes .ensures)))
+
+line-at-requires : tie.Need-line-at-requires Inv-loop μ-loop
+line-at-requires c κs =
+    let s = c .before .before .before .before .before .before in
+    let a = s .args in
+    let l = c .before .before .loop in
+    let n = c .before .before .before .capsule-bytes in
+    let r = line-room (view (a .station)) (n .result) (l .p) (a .input .now) (l .i) (capsule-some (n .ensures) (capsule-bits (s .pre .0) .0)) (omega arith) in
+    let b = opened-short (view (a .station)) (a .input .now) (omega (arith, s .pre .0 .fits)) (s .pre .1) in
+    (omega arith, omega (arith, l .inv .2 .place, r, b))
+
+add-i : tie.Need-add-i Inv-loop μ-loop
+add-i c =
+    let s = c .before .before .before .before .before .before .before .before .before in
+    omega (arith, s .pre .1, capsule-few (c .before .before .before .before .before .before .capsule-bytes .ensures) (capsule-bits (s .pre .0) .1))
+
+add-p : tie.Need-add-p Inv-loop μ-loop
+add-p c = let s = c .before .before .before .before .before .before .before .before .before in omega (arith, s .pre .1, c .before .before .before .before .before .loop .inv .1)
+
+loop-less : tie.Need-loop-less Inv-loop μ-loop
+loop-less c = omega (arith, capsule-some (c .before .before .before .before .before .before .capsule-bytes .ensures) (capsule-bits (c .before .before .before .before .before .before .before .before .before .pre .0) .0))
+
+loop-again : tie.Need-loop-again Inv-loop μ-loop
+loop-again c =
+    let s = c .before .before .before .before .before .before .before .before .before in
+    let a = s .args in
+    let n = c .before .before .before .before .before .before .capsule-bytes in
+    let l = c .before .before .before .before .before .loop in
+    let p = c .before .before .line-at in
+    let h = capsule-some (n .ensures) (capsule-bits (s .pre .0) .0) in (
+      p .kept .1 .1 .1 .1 .1 .0 ∙ l .inv .0,
+      omega (arith, h, l .inv .1),
+      left-step (line (view (a .station)) (l .p) (take (n .result) (drop (l .i) (a .input .now)))) (linesLeft (view (a .station)) (n .result) (l .p + 1) (a .input .now) (l .i + n .result))
+          (lines-next (view (a .station)) (n .result) (l .p) (a .input .now) (l .i) h (omega arith))
+          (l .inv .2) (p .ensures),
+    )
+
+same-length : tie.Need-same-length Inv-loop μ-loop
+same-length c = c .before .loop .inv .0
+
+returns : tie.Need-returns Inv-loop μ-loop
+returns c =
+    let a = c .before .before .before .before .before .args in
+    let l = c .before .loop in
+    left-none (lines-done (view (a .station)) (c .before .before .capsule-bytes .result) (l .p) (a .input .now) (l .i) (c .loop-test .left)) (l .inv .2)
+
+pub lines-spec : {M : Type 1} → statement M
+lines-spec =
+    tie.close
+    (tie.spec
+    Inv-loop
+    μ-loop
+    capsule-bytes-requires
+    loop-holds
+    line-at-requires
+    add-i
+    add-p
+    loop-less
+    loop-again
+    same-length
+    returns)

@@ -1,0 +1,209 @@
+// The text that the program prints, from a key file and capsules (document 01, 'Bench keys').
+// Each function writes its part from place `at` of the output on, as far as that reaches, and gives the place behind it.
+use station::Reply;
+use station::Station;
+ghost use mathlib.Core.Path.{_≡_};
+ghost use mathlib.Core.List.{[], _∷_};
+ghost use Prim.Native.Nat.{_+_, _^_, _≤_, _<_};
+ghost use lib.ListN.{length, take, drop};
+ghost use Rattle.bits.specs.Bits.{bytesFor, unpack, over};
+ghost use Rattle.code.specs.Publish.{capsuleBits};
+ghost use Rattle.ledger.specs.Calls.{publish};
+ghost use Rattle.station.specs.Replies.{view, handed};
+ghost use Rattle.opener.specs.Report.{room, Four};
+ghost use Rattle.opener.specs.Report as Report;
+ghost use Rattle.opener.specs.Wrote.{Wrote};
+
+// One byte.
+fn put(b: u8, out: &mut [u8], at: usize) -> usize
+    requires { ⌜ at + 1 < 2 ^ 64 ⌝ }
+    ensures { λ r. ⌜ Wrote (b ∷ []) (now (out .entry)) at r (now (out .exit)) ⌝ }
+{
+    if out.len() <= at {
+        return at + 1;
+    }
+    out[at] = b;
+    at + 1
+}
+
+// The bytes of `text`.
+fn write(text: &[u8], out: &mut [u8], at: usize) -> usize
+    requires { ⌜ at + length (now text) < 2 ^ 64 ⌝ }
+    ensures { λ r. ⌜ Wrote (now (text .entry)) (now (out .entry)) at r (now (out .exit)) ⌝ }
+{
+    let mut i = 0;
+    while i < text.len() {
+        put(text[i], out, at + i);
+        i += 1;
+    }
+    at + i
+}
+
+// n in decimal.
+fn decimal(n: usize, out: &mut [u8], at: usize) -> usize
+    requires { ⌜ at + length (Report.decimal n) < 2 ^ 64 ⌝ }
+    ensures { λ r. ⌜ Wrote (Report.decimal n) (now (out .entry)) at r (now (out .exit)) ⌝ }
+{
+    if n < 10 {
+        return put(48 + n as u8, out, at);
+    }
+    let next = decimal(n / 10, out, at);
+    put(48 + (n % 10) as u8, out, next)
+}
+
+// Place i behind a blank, where its bit is one.
+fn place(bit: u8, i: usize, out: &mut [u8], at: usize) -> usize
+    requires { ⌜ at + length (Report.place bit i) < 2 ^ 64 ⌝ }
+    ensures { λ r. ⌜ Wrote (Report.place bit i) (now (out .entry)) at r (now (out .exit)) ⌝ }
+{
+    if bit == 0 {
+        return at;
+    }
+    let next = put(b' ', out, at);
+    decimal(i, out, next)
+}
+
+// The places of ones of a pattern of n bits, rising.
+fn places(pattern: &[u8], n: usize, out: &mut [u8], at: usize) -> usize
+    requires { ⌜ at + length (Report.places 0 (unpack n (now pattern))) < 2 ^ 64 ⌝ }
+    ensures { λ r. ⌜ Wrote (Report.places 0 (unpack n (now (pattern .entry)))) (now (out .entry)) at r (now (out .exit)) ⌝ }
+{
+    let mut next = at;
+    let mut i = 0;
+    while i < n {
+        next = place(bits::bit_at(pattern, i), i, out, next);
+        i += 1;
+    }
+    next
+}
+
+// ` open` and the pattern's places, or ` refused ` and the number.
+fn answer(refused: u8, pattern: &[u8], n: usize, out: &mut [u8], at: usize) -> usize
+    requires { ⌜ at + length (Report.answer refused (unpack n (now pattern))) < 2 ^ 64 ⌝ }
+    ensures { λ r. ⌜ Wrote (Report.answer refused (unpack n (now (pattern .entry)))) (now (out .entry)) at r (now (out .exit)) ⌝ }
+{
+    if refused != 0 {
+        let next = write(b" refused ", out, at);
+        return decimal(refused as usize, out, next);
+    }
+    let next = write(b" open", out, at);
+    places(pattern, n, out, next)
+}
+
+// The line of the capsule at position p.
+fn line(station: Station, p: usize, capsule: &[u8], out: &mut [u8], at: usize) -> usize
+    requires { ⌜ at + length (Report.line (view station) p (now capsule)) < 2 ^ 64 ⌝ }
+    ensures { λ r. ⌜ Wrote (Report.line (view station) p (now (capsule .entry))) (now (out .entry)) at r (now (out .exit)) ⌝ }
+{
+    let key = station.key;
+    let mut pattern = [0u8; 64];
+    let reply = station.open(capsule, &mut pattern);
+    let next = decimal(p, out, at);
+    let next = answer(reply.refused, &pattern, key.n as usize, out, next);
+    put(b'\n', out, next)
+}
+
+// The line of the c bytes from i on, or of what is left of them.
+fn line_at(
+    station: Station,
+    p: usize,
+    input: &[u8],
+    i: usize,
+    c: usize,
+    out: &mut [u8],
+    at: usize,
+) -> usize
+    requires { ⌜ i ≤ length (now input) ⌝ }
+    requires { ⌜ at + length (Report.line (view station) p (take c (drop i (now input)))) < 2 ^ 64 ⌝ }
+    ensures { λ r. ⌜ Wrote (Report.line (view station) p (take c (drop i (now (input .entry))))) (now (out .entry)) at r (now (out .exit)) ⌝ }
+{
+    let e = i + bits::smaller(c, input.len() - i);
+    line(station, p, &input[i..e], out, at)
+}
+
+// The bytes of a capsule.
+fn capsule_bytes(station: Station) -> usize
+    ensures { λ r. ⌜ r ≡ bytesFor (capsuleBits (view station .key)) ⌝ }
+{
+    let key = station.key;
+    bits::bytes_for((key.m as usize) * (key.t as usize))
+}
+
+// The lines of the capsules.
+fn lines(station: Station, input: &[u8], out: &mut [u8]) -> usize
+    requires { ⌜ Four (view station .key) × (length (now input) ≤ 65536) ⌝ }
+    ensures { λ r. ⌜ Wrote (Report.opened (view station) (now (input .entry))) (now (out .entry)) 0 r (now (out .exit)) ⌝ }
+{
+    let c = capsule_bytes(station);
+    let mut at = 0;
+    let mut i = 0;
+    let mut p = 1;
+    while i < input.len() {
+        at = line_at(station, p, input, i, c, out, at);
+        i += c;
+        p += 1;
+    }
+    at
+}
+
+// `key refused ` and the number.
+fn key_refused(number: u8, out: &mut [u8]) -> usize
+    requires { ⌜ 0 < number ⌝ }
+    ensures { λ r. ⌜ Wrote (Report.unlessRefused number []) (now (out .entry)) 0 r (now (out .exit)) ⌝ }
+{
+    let at = write(b"key refused ", out, 0);
+    let next = decimal(number as usize, out, at);
+    put(b'\n', out, next)
+}
+
+// Publish with room for T and its workspace.
+fn publish(station: Station) -> Reply
+    ensures { λ r. ⌜ r ≡ handed station (publish room room) .reply ⌝ }
+{
+    let mut public = [0u8; 64];
+    let mut work = [0u8; 64];
+    station.publish(&mut public, &mut work)
+}
+
+// The width is 12 or 13.
+fn large(file: &[u8]) -> bool
+    ensures { λ r. ⌜ r ≡ Report.large (now (file .entry)) ⌝ }
+{
+    if file.len() == 0 {
+        return false;
+    }
+    let m = file[0];
+    m == 12 || m == 13
+}
+
+// The text for a whole key file and all capsules.
+fn whole(file: &[u8], input: &[u8], out: &mut [u8]) -> usize
+    requires { ⌜ length (now input) ≤ 65536 ⌝ }
+    ensures { λ r. ⌜ Wrote (Report.whole (now (file .entry)) (now (input .entry))) (now (out .entry)) 0 r (now (out .exit)) ⌝ }
+{
+    if large(file) {
+        return write(b"key too large\n", out, 0);
+    }
+    let loaded = Station::fresh().load(file);
+    let x = loaded.refused;
+    if x != 0 {
+        return key_refused(x, out);
+    }
+    let published = publish(loaded.station);
+    let x = published.refused;
+    if x != 0 {
+        return key_refused(x, out);
+    }
+    lines(published.station, input, out)
+}
+
+// The text that the program prints, as much of it as there is room for from the output's start, and its length.
+pub fn report(file: &[u8], input: &[u8], out: &mut [u8]) -> usize
+    ensures end { λ r. ⌜ r ≡ length (Report.report (now (file .entry)) (now (input .entry))) ⌝ }
+    ensures output { λ _. ⌜ now (out .exit)
+        ≡ over (take (length (now (out .entry))) (Report.report (now (file .entry)) (now (input .entry)))) (now (out .entry)) ⌝ }
+{
+    let f = bits::smaller(4096, file.len());
+    let i = bits::smaller(65536, input.len());
+    whole(&file[..f], &input[..i], out)
+}
