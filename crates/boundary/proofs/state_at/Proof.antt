@@ -1,9 +1,9 @@
 -- 0, 1, any other. Assumes nothing.
-use Rattle.shearcotter.specs.Boundary.{stateAt}
+use Rattle.boundary.specs.Boundary.{stateAt}
 use mathlib.Core.Path.{sym, ap}
-use Rattle.shearcotter.proofs.Images.{state-other}
-use Rattle.shearcotter.proofs.state_at.Statement.{statement}
-use Rattle.shearcotter.proofs.state_at.Tie as tie
+use Rattle.boundary.proofs.Images.{state-other}
+use Rattle.boundary.proofs.state_at.Statement.{statement}
+use Rattle.boundary.proofs.state_at.Tie as tie
 
 returns : tie.Need-returns
 unfolding stateAt

@@ -1,9 +1,9 @@
--- `shearcotter::as_element` meets its contract. Assumes nothing.
+-- `boundary::as_element` meets its contract. Assumes nothing.
 use borrow.Author.Needs.{needs}
 use mathlib.Core.Path.{sym, ap}
-use Rattle.shearcotter.specs.Boundary.{asElement}
-use Rattle.shearcotter.proofs.as_element.Statement.{statement}
-use Rattle.shearcotter.proofs.as_element.Tie as tie
+use Rattle.boundary.specs.Boundary.{asElement}
+use Rattle.boundary.proofs.as_element.Statement.{statement}
+use Rattle.boundary.proofs.as_element.Tie as tie
 
 enum-known-answer : tie.Need-enum-known-answer
 enum-known-answer c = search needs

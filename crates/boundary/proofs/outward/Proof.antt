@@ -1,9 +1,9 @@
 -- The state's byte, the same key. Assumes nothing.
 use Prim.Native.Nat.{ℕ}
 use mathlib.Core.Path.{ap}
-use Rattle.shearcotter.specs.Boundary.{outward}
-use Rattle.shearcotter.proofs.outward.Statement.{statement}
-use Rattle.shearcotter.proofs.outward.Tie as tie
+use Rattle.boundary.specs.Boundary.{outward}
+use Rattle.boundary.proofs.outward.Statement.{statement}
+use Rattle.boundary.proofs.outward.Tie as tie
 
 byte-of-requires : tie.Need-byte-of-requires
 byte-of-requires c κs = tt

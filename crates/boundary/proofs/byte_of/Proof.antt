@@ -1,8 +1,8 @@
--- `shearcotter::byte_of` meets its contract. Assumes nothing.
+-- `boundary::byte_of` meets its contract. Assumes nothing.
 use borrow.Author.Needs.{needs}
-use Rattle.shearcotter.specs.Boundary.{byteOf}
-use Rattle.shearcotter.proofs.byte_of.Statement.{statement}
-use Rattle.shearcotter.proofs.byte_of.Tie as tie
+use Rattle.boundary.specs.Boundary.{byteOf}
+use Rattle.boundary.proofs.byte_of.Statement.{statement}
+use Rattle.boundary.proofs.byte_of.Tie as tie
 
 enum-told : tie.Need-enum-told
 enum-told c = search needs

@@ -1,10 +1,10 @@
 -- By the number. Assumes nothing.
 use mathlib.Core.Path.{ap, _∙_}
-use Rattle.shearcotter.specs.Boundary.{withStation, image}
-use Rattle.shearcotter.specs.declared.Station.{Station}
-use Rattle.shearcotter.proofs.Images.{moved-refused, moved-accepted}
-use Rattle.shearcotter.proofs.moved.Statement.{statement}
-use Rattle.shearcotter.proofs.moved.Tie as tie
+use Rattle.boundary.specs.Boundary.{withStation, image}
+use Rattle.boundary.specs.declared.Station.{Station}
+use Rattle.boundary.proofs.Images.{moved-refused, moved-accepted}
+use Rattle.boundary.proofs.moved.Statement.{statement}
+use Rattle.boundary.proofs.moved.Tie as tie
 
 with-station-requires : tie.Need-with-station-requires
 with-station-requires c κs = tt

@@ -1,8 +1,8 @@
--- `shearcotter::locked_number` meets its contract. Assumes nothing.
+-- `boundary::locked_number` meets its contract. Assumes nothing.
 use borrow.Author.Needs.{needs}
-use Rattle.shearcotter.specs.Boundary.{lockedNumber}
-use Rattle.shearcotter.proofs.locked_number.Statement.{statement}
-use Rattle.shearcotter.proofs.locked_number.Tie as tie
+use Rattle.boundary.specs.Boundary.{lockedNumber}
+use Rattle.boundary.proofs.locked_number.Statement.{statement}
+use Rattle.boundary.proofs.locked_number.Tie as tie
 
 enum-told : tie.Need-enum-told
 enum-told c = search needs

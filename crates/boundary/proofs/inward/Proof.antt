@@ -1,9 +1,9 @@
 -- The state byte's state, the same key. Assumes nothing.
 use mathlib.Core.Path.{ap}
 use Rattle.station.specs.declared.State.{State}
-use Rattle.shearcotter.specs.Boundary.{inward}
-use Rattle.shearcotter.proofs.inward.Statement.{statement}
-use Rattle.shearcotter.proofs.inward.Tie as tie
+use Rattle.boundary.specs.Boundary.{inward}
+use Rattle.boundary.proofs.inward.Statement.{statement}
+use Rattle.boundary.proofs.inward.Tie as tie
 
 state-at-requires : tie.Need-state-at-requires
 state-at-requires c κs = tt

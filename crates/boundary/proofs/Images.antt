@@ -6,8 +6,8 @@ use borrow.Author.Tests.{eq-eqb, ne-eqb}
 use Rattle.locking.specs.Locking.{lockedOf}
 use Rattle.station.specs.declared.State.the-variants.{Published}
 use Rattle.station.specs.declared.Reply as Lower
-use Rattle.shearcotter.specs.declared.Station.{Station}
-use Rattle.shearcotter.specs.Boundary.{lockedNumber, stateAt, outward, withStation, image, moved}
+use Rattle.boundary.specs.declared.Station.{Station}
+use Rattle.boundary.specs.Boundary.{lockedNumber, stateAt, outward, withStation, image, moved}
 
 pub locked-number : (x : ℕ) → lockedNumber (lockedOf x) ≡ x
 unfolding lockedNumber lockedOf

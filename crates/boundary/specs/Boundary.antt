@@ -14,10 +14,10 @@ use Rattle.station.specs.declared.State.{State}
 use Rattle.station.specs.declared.State.the-variants.{Empty, Loaded, Published}
 use Rattle.station.specs.declared.Station as Kept
 use Rattle.station.specs.declared.Reply as Lower
-use Rattle.shearcotter.specs.declared.Element.{Element}
-use Rattle.shearcotter.specs.declared.Shape.{Shape}
-use Rattle.shearcotter.specs.declared.Station.{Station}
-use Rattle.shearcotter.specs.declared.Reply.{Reply}
+use Rattle.boundary.specs.declared.Element.{Element}
+use Rattle.boundary.specs.declared.Shape.{Shape}
+use Rattle.boundary.specs.declared.Station.{Station}
+use Rattle.boundary.specs.declared.Reply.{Reply}
 
 -- the value with number 0, or the number with value 0
 unfoldable pub asElement : Answer → Element
