@@ -1,12 +1,12 @@
 -- The header, then the kept key, decide. Assumes nothing.
 use mathlib.Core.Path.{sym, ap, _∙_}
 use Rattle.key.specs.Keys.{keyNumber}
 use Rattle.key.specs.Kept.{kept}
 use Rattle.key.specs.declared.kept.Key.{Key}
 use Rattle.key.proofs.Conditions.{first-take}
-use Rattle.key.proofs.Files.{kept-decides, loaded-refused, loaded-accepted}
-use Rattle.key.proofs.file.load.Statement.{statement}
-use Rattle.key.proofs.file.load.Tie as tie
+use Rattle.key_file.proofs.Files.{kept-decides, loaded-refused, loaded-accepted}
+use Rattle.key_file.proofs.load.Statement.{statement}
+use Rattle.key_file.proofs.load.Tie as tie
 
 header-requires : tie.Need-header-requires
 header-requires c κs = tt

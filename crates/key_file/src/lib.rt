@@ -1,16 +1,17 @@
-// Key files.
-use super::checks::check;
-use super::kept::Key;
-use super::kept::none;
-use super::shape::Sizes;
-use super::shape::in_limits;
+// Key files (document 01, 'Keys').
+use key::checks::check;
+use key::kept::Key;
+use key::kept::none;
+use key::shape::Sizes;
+use key::shape::in_limits;
 ghost use mathlib.Core.Path.{_≡_};
 ghost use mathlib.Core.List.{_++_};
 ghost use lib.ListN.{length, take, drop, getD};
 ghost use Prim.Native.Nat.{_+_, _*_, _^_, _≤_, _<_};
 ghost use Rattle.field.specs.Numbers.{firstOf};
 ghost use Rattle.key.specs.Keys.{pair as pairOf, elements, parse, fileConditions};
-ghost use Rattle.key.specs.Kept.{keep, sizesOf, loadedOf};
+ghost use Rattle.key.specs.Kept.{keep, sizesOf};
+ghost use Rattle.key_file.specs.Loaded.{loadedOf};
 
 pub struct Loaded {
     pub refused: u8,

@@ -4,10 +4,10 @@ use mathlib.Core.List.{List, _++_}
 use Prim.Native.Nat.{ℕ, _-_, _≤_}
 use native.Mathlib.Omega.{arith}
 use lib.ListN.{length, drop, set, length-set}
 use Rattle.key.specs.Keys.{elements}
 use Rattle.key.proofs.Filled.{filled-start, filled-next}
-use Rattle.key.proofs.file.fill.Statement.{statement}
-use Rattle.key.proofs.file.fill.Tie as tie
+use Rattle.key_file.proofs.fill.Statement.{statement}
+use Rattle.key_file.proofs.fill.Tie as tie
 
 abbrev Inv-loop : tie.InvT-loop
 Inv-loop out₀ file at n i₀ out i = (i ≤ n) × (length out ≡ length out₀) × (out ≡ elements file at i ++ drop i out₀)

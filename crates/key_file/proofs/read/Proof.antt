@@ -1,9 +1,9 @@
--- `key::file::read` meets its contract. Assumes nothing.
+-- `key_file::read` meets its contract. Assumes nothing.
 use mathlib.Core.Path.{refl}
 use native.Mathlib.Omega.{arith}
-use Rattle.key.proofs.Files.{said-fit, read-right}
-use Rattle.key.proofs.file.read.Statement.{statement}
-use Rattle.key.proofs.file.read.Tie as tie
+use Rattle.key_file.proofs.Files.{said-fit, read-right}
+use Rattle.key_file.proofs.read.Statement.{statement}
+use Rattle.key_file.proofs.read.Tie as tie
 
 sizes-requires : tie.Need-sizes-requires
 sizes-requires c κs = tt

@@ -1,9 +1,9 @@
--- `key::file::byte` meets its contract. Assumes nothing.
+-- `key_file::byte` meets its contract. Assumes nothing.
 use mathlib.Core.Path.{refl, sym}
 use borrow.Author.Needs.{needs}
 use lib.ListN.{List·getD-eq-default}
-use Rattle.key.proofs.file.byte.Statement.{statement}
-use Rattle.key.proofs.file.byte.Tie as tie
+use Rattle.key_file.proofs.byte.Statement.{statement}
+use Rattle.key_file.proofs.byte.Tie as tie
 
 shared-slice-read-result : tie.Need-shared-slice-read-result
 shared-slice-read-result c = search needs

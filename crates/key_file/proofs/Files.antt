@@ -11,15 +11,16 @@ use Rattle.bits.specs.Bits.{padded}
 use Rattle.field.specs.Numbers.{firstOf}
 use Rattle.field.specs.Field.{isWidth}
 use Rattle.field.proofs.Table.{Width}
 use Rattle.key.specs.Shapes.{inLimits}
 use Rattle.key.specs.Keys.{pair, elements, parse, conditions, fileConditions, keyNumber}
-use Rattle.key.specs.Kept.{kept, keep, noKey, sizesOf, loadedOf}
+use Rattle.key.specs.Kept.{kept, keep, noKey, sizesOf}
 use Rattle.key.specs.declared.shape.Sizes.{Sizes}
 use Rattle.key.specs.declared.kept.Key.{Key}
-use Rattle.key.specs.declared.file.Loaded.{Loaded}
 use Rattle.key.proofs.Conditions.{head-width, head-length, head-limits, head-none, head-clear, first-take, number-faults, limits-fit}
 use Rattle.key.proofs.Parse.{length-elements}
 use Rattle.key.proofs.Filled.{filled-zeros, kept-keep}
+use Rattle.key_file.specs.Loaded.{loadedOf}
+use Rattle.key_file.specs.declared.Loaded.{Loaded}
 
 -- the shape that a file says
 pub sizes-said : (file : List ℕ) {m n t : ℕ} → m ≡ getD file 0 0 → n ≡ pair file 1 → t ≡ pair file (3 + 2 * n)

@@ -1,8 +1,8 @@
--- `key::file::sizes` meets its contract. Assumes nothing.
+-- `key_file::sizes` meets its contract. Assumes nothing.
 use native.Mathlib.Omega.{arith}
-use Rattle.key.proofs.Files.{sizes-said}
-use Rattle.key.proofs.file.sizes.Statement.{statement}
-use Rattle.key.proofs.file.sizes.Tie as tie
+use Rattle.key_file.proofs.Files.{sizes-said}
+use Rattle.key_file.proofs.sizes.Statement.{statement}
+use Rattle.key_file.proofs.sizes.Tie as tie
 
 pair-requires : tie.Need-pair-requires
 pair-requires c κs = omega arith

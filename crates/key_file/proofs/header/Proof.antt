@@ -1,10 +1,10 @@
 -- The tests in order. Assumes nothing.
 use native.Mathlib.Omega.{arith}
 use Rattle.field.proofs.Table.{modulus-none, modulus-some}
 use Rattle.key.proofs.Order.{failed, passed}
-use Rattle.key.proofs.Files.{file-width, file-length, file-limits, file-none}
-use Rattle.key.proofs.file.header.Statement.{statement}
-use Rattle.key.proofs.file.header.Tie as tie
+use Rattle.key_file.proofs.Files.{file-width, file-length, file-limits, file-none}
+use Rattle.key_file.proofs.header.Statement.{statement}
+use Rattle.key_file.proofs.header.Tie as tie
 
 sizes-requires : tie.Need-sizes-requires
 sizes-requires c κs = tt

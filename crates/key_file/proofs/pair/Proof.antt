@@ -1,11 +1,11 @@
--- `key::file::pair` meets its contract. Assumes nothing.
+-- `key_file::pair` meets its contract. Assumes nothing.
 use mathlib.Core.Path.{ap₂}
 use Prim.Native.Nat.{ℕ, _+_, _*_}
 use native.Mathlib.Omega.{arith}
 use borrow.Author.Needs.{needs}
 use Rattle.key.specs.Keys.{pair}
-use Rattle.key.proofs.file.pair.Statement.{statement}
-use Rattle.key.proofs.file.pair.Tie as tie
+use Rattle.key_file.proofs.pair.Statement.{statement}
+use Rattle.key_file.proofs.pair.Tie as tie
 
 byte-requires : tie.Need-byte-requires
 byte-requires c κs = tt
