@@ -138,7 +138,7 @@ fn ends(station: Station, line: &[u8]) -> bool {
     }
     let file = b.bytes;
     let n = size(&file, b.count);
-    let r = key::file::load(&file[..n]);
+    let r = key_file::load(&file[..n]);
     let held = r.key;
     r.refused == 0 && is_state(state, number_of(line, 2) % 100 + 1) && same_key(key, held)
 }

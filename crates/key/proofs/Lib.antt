@@ -13,4 +13,3 @@ pub mod Values
 pub mod Order
 pub mod Conditions
 pub mod Filled
-pub mod Files

@@ -1,16 +1,11 @@
 -- The key that is kept: arrays whose first n and t numbers are the key's. Assumes nothing.
 use Prim.Native.Nat.{ℕ}
-use mathlib.Core.Bool.{cond}
 use mathlib.Core.List.{List}
-use lib.Dec.{eqb}
 use lib.ListN.{take, replicate}
 use Rattle.bits.specs.Bits.{padded}
-use Rattle.field.specs.Numbers.{firstOf}
-use Rattle.key.specs.Keys.{parse, fileConditions}
 use Rattle.key.specs.Keys as Keys
 use Rattle.key.specs.declared.shape.Sizes.{Sizes}
 use Rattle.key.specs.declared.kept.Key.{Key}
-use Rattle.key.specs.declared.file.Loaded.{Loaded}
 
 -- a kept key by its parts
 abbrev pub parts : ℕ → ℕ → ℕ → List ℕ → List ℕ → Key
@@ -31,9 +26,3 @@ noKey = record { m = 0; n = 0; t = 0; support = replicate 8192 0; g = replicate 
 -- the shape of a key
 unfoldable pub sizesOf : Keys.Key → Sizes
 sizesOf k = record { m = k .m; n = k .n; t = k .t }
-
--- the number of the file, and its key where that is 0
-unfoldable pub loadedOf : List ℕ → Loaded
-loadedOf file =
-    let x : ℕ = firstOf (fileConditions file) in
-    record { refused = x; key = cond (eqb x 0) (keep (parse file)) noKey }

@@ -2,9 +2,9 @@
 // A line is `NUMBER FILE`: load's number, 0 where it accepts, and the file in hexadecimal, `-` where it is empty.
 ghost use Prim.Native.Nat.{_+_, _*_, _≤_, _<_};
 ghost use lib.ListN.{length};
-use key::file::load;
 use key::shape::ShapeAnswer;
 use key::shape::shape;
+use key_file::load;
 use vectors::line::digit;
 use vectors::line::end;
 use vectors::tally::Tally;

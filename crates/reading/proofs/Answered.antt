@@ -19,12 +19,12 @@ use Rattle.code.specs.Publish.{capsuleBits}
 use Rattle.decoder.specs.Reading.{reading, filled, exactly, opening}
 use Rattle.decoder.specs.Calls.{found, isNone, patternOutput, openNumber, readNumber, openOutput, readOutput}
 use Rattle.decoder.proofs.Sanity.{reading-sound}
-use Rattle.reading.specs.Parts.{packed}
-use Rattle.reading.specs.Answers.{answerOf, readOf, openOf, readChecks, openChecks, foundOf, countedOf}
+use Rattle.decoding.specs.Parts.{packed, foundOf}
+use Rattle.decoding.specs.declared.decoding.Found.{Found}
+use Rattle.decoding.proofs.Packed.{take-packed, weight-packed}
+use Rattle.reading.specs.Answers.{answerOf, readOf, openOf, readChecks, openChecks, countedOf}
 use Rattle.reading.specs.declared.calls.Answer.{Answer}
 use Rattle.reading.specs.declared.calls.Answer.the-variants.{Ones, Refused}
-use Rattle.reading.specs.declared.decoding.Found.{Found}
-use Rattle.reading.proofs.Packed.{take-packed, weight-packed}
 use Rattle.reading.proofs.Refusals.{read-refused, read-number, open-clear, open-refused, open-number}
 
 -- the answer and the output for a number q and a pattern o

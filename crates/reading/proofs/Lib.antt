@@ -1,8 +1,2 @@
-pub mod Gathered
-pub mod Scan
-pub mod Packed
-pub mod Located
-pub mod PowerSums
-pub mod Explained
 pub mod Refusals
 pub mod Answered

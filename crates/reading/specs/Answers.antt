@@ -1,19 +1,17 @@
 -- What the calls answer, and the terms of their private functions. Assumes nothing.
-use mathlib.Core.Bool.{Bool, true, false, cond, not}
+use mathlib.Core.Bool.{Bool, cond, not}
 use mathlib.Core.List.{List, [], _∷_}
-use mathlib.Core.Option.{Option, none, some}
 use Prim.Native.Nat.{ℕ, zero, suc}
 use lib.Dec.{eqb, ltb}
-use lib.ListN.{length, replicate}
+use lib.ListN.{length}
 use Rattle.bits.specs.Bits.{bytesFor, unpack, ones, weight, fillerClear}
 use Rattle.key.specs.Keys.{Key, unsound}
 use Rattle.code.specs.Publish.{capsuleBits}
 use Rattle.decoder.specs.Reading.{reading, opening}
 use Rattle.decoder.specs.Calls.{found, openNumber, readNumber}
-use Rattle.reading.specs.Parts.{packed}
+use Rattle.decoding.specs.declared.decoding.Found.{Found}
 use Rattle.reading.specs.declared.calls.Answer.{Answer}
 use Rattle.reading.specs.declared.calls.Answer.the-variants as variants
-use Rattle.reading.specs.declared.decoding.Found.{Found}
 
 -- the number of ones where the number is 0, else the refusal with that number
 unfoldable pub answerOf : ℕ → ℕ → Answer
@@ -39,11 +37,6 @@ readChecks k word len = (unsound k, 25) ∷ bufferChecks (k .n) (k .n) word len
 -- 25, 24, and these of a capsule
 unfoldable pub openChecks : Bool → Key → List ℕ → ℕ → List (Bool × ℕ)
 openChecks unpublished k capsule len = (unsound k, 25) ∷ (unpublished, 24) ∷ bufferChecks (capsuleBits k) (k .n) capsule len
-
--- the pattern packed, or zeros where there is none
-unfoldable pub foundOf : Option (List ℕ) → Found
-foundOf none = record { found = false; pattern = replicate 1024 0 }
-foundOf (some e) = record { found = true; pattern = packed e }
 
 -- the ones among the first n bits of a pattern that is found, else 14
 unfoldable pub countedOf : Found → ℕ → Answer

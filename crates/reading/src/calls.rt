@@ -1,6 +1,6 @@
 // The calls read and open on a kept key, lent by its parts.
-use super::decoding::Found;
-use super::decoding::decode;
+use decoding::Found;
+use decoding::decode;
 use key::checks::check;
 ghost use mathlib.Core.Path.{_≡_};
 ghost use mathlib.Core.Bool.{not};

@@ -1,9 +1,5 @@
-// Reading and opening on a kept key (document 01, 'Reading and opening', the usual way).
+// Reading and opening on a kept key (document 01, 'Reading and opening').
 mod calls;
-mod decoding;
-mod places;
-mod points;
-mod sums;
 
 pub use calls::Answer;
 pub use calls::open;

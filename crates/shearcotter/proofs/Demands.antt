@@ -12,11 +12,11 @@ use Rattle.station.specs.declared.State.{State}
 use Rattle.station.specs.declared.State.the-variants.{Empty, Loaded, Published}
 use Rattle.station.proofs.Demand1.{demand-1, refused-reply}
 use Rattle.station.proofs.Demand3 as Demand3
-use Rattle.shearcotter.specs.declared.Station.{Station}
-use Rattle.shearcotter.specs.declared.Reply.{Reply}
-use Rattle.shearcotter.specs.Boundary.{stateAt, byteOf, inward, outward, withStation, image, moved, replied}
+use Rattle.boundary.specs.declared.Station.{Station}
+use Rattle.boundary.specs.declared.Reply.{Reply}
+use Rattle.boundary.specs.Boundary.{stateAt, byteOf, inward, outward, withStation, image, moved, replied}
 use Rattle.shearcotter.specs.Demands.{Demand1, Carries, run, answered, AfterEveryList}
-use Rattle.shearcotter.proofs.Images.{moved-refused, moved-accepted}
+use Rattle.boundary.proofs.Images.{moved-refused, moved-accepted}
 
 state-byte : (s : State) → stateAt (byteOf s) ≡ s
 unfolding stateAt byteOf

@@ -6,9 +6,9 @@ use Rattle.ledger.specs.Calls.{Call}
 use Rattle.ledger.specs.Ledger.{blank, ledgerAfter, expected}
 use Rattle.station.specs.Replies.{freshStation, handed}
 use Rattle.station.specs.Demands as Below
-use Rattle.shearcotter.specs.Boundary.{inward, outward, image, replied}
+use Rattle.boundary.specs.Boundary.{inward, outward, image, replied}
 use Rattle.station.specs.declared.Station as Kept
-use Rattle.shearcotter.specs.declared.Station.{Station}
+use Rattle.boundary.specs.declared.Station.{Station}
 
 -- Demand 1 on any struct, whatever its state byte: the number is the station's, and a refusal hands the struct back unchanged.
 pub record Refuses (s : Station) (c : Call) : Type 0 where

@@ -1,7 +1,15 @@
 // The calls under C names; include/shearcotter.h declares them. What each call answers is what the crates below answer.
-use key::kept::Key;
-use key::shape::ShapeAnswer;
-use station::State;
+use boundary::Element;
+use boundary::Reply;
+use boundary::Shape;
+use boundary::Station;
+use boundary::as_element;
+use boundary::as_shape;
+use boundary::inward;
+use boundary::locked_number;
+use boundary::moved;
+use boundary::outward;
+use boundary::with_station;
 ghost use mathlib.Core.Path.{_≡_};
 ghost use mathlib.Core.Bool.{false};
 ghost use Rattle.field.specs.Answers.{addOf, multiplyOf, invertOf};
@@ -11,65 +19,7 @@ ghost use Rattle.code.specs.Lock.{lockNumber};
 ghost use Rattle.locking.specs.Locking.{lockOutput};
 ghost use Rattle.ledger.specs.Calls.{load, publish, open-capsule, read-word, drop-key};
 ghost use Rattle.station.specs.Replies.{freshStation, handed};
-ghost use Rattle.shearcotter.specs.Boundary.{
-  asElement,
-  asShape,
-  lockedNumber,
-  stateAt,
-  byteOf,
-  inward as inwardOf,
-  outward as outwardOf,
-  withStation,
-  moved as movedOf,
-  replied,
-};
-
-// The element, or the number of a refusal with value 0.
-#[repr(C)]
-pub struct Element {
-    pub refused: u8,
-    pub value: u16,
-}
-
-// The shape, or the number of a refusal with sizes 0.
-#[repr(C)]
-pub struct Shape {
-    pub refused: u8,
-    pub m: u8,
-    pub n: u16,
-    pub t: u16,
-}
-
-// State 0 is empty, 1 loaded, any other published.
-#[repr(C)]
-pub struct Station {
-    pub state: u8,
-    pub key: Key,
-}
-
-// What a call hands back: the new station, the number of the refusal, 0 for none, and the number of ones written.
-#[repr(C)]
-pub struct Reply {
-    pub station: Station,
-    pub refused: u8,
-    pub ones: u16,
-}
-
-// A field answer as a struct.
-fn as_element(answer: field::Answer) -> Element
-    ensures { λ r. ⌜ r ≡ asElement answer ⌝ }
-{
-    match answer {
-        field::Answer::Value(v) => Element {
-            refused: 0,
-            value: v,
-        },
-        field::Answer::Refused(n) => Element {
-            refused: n,
-            value: 0,
-        },
-    }
-}
+ghost use Rattle.boundary.specs.Boundary.{asElement, asShape, inward as inwardOf, outward as outwardOf, replied};
 
 // The sum of two elements; 1 or 4 on refusal.
 #[no_mangle]
@@ -95,26 +45,6 @@ pub extern "C" fn shearcotter_invert(m: u8, a: u32) -> Element
     as_element(field::invert(m, a))
 }
 
-// A shape's answer as a struct.
-fn as_shape(answer: ShapeAnswer) -> Shape
-    ensures { λ r. ⌜ r ≡ asShape answer ⌝ }
-{
-    match answer {
-        ShapeAnswer::Sizes(s) => Shape {
-            refused: 0,
-            m: s.m,
-            n: s.n,
-            t: s.t,
-        },
-        ShapeAnswer::Refused(x) => Shape {
-            refused: x,
-            m: 0,
-            n: 0,
-            t: 0,
-        },
-    }
-}
-
 // The standard's shape at position 1 to 5; 3 on refusal.
 #[no_mangle]
 pub extern "C" fn shearcotter_shape_at(position: u8) -> Shape
@@ -131,16 +61,6 @@ pub extern "C" fn shearcotter_shortest_register(m: u8, list: &[u16]) -> poly::Re
     poly::Registered::of(m, list)
 }
 
-// The number of lock's refusal, and 0 where the capsule is written.
-fn locked_number(answer: locking::Locked) -> u8
-    ensures { λ r. ⌜ r ≡ lockedNumber answer ⌝ }
-{
-    match answer {
-        locking::Locked::Done => 0,
-        locking::Locked::Refused(x) => x,
-    }
-}
-
 // The capsule of a pattern is written from the output's start; 1, 3, 8, 9, 12 or 10 on refusal.
 #[no_mangle]
 pub extern "C" fn shearcotter_lock(
@@ -155,75 +75,6 @@ pub extern "C" fn shearcotter_lock(
     ensures output { λ _. ⌜ now (out .exit) ≡ lockOutput m n t (now (public .entry)) (now (pattern .entry)) (now (out .entry)) ⌝ }
 {
     locked_number(locking::lock(m, n, t, public, pattern, out))
-}
-
-// The state of a state byte.
-fn state_at(byte: u8) -> State
-    ensures { λ r. ⌜ r ≡ stateAt byte ⌝ }
-{
-    if byte == 0 {
-        return State::Empty;
-    }
-    if byte == 1 {
-        return State::Loaded;
-    }
-    State::Published
-}
-
-// The byte of a state.
-fn byte_of(state: State) -> u8
-    ensures { λ r. ⌜ r ≡ byteOf state ⌝ }
-{
-    match state {
-        State::Empty => 0,
-        State::Loaded => 1,
-        State::Published => 2,
-    }
-}
-
-// The station of a caller's one.
-fn inward(s: Station) -> station::Station
-    ensures { λ r. ⌜ r ≡ inwardOf s ⌝ }
-{
-    let key = s.key;
-    station::Station {
-        state: state_at(s.state),
-        key,
-    }
-}
-
-// The caller's form of a station.
-fn outward(s: station::Station) -> Station
-    ensures { λ r. ⌜ r ≡ outwardOf s ⌝ }
-{
-    let state = s.state;
-    let key = s.key;
-    Station {
-        state: byte_of(state),
-        key,
-    }
-}
-
-// A reply that holds the caller's form of a station.
-fn with_station(station: Station, reply: station::Reply) -> Reply
-    ensures { λ r. ⌜ r ≡ withStation station reply ⌝ }
-{
-    Reply {
-        station,
-        refused: reply.refused,
-        ones: reply.ones,
-    }
-}
-
-// The reply with the new station, and with the caller's own on refusal.
-fn moved(own: Station, reply: station::Reply) -> Reply
-    ensures { λ r. ⌜ r ≡ movedOf own reply ⌝ }
-{
-    if reply.refused != 0 {
-        return with_station(own, reply);
-    }
-    let next = reply.station;
-    with_station(outward(next), reply)
 }
 
 // The empty station.

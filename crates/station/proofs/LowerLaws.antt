@@ -7,9 +7,10 @@ use native.Mathlib.Omega.{arith}
 use borrow.Author.Tests.{eq-eqb}
 use Rattle.field.specs.Numbers.{firstOf}
 use Rattle.key.specs.Keys.{Key, parse, unsound}
-use Rattle.key.specs.Kept.{kept, keep, noKey, loadedOf}
+use Rattle.key.specs.Kept.{kept, keep, noKey}
 use Rattle.key.specs.declared.kept.Key as Kept
-use Rattle.key.specs.declared.file.Loaded.{Loaded}
+use Rattle.key_file.specs.Loaded.{loadedOf}
+use Rattle.key_file.specs.declared.Loaded.{Loaded}
 use Rattle.code.specs.Publish.{publishNumber, publishOutput}
 use Rattle.code.specs.Publish as Publish
 use Rattle.decoder.specs.Calls.{openOutput, readOutput, patternOutput}

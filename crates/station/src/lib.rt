@@ -117,7 +117,7 @@ impl Station {
         if !is_empty(state) {
             return self.refuse(22);
         }
-        let loaded = key::file::load(file);
+        let loaded = key_file::load(file);
         let x = loaded.refused;
         if x != 0 {
             return self.refuse(x);

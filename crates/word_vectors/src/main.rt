@@ -2,8 +2,8 @@
 // A line is `key FILE`; `public T`, or `public -` where publish refuses; or a case of the key before it: `publish ok`,
 // `read WORD ok PATTERN ONES`, `open CAPSULE ok PATTERN` as if published, `lock PATTERN ok CAPSULE`, or one of the
 // four with `refused NUMBER` from `ok` on. Bytes are in hexadecimal, and `-` is none.
-use key::file::load;
 use key::kept::Key;
+use key_file::load;
 use libc::STDOUT_FILENO;
 use locking::Locked;
 use publishing::Published;
@@ -70,7 +70,7 @@ fn locked(l: Locked) -> u8 {
 }
 
 // The key of a line.
-fn key_of(line: &[u8]) -> key::file::Loaded {
+fn key_of(line: &[u8]) -> key_file::Loaded {
     let b = bytes_of(line, 1);
     let file = b.bytes;
     let n = size(&file, b.count);

@@ -8,7 +8,7 @@ use Rattle.key_vectors.proofs.gives.Statement.{statement}
 use Rattle.key_vectors.proofs.gives.Tie as tie
 use Rattle.key_vectors.proofs.gives.Reads as reads
 use Rattle.key_vectors.proofs.gives.Lts as lts
-use Rattle.key.proofs.file.load.Reads as load-reads
+use Rattle.key_file.proofs.load.Reads as load-reads
 
 returns : tie.Need-returns
 returns c = search needs

@@ -1,6 +1,6 @@
 -- The fresh station as a struct. Assumes nothing.
 use mathlib.Core.Path.{ap, _∙_}
-use Rattle.shearcotter.specs.Boundary.{outward}
+use Rattle.boundary.specs.Boundary.{outward}
 use Rattle.shearcotter.proofs.shearcotter_fresh.Statement.{statement}
 use Rattle.shearcotter.proofs.shearcotter_fresh.Tie as tie
 

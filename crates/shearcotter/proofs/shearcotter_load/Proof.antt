@@ -3,7 +3,7 @@ use mathlib.Core.Path.{ap, _∙_}
 use Rattle.ledger.specs.Calls.{load}
 use Rattle.station.specs.Replies.{Handed, handed}
 use Rattle.station.specs.declared.Station.{Station}
-use Rattle.shearcotter.specs.Boundary.{moved, replied}
+use Rattle.boundary.specs.Boundary.{moved, replied}
 use Rattle.shearcotter.proofs.shearcotter_load.Statement.{statement}
 use Rattle.shearcotter.proofs.shearcotter_load.Tie as tie
 

@@ -1,8 +1,8 @@
 -- The number of what lock answers. Assumes nothing.
 use mathlib.Core.Path.{ap, _∙_}
 use borrow.Author.Needs.{needs}
-use Rattle.shearcotter.specs.Boundary.{lockedNumber}
-use Rattle.shearcotter.proofs.Images.{locked-number}
+use Rattle.boundary.specs.Boundary.{lockedNumber}
+use Rattle.boundary.proofs.Images.{locked-number}
 use Rattle.shearcotter.proofs.shearcotter_lock.Statement.{statement}
 use Rattle.shearcotter.proofs.shearcotter_lock.Tie as tie
 

@@ -1,6 +1,6 @@
 -- The field's answer as a struct. Assumes nothing.
 use mathlib.Core.Path.{ap, _∙_}
-use Rattle.shearcotter.specs.Boundary.{asElement}
+use Rattle.boundary.specs.Boundary.{asElement}
 use Rattle.shearcotter.proofs.shearcotter_multiply.Statement.{statement}
 use Rattle.shearcotter.proofs.shearcotter_multiply.Tie as tie
 

@@ -4,7 +4,7 @@ use borrow.Author.Needs.{needs}
 use Rattle.ledger.specs.Calls.{publish}
 use Rattle.station.specs.Replies.{Handed, handed}
 use Rattle.station.specs.declared.Station.{Station}
-use Rattle.shearcotter.specs.Boundary.{moved, replied}
+use Rattle.boundary.specs.Boundary.{moved, replied}
 use Rattle.shearcotter.proofs.shearcotter_publish.Statement.{statement}
 use Rattle.shearcotter.proofs.shearcotter_publish.Tie as tie
 

@@ -1,6 +1,6 @@
 -- The shape's answer as a struct. Assumes nothing.
 use mathlib.Core.Path.{ap, _∙_}
-use Rattle.shearcotter.specs.Boundary.{asShape}
+use Rattle.boundary.specs.Boundary.{asShape}
 use Rattle.shearcotter.proofs.shearcotter_shape_at.Statement.{statement}
 use Rattle.shearcotter.proofs.shearcotter_shape_at.Tie as tie
 

@@ -4,7 +4,7 @@ use mathlib.Core.Bool.{not}
 use native.Mathlib.Omega.{arith}
 use borrow.Author.Needs.{needs}
 use Rattle.key.specs.Kept.{kept, parts}
-use Rattle.reading.proofs.Explained.{kept-sized}
+use Rattle.decoding.proofs.Explained.{kept-sized}
 use Rattle.reading.proofs.Refusals.{open-clear}
 use Rattle.reading.proofs.Answered.{reading-none, reading-some, open-refusal, open-none, open-other, open-some}
 use Rattle.reading.proofs.calls.open.Statement.{statement}

@@ -3,7 +3,7 @@ use mathlib.Core.Path.{sym, _∙_}
 use native.Mathlib.Omega.{arith}
 use borrow.Author.Needs.{needs}
 use Rattle.key.specs.Kept.{kept, parts}
-use Rattle.reading.proofs.Explained.{kept-sized}
+use Rattle.decoding.proofs.Explained.{kept-sized}
 use Rattle.reading.proofs.Refusals.{read-clear}
 use Rattle.reading.proofs.Answered.{reading-none, refused-none, reading-some, read-refusal, read-none, read-some}
 use Rattle.reading.proofs.calls.read.Statement.{statement}

@@ -1,0 +1,6 @@
+pub mod Gathered
+pub mod Scan
+pub mod Packed
+pub mod Located
+pub mod PowerSums
+pub mod Explained

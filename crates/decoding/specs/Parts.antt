@@ -1,0 +1,33 @@
+-- The terms of the decoder's parts, on lists as the code holds them. Assumes nothing.
+use mathlib.Core.Bool.{true, false, cond}
+use mathlib.Core.List.{List, map}
+use mathlib.Core.Option.{Option, none, some}
+use Prim.Native.Nat.{ℕ, _-_, _*_}
+use lib.Dec.{eqb}
+use lib.ListN.{length, getD, replicate}
+use Rattle.bits.specs.Bits.{from, pack, padded}
+use Rattle.poly.specs.Polynomials.{sum}
+use Rattle.key.specs.Keys.{keyOf}
+use Rattle.decoder.specs.Decoding.{squareEntry}
+use Rattle.decoding.specs.declared.decoding.Found.{Found}
+
+-- the 2t sums of a^s / g(a)² over a list of points
+unfoldable pub pointSums : ℕ → List ℕ → List ℕ → List ℕ
+pointSums m g points = map (λ s. sum (map (squareEntry (keyOf m points g) s) points)) (from 0 (2 * length g))
+
+-- c_l, .., c_1
+unfoldable pub backward : List ℕ → ℕ → List ℕ
+backward c l = map (λ i. getD c (l - i) 0) (from 0 l)
+
+-- 1 for 0, and 0 for any other value
+unfoldable pub mark : ℕ → ℕ
+mark v = cond (eqb v 0) 1 0
+
+-- the packed row with zeros behind it, 1024 bytes in all
+unfoldable pub packed : List ℕ → List ℕ
+packed e = padded 1024 (pack e)
+
+-- the pattern packed, or zeros where there is none
+unfoldable pub foundOf : Option (List ℕ) → Found
+foundOf none = record { found = false; pattern = replicate 1024 0 }
+foundOf (some e) = record { found = true; pattern = packed e }

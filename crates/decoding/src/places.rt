@@ -1,0 +1,61 @@
+// The places that a register gives.
+use poly::Registered;
+ghost use mathlib.Core.Path.{_≡_};
+ghost use mathlib.Core.List.{[], map};
+ghost use Prim.Native.Nat.{_≤_};
+ghost use lib.ListN.{length};
+ghost use Rattle.bits.specs.Bits.{padded};
+ghost use Rattle.poly.specs.Register.{register, registerNumber};
+ghost use Rattle.key.specs.Keys.{keyOf};
+ghost use Rattle.decoder.specs.Decoding.{places};
+ghost use Rattle.decoding.specs.Parts.{backward as backwardOf, mark as markOf, packed};
+
+// The coefficients c_l, .., c_1, with zeros behind them.
+fn backward(c: [u16; 257], l: usize) -> [u16; 256]
+    requires { ⌜ l ≤ 256 ⌝ }
+    ensures { λ r. ⌜ r ≡ padded 256 (backwardOf c l) ⌝ }
+{
+    let mut q = [0u16; 256];
+    let mut i = 0;
+    while i < l {
+        let j = l - i;
+        q[i] = c[j];
+        i += 1;
+    }
+    q
+}
+
+// 1 for 0, and 0 for any other value.
+fn mark(v: u16) -> u8
+    ensures { λ r. ⌜ r ≡ markOf v ⌝ }
+{
+    if v == 0 { 1 } else { 0 }
+}
+
+// The pattern with a one at each place whose value is 0.
+fn marks(values: &[u16]) -> [u8; 1024]
+    requires { ⌜ length (now values) ≤ 8192 ⌝ }
+    ensures { λ r. ⌜ r ≡ packed (map markOf (now (values .entry))) ⌝ }
+{
+    let mut pattern = [0u8; 1024];
+    let mut i = 0;
+    while i < values.len() {
+        bits::set_bit(&mut pattern, i, mark(values[i]));
+        i += 1;
+    }
+    pattern
+}
+
+// The pattern with a one at each place of the support that the register of the sums s gives.
+pub fn located(m: u8, support: &[u16], s: &[u16]) -> [u8; 1024]
+    requires { ⌜ (length (now support) ≤ 8192) × (registerNumber m (now s) ≡ 0) ⌝ }
+    ensures { λ r. ⌜ r ≡ packed (places (keyOf m (now (support .entry)) []) (register m (now (s .entry)))) ⌝ }
+{
+    let r = Registered::of(m, s);
+    let l = r.length;
+    let c = r.c;
+    let q = backward(c, l);
+    let v = poly::values(m, &q[..l], support);
+    let n = support.len();
+    marks(&v[..n])
+}

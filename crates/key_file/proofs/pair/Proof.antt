@@ -1,0 +1,46 @@
+-- `key_file::pair` meets its contract. Assumes nothing.
+use mathlib.Core.Path.{ap₂}
+use Prim.Native.Nat.{ℕ, _+_, _*_}
+use native.Mathlib.Omega.{arith}
+use borrow.Author.Needs.{needs}
+use Rattle.key.specs.Keys.{pair}
+use Rattle.key_file.proofs.pair.Statement.{statement}
+use Rattle.key_file.proofs.pair.Tie as tie
+
+byte-requires : tie.Need-byte-requires
+byte-requires c κs = tt
+
+cast-result : tie.Need-cast-result
+cast-result c = search needs
+
+add-byte : tie.Need-add-byte
+add-byte c = omega arith
+
+byte-requires-2 : tie.Need-byte-requires-2
+byte-requires-2 c κs = tt
+
+cast-result-2 : tie.Need-cast-result-2
+cast-result-2 c = search needs
+
+mul-result : tie.Need-mul-result
+mul-result c = search needs
+
+add-result : tie.Need-add-result
+add-result c = search needs
+
+returns : tie.Need-returns
+unfolding pair
+returns c = ap₂ (λ (x y : ℕ). x + 256 * y) (c .before .byte .ensures) (c .byte2 .ensures)
+
+pub pair-spec : {M : Type 1} → statement M
+pair-spec =
+    tie.close
+    (tie.spec
+    byte-requires
+    cast-result
+    add-byte
+    byte-requires-2
+    cast-result-2
+    mul-result
+    add-result
+    returns)
