@@ -1,19 +1,29 @@
--- The text is short enough for its length to be counted. Assumes nothing.
-use mathlib.Core.Bool.{Bool, true, false, cond}
+-- The text is short: at most 17 bytes for each byte of input. Assumes nothing.
+use mathlib.Core.Path.{_≡_, refl, sym, ap, subst, _∙_}
+use mathlib.Core.Bool.{Bool, true, false, true≢false, cond}
 use mathlib.Core.List.{List, [], _∷_, _++_}
-use Prim.Native.Nat.{ℕ, zero, suc, _+_, _*_, _^_, _≤_, _<_}
-use native.Mathlib.Nat.{suc-mul}
+use mathlib.Core.Option.{Option, none, some}
+use Prim.Native.Nat.{ℕ, zero, suc, _+_, _-_, _*_, _/_, _≤_, _<_}
+use native.Mathlib.Nat.{suc-mul, mul-le-mul}
+use native.Mathlib.Decide.{decLt}
 use native.Mathlib.Omega.{arith}
-use lib.ListN.{length, drop, length-append}
-use Rattle.bits.specs.Bits.{bytesFor, unpack}
-use Rattle.bits.proofs.Pack.{length-unpack}
+use lib.Dec.{eqb}
+use lib.ListN.{length, drop, length-append, length-drop}
+use lib.Seq.{take-append-seam}
+use Rattle.bits.specs.Bits.{Row, end, off, on, bytesFor, unpack, pack, ones, over}
+use Rattle.bits.proofs.Pack.{row-length, unpack-take, unpack-pack, length-pack}
 use Rattle.field.specs.Numbers.{firstOf}
-use Rattle.code.specs.Publish.{capsuleBits}
+use Rattle.field.proofs.Numbers.{first-clear}
+use Rattle.key.specs.Keys.{Key}
+use Rattle.code.specs.Publish.{capsuleBits, publicBytes, workBytes}
+use Rattle.decoder.specs.Reading.{reading, exactly, opening}
+use Rattle.decoder.specs.Calls.{found, isNone}
+use Rattle.decoder.proofs.Sanity.{Corrects, reading-sound}
 use Rattle.decoder.specs.Calls as Calls
-use Rattle.ledger.specs.Station.{Station, heldBy, openConditions}
+use Rattle.ledger.specs.Station.{Station, heldBy, openConditions, Result, openOf, gives}
 use Rattle.ledger.specs.Calls.{open-capsule, conditionsOf, step}
-use Rattle.ledger.proofs.StepLaws.{step-number}
-use Rattle.opener.specs.Report.{newline, refuses, opens, decimal, place, places, answer, room, line, lines, cut, opened}
+use Rattle.ledger.proofs.StepLaws.{step-number, unless-accepted}
+use Rattle.opener.specs.Report.{newline, refuses, opens, decimal, place, places, answer, room, line, lines, cut, opened, Four}
 use Rattle.opener.proofs.Digits.{decimal-short}
 
 -- the numbers of the conditions are below k
@@ -30,55 +40,143 @@ first-below k (c ∷ cs) h = go (c .0) (first-below k cs (h .1))
     go true t = h .0
     go false t = t
 
--- open's numbers are at most 25
-open-number : (s : Station) (capsule out : List ℕ) → step s (open-capsule capsule out) .number < 26
-unfolding Numbered conditionsOf openConditions Calls.openConditions
-open-number s capsule out =
-    rw (step-number s (open-capsule capsule out))
-    (first-below 26 (openConditions (heldBy s) capsule out)
-    (omega arith, (omega arith, (omega arith, (omega arith, (omega arith, (omega arith, (omega arith, omega arith))))))))
+-- the pattern that is found: at most t ones
+exactly-some : (t : ℕ) (o : Option (List ℕ)) {e : List ℕ} → exactly t o ≡ some e → o ≡ some e
+unfolding exactly
+exactly-some t none h = h
+exactly-some t (some d) {e} h = go (eqb (ones d) t) h
+  where
+    go : (b : Bool) → cond b (some d) none ≡ some e → some d ≡ some e
+    go true g = g
+    go false g = let z : _≡_ {A = ℕ} 0 1 = cc in absurd (omega arith)
 
-place-short : (b i : ℕ) → i < 100000 → length (place b i) ≤ 6
-unfolding place
-place-short zero i h = omega arith
-place-short (suc b) i h = omega (arith, decimal-short 4 i h)
+-- the pattern that open writes
+record Pattern (k : Key) (e : List ℕ) : Type 0 where
+  bits : Row (k .n) e
+  few : ones e ≤ k .t
 
-places-short : (e : List ℕ) (i : ℕ) → i + length e ≤ 100000 → length (places i e) ≤ length e * 6
-unfolding places
-places-short [] i h = omega arith
-places-short (b ∷ e) i h =
-    let r : length (places (suc i) e) ≤ length e * 6 = places-short e (suc i) (omega arith) in
-    omega (arith, length-append (place b i) (places (suc i) e), place-short b i (omega arith), suc-mul (length e) 6)
+written-bits : {n : ℕ} {e : List ℕ} (out : List ℕ) → Row n e → unpack n (over (pack e) out) ≡ e
+unfolding over
+written-bits {n} {e} out r =
+    let l : bytesFor n ≤ length (pack e) = omega (arith, length-pack e, ap bytesFor (row-length r)) in
+    sym (unpack-take n (length (pack e)) (pack e ++ drop (length (pack e)) out) l)
+    ∙ ap (unpack n) (take-append-seam (pack e) (drop (length (pack e)) out))
+    ∙ unpack-pack r
 
-answer-short : (n : ℕ) (e : List ℕ) → n < 26 → length e ≤ 8192 → length (answer n e) ≤ 50000
-unfolding answer opens refuses
-answer-short zero e h l = omega (arith, places-short e 0 (omega arith))
-answer-short (suc n) e h l = omega (arith, decimal-short 4 (suc n) (omega arith))
+found-some : (k : Key) (w : List ℕ) (o : Option (List ℕ)) → exactly (k .t) (reading k w) ≡ o → isNone o ≡ false → Pattern k (found o)
+unfolding found isNone
+found-some k w none h i = absurd (true≢false i)
+found-some k w (some e) h i =
+    let c : Corrects k w e = reading-sound k w e (exactly-some (k .t) (reading k w) h) in
+    record { bits = c .bits; few = c .few }
 
-line-short : (s : Station) (p : ℕ) (capsule : List ℕ) → s .key .n ≤ 8192 → p < 100000 → length (line s p capsule) ≤ 60000
-unfolding line newline
-line-short s p capsule h l =
-    let r = step s (open-capsule capsule room) in
-    let e = unpack (s .key .n) (r .output) in
-    let a = answer-short (r .number) e (open-number s capsule room) (rw length-unpack h) in
-    omega (arith, length-append (decimal p) (answer (r .number) e ++ newline), length-append (answer (r .number) e) newline, decimal-short 4 p l, a)
+module _ (s : Station) (capsule out : List ℕ) where
+  -- open's numbers are at most 25
+  open-number : step s (open-capsule capsule out) .number < 26
+  unfolding Numbered conditionsOf openConditions Calls.openConditions
+  open-number =
+      rw (step-number s (open-capsule capsule out))
+      (first-below 26 (openConditions (heldBy s) capsule out)
+      (omega arith, (omega arith, (omega arith, (omega arith, (omega arith, (omega arith, (omega arith, omega arith))))))))
 
-lines-short : (s : Station) (cs : List (List ℕ)) (p : ℕ) → s .key .n ≤ 8192 → p + length cs ≤ 100000 → length (lines s p cs) ≤ length cs * 60000
-unfolding lines
-lines-short s [] p h l = omega arith
-lines-short s (c ∷ cs) p h l =
-    let r : length (lines s (suc p) cs) ≤ length cs * 60000 = lines-short s cs (suc p) h (omega arith) in
-    omega (arith, length-append (line s p c) (lines s (suc p) cs), line-short s p c h (omega arith), suc-mul (length cs) 60000)
+  open-some : firstOf (openConditions (heldBy s) capsule out) ≡ 0 → isNone (opening (s .key) (unpack (capsuleBits (s .key)) capsule)) ≡ false
+  unfolding openConditions Calls.openConditions heldBy
+  open-some z =
+      let a = first-clear _ 23 _ (first-clear _ 24 _ (first-clear _ 20 _ z .1) .1) .1 in
+      first-clear _ 12 _ (first-clear _ 9 _ (first-clear _ 8 _ (first-clear _ 7 _ a .1) .1) .1) .0
 
-cut-short : (k c : ℕ) (l : List ℕ) → length (cut k c l) ≤ k
+  open-pattern : step s (open-capsule capsule out) .number ≡ 0
+      → Pattern (s .key) (unpack (s .key .n) (step s (open-capsule capsule out) .output))
+  unfolding conditionsOf step openOf gives opening
+  open-pattern h =
+      let z = sym (step-number s (open-capsule capsule out)) ∙ h in
+      let o = opening (s .key) (unpack (capsuleBits (s .key)) capsule) in
+      let p = found-some (s .key) _ o refl (open-some z) in
+      subst (Pattern (s .key))
+      (sym (ap (λ (r : Result). unpack (s .key .n) (r .output)) (unless-accepted s out _ _ z) ∙ written-bits out (p .bits)))
+      p
+
+-- a blank and two digits for each one
+places-few : {n : ℕ} {e : List ℕ} → Row n e → (i : ℕ) → i + n ≤ 100 → length (places i e) ≤ 3 * ones e
+unfolding places place ones
+places-few end i h = omega arith
+places-few (off r) i h = let t = places-few r (suc i) (omega arith) in omega (arith, t)
+places-few (on {e = e} r) i h =
+    let t = places-few r (suc i) (omega arith) in
+    omega (arith, t, length-append (decimal i) (places (suc i) e), decimal-short 1 i (omega arith))
+
+-- b is t, or 2: ` refused 13` is as long as ` open` with two places
+module _ (s : Station) (f : Four (s .key)) (b : ℕ) (h : s .key .t ≤ b) (two : 2 ≤ b) where
+  answer-few : (n : ℕ) (e : List ℕ) → n < 26 → (n ≡ 0 → Pattern (s .key) e) → length (answer n e) ≤ 5 + 3 * b
+  unfolding answer opens refuses
+  answer-few zero e l p =
+      let q = p refl in
+      omega (arith, q .few, places-few (q .bits) 0 (omega (arith, f .fits)))
+  answer-few (suc n) e l p = omega (arith, decimal-short 1 (suc n) (omega arith))
+
+  line-few : (p : ℕ) (capsule : List ℕ) → p < 100000 → length (line s p capsule) ≤ 11 + 3 * b
+  unfolding line newline
+  line-few p capsule l =
+      let r = step s (open-capsule capsule room) in
+      let e = unpack (s .key .n) (r .output) in
+      let a = answer-few (r .number) e (open-number s capsule room) (open-pattern s capsule room) in
+      omega (arith, length-append (decimal p) (answer (r .number) e ++ newline), length-append (answer (r .number) e) newline, decimal-short 4 p l, a)
+
+  lines-few : (cs : List (List ℕ)) (p : ℕ) → p + length cs ≤ 100000 → length (lines s p cs) ≤ length cs * (11 + 3 * b)
+  unfolding lines
+  lines-few [] p l = omega arith
+  lines-few (c ∷ cs) p l =
+      let r = lines-few cs (suc p) (omega arith) in
+      omega (arith, r, length-append (line s p c) (lines s (suc p) cs), line-few p c (omega arith), suc-mul (length cs) (11 + 3 * b))
+
+cut-none : (k c : ℕ) (l : List ℕ) → length l ≡ 0 → length (cut k c l) ≡ 0
 unfolding cut
-cut-short zero c l = omega arith
-cut-short (suc k) c [] = omega arith
-cut-short (suc k) c (b ∷ l) = let r : length (cut k c (drop c (b ∷ l))) ≤ k = cut-short k c (drop c (b ∷ l)) in omega arith
+cut-none zero c l e = refl
+cut-none (suc k) c [] e = refl
+cut-none (suc k) c (b ∷ l) e = absurd (omega arith)
 
-pub opened-short : (s : Station) (input : List ℕ) → s .key .n ≤ 8192 → length input ≤ 65536 → length (opened s input) < 2 ^ 63
-unfolding opened
-opened-short s input h l =
-    let c = cut-short (length input) (bytesFor (capsuleBits (s .key))) input in
-    let r = lines-short s (cut (length input) (bytesFor (capsuleBits (s .key))) input) 1 h (omega arith) in
-    omega arith
+-- the last part may be short
+cut-count : (k c : ℕ) (l : List ℕ) → 0 < c → length (cut k c l) * c < length l + c
+unfolding cut
+cut-count zero c l h = omega arith
+cut-count (suc k) c [] h = omega arith
+cut-count (suc k) c (b ∷ l) h = elim (decLt (length (b ∷ l)) c) [
+  | yes y ↦
+      let e : length (drop c (b ∷ l)) ≡ 0 = length-drop c (b ∷ l) ∙ (omega arith) in
+      let r = cut-none k c (drop c (b ∷ l)) e in
+      omega (arith, r, ap (λ (x : ℕ). x * c) r, suc-mul (length (cut k c (drop c (b ∷ l)))) c)
+  | no y ↦
+      let r = cut-count k c (drop c (b ∷ l)) h in
+      omega (arith, r, length-drop c (b ∷ l), suc-mul (length (cut k c (drop c (b ∷ l)))) c)
+]
+
+module _ (s : Station) (f : Four (s .key)) (input : List ℕ) where
+  -- capsules of c bytes
+  opened-few : (c b : ℕ) → bytesFor (capsuleBits (s .key)) ≡ c → s .key .t ≤ b → 2 ≤ b → length (cut (length input) c input) < 100000
+      → length (opened s input) ≤ length (cut (length input) c input) * (11 + 3 * b)
+  unfolding opened
+  opened-few c b e h two l =
+      rw e (lines-few s f b h two (cut (length input) c input) 1 (omega arith))
+
+  -- a byte with t below 3, two bytes with t 3
+  pub opened-short : length input ≤ 65536 → length (opened s input) ≤ 1114112
+  unfolding capsuleBits bytesFor
+  opened-short l = elim (decLt (s .key .t) 3) [
+    | yes y ↦
+        let c : bytesFor (capsuleBits (s .key)) ≡ 1 = ap (λ (m : ℕ). (m * s .key .t + 7) / 8) (f .width) ∙ (omega (arith, f .some)) in
+        let n = cut-count (length input) 1 input (omega arith) in
+        omega (arith, n, opened-few 1 2 c (omega arith) (omega arith) (omega (arith, n)))
+    | no y ↦
+        let c : bytesFor (capsuleBits (s .key)) ≡ 2 = ap (λ (m : ℕ). (m * s .key .t + 7) / 8) (f .width) ∙ (omega (arith, f .over, f .fits)) in
+        let n = cut-count (length input) 2 input (omega arith) in
+        omega (arith, n, opened-few 2 3 c (omega (arith, f .over, f .fits)) (omega arith) (omega (arith, n)))
+  ]
+
+-- T, its workspace and a pattern fit in `room`
+pub room-enough : (k : Key) → Four k → (publicBytes k ≤ length room) × (workBytes k ≤ length room) × (bytesFor (k .n) ≤ length room)
+unfolding capsuleBits bytesFor room
+room-enough k f =
+    let c : k .m * k .t ≤ 16 = rw (f .width) (omega (arith, f .over, f .fits)) in
+    let t : (k .n - k .m * k .t + 7) / 8 ≤ 2 = omega (arith, f .fits) in
+    let w : (k .n + 7) / 8 ≤ 2 = omega (arith, f .fits) in
+    (omega (arith, mul-le-mul c t), omega (arith, mul-le-mul c w), omega (arith, w))

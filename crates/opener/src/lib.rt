@@ -132,7 +132,8 @@ fn capsule_bytes(station: Station) -> usize
 // The lines of the capsules.
 fn lines(station: Station, input: &[u8], out: &mut [u8]) -> usize
     requires { ⌜ Four (view station .key) × (length (now input) ≤ 65536) ⌝ }
-    ensures { λ r. ⌜ Wrote (Report.opened (view station) (now (input .entry))) (now (out .entry)) 0 r (now (out .exit)) ⌝ }
+    ensures text { λ r. ⌜ Wrote (Report.opened (view station) (now (input .entry))) (now (out .entry)) 0 r (now (out .exit)) ⌝ }
+    ensures fits { λ r. ⌜ r ≤ 1114112 ⌝ }
 {
     let c = capsule_bytes(station);
     let mut at = 0;
@@ -149,7 +150,8 @@ fn lines(station: Station, input: &[u8], out: &mut [u8]) -> usize
 // `key refused ` and the number.
 fn key_refused(number: u8, out: &mut [u8]) -> usize
     requires { ⌜ 0 < number ⌝ }
-    ensures { λ r. ⌜ Wrote (Report.unlessRefused number []) (now (out .entry)) 0 r (now (out .exit)) ⌝ }
+    ensures text { λ r. ⌜ Wrote (Report.unlessRefused number []) (now (out .entry)) 0 r (now (out .exit)) ⌝ }
+    ensures fits { λ r. ⌜ r ≤ 1114112 ⌝ }
 {
     let at = write(b"key refused ", out, 0);
     let next = decimal(number as usize, out, at);
@@ -179,7 +181,8 @@ fn large(file: &[u8]) -> bool
 // The text for a whole key file and all capsules.
 fn whole(file: &[u8], input: &[u8], out: &mut [u8]) -> usize
     requires { ⌜ length (now input) ≤ 65536 ⌝ }
-    ensures { λ r. ⌜ Wrote (Report.whole (now (file .entry)) (now (input .entry))) (now (out .entry)) 0 r (now (out .exit)) ⌝ }
+    ensures text { λ r. ⌜ Wrote (Report.whole (now (file .entry)) (now (input .entry))) (now (out .entry)) 0 r (now (out .exit)) ⌝ }
+    ensures fits { λ r. ⌜ r ≤ 1114112 ⌝ }
 {
     if large(file) {
         return write(b"key too large\n", out, 0);
@@ -202,6 +205,7 @@ pub fn report(file: &[u8], input: &[u8], out: &mut [u8]) -> usize
     ensures end { λ r. ⌜ r ≡ length (Report.report (now (file .entry)) (now (input .entry))) ⌝ }
     ensures output { λ _. ⌜ now (out .exit)
         ≡ over (take (length (now (out .entry))) (Report.report (now (file .entry)) (now (input .entry)))) (now (out .entry)) ⌝ }
+    ensures fits { λ r. ⌜ r ≤ 1114112 ⌝ }
 {
     let f = bits::smaller(4096, file.len());
     let i = bits::smaller(65536, input.len());

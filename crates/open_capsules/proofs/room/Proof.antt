@@ -10,7 +10,7 @@ sized : (n : ℕ) → n ≡ length (replicate {A = ℕ} n 0)
 sized n = sym (length-replicate n 0)
 
 returns : tie.Need-returns
-returns c = sized 1103006
+returns c = sized 1114112
 
 pub room-spec : {M : Type 1} → statement M
 room-spec = tie.close (tie.spec returns)

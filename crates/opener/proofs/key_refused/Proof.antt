@@ -39,9 +39,12 @@ returns c =
     let w = d .before .before .before .before in
     let s = w .before .before .before .before in
     let a = s .args in
-    same-text (sym (key-refused (a .number) [] (λ e. omega (arith, s .pre, e))))
-    (joined keyRefused (decimal (a .number) ++ newline) (w .write .ensures)
-    (joined (decimal (a .number)) newline (d .decimal .ensures) (c .before .before .put .ensures)))
+    let p = c .before .before .put in (
+      same-text (sym (key-refused (a .number) [] (λ e. omega (arith, s .pre, e))))
+          (joined keyRefused (decimal (a .number) ++ newline) (w .write .ensures)
+          (joined (decimal (a .number)) newline (d .decimal .ensures) (p .ensures))),
+      omega (arith, w .write .ensures .place, d .decimal .ensures .place, p .ensures .place, decimal-short 19 (a .number) (omega arith)),
+    )
 
 pub key-refused-spec : {M : Type 1} → statement M
 key-refused-spec =

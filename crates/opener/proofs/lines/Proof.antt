@@ -32,8 +32,9 @@ line-at-requires c κs =
     let a = s .args in
     let l = c .before .before .loop in
     let n = c .before .before .before .capsule-bytes in
-    let r = line-room (view (a .station)) (n .result) (l .p) (a .input .now) (l .i) (capsule-some (n .ensures) (capsule-bits (s .pre .0) .0)) (omega arith) in
-    let b = opened-short (view (a .station)) (a .input .now) (omega (arith, s .pre .0 .fits)) (s .pre .1) in
+    let h = capsule-some (n .ensures) (capsule-bits (s .pre .0) .0) in
+    let r = line-room (view (a .station)) (n .result) (l .p) (a .input .now) (l .i) h (omega arith) in
+    let b = opened-short (view (a .station)) (s .pre .0) (a .input .now) (s .pre .1) in
     (omega arith, omega (arith, l .inv .2 .place, r, b))
 
 add-i : tie.Need-add-i Inv-loop μ-loop
@@ -42,10 +43,14 @@ add-i c =
     omega (arith, s .pre .1, capsule-few (c .before .before .before .before .before .before .capsule-bytes .ensures) (capsule-bits (s .pre .0) .1))
 
 add-p : tie.Need-add-p Inv-loop μ-loop
-add-p c = let s = c .before .before .before .before .before .before .before .before .before in omega (arith, s .pre .1, c .before .before .before .before .before .loop .inv .1)
+add-p c =
+    let s = c .before .before .before .before .before .before .before .before .before in
+    omega (arith, s .pre .1, c .before .before .before .before .before .loop .inv .1)
 
 loop-less : tie.Need-loop-less Inv-loop μ-loop
-loop-less c = omega (arith, capsule-some (c .before .before .before .before .before .before .capsule-bytes .ensures) (capsule-bits (c .before .before .before .before .before .before .before .before .before .pre .0) .0))
+loop-less c =
+    let n = c .before .before .before .before .before .before in
+    omega (arith, capsule-some (n .capsule-bytes .ensures) (capsule-bits (n .before .before .before .pre .0) .0))
 
 loop-again : tie.Need-loop-again Inv-loop μ-loop
 loop-again c =
@@ -57,7 +62,9 @@ loop-again c =
     let h = capsule-some (n .ensures) (capsule-bits (s .pre .0) .0) in (
       p .kept .1 .1 .1 .1 .1 .0 ∙ l .inv .0,
       omega (arith, h, l .inv .1),
-      left-step (line (view (a .station)) (l .p) (take (n .result) (drop (l .i) (a .input .now)))) (linesLeft (view (a .station)) (n .result) (l .p + 1) (a .input .now) (l .i + n .result))
+      left-step
+          (line (view (a .station)) (l .p) (take (n .result) (drop (l .i) (a .input .now))))
+          (linesLeft (view (a .station)) (n .result) (l .p + 1) (a .input .now) (l .i + n .result))
           (lines-next (view (a .station)) (n .result) (l .p) (a .input .now) (l .i) h (omega arith))
           (l .inv .2) (p .ensures),
     )
@@ -67,9 +74,14 @@ same-length c = c .before .loop .inv .0
 
 returns : tie.Need-returns Inv-loop μ-loop
 returns c =
-    let a = c .before .before .before .before .before .args in
+    let s = c .before .before .before .before .before in
+    let a = s .args in
     let l = c .before .loop in
-    left-none (lines-done (view (a .station)) (c .before .before .capsule-bytes .result) (l .p) (a .input .now) (l .i) (c .loop-test .left)) (l .inv .2)
+    let w =
+    left-none
+    (lines-done (view (a .station)) (c .before .before .capsule-bytes .result) (l .p) (a .input .now) (l .i) (c .loop-test .left))
+    (l .inv .2) in
+    (w, omega (arith, w .place, opened-short (view (a .station)) (s .pre .0) (a .input .now) (s .pre .1)))
 
 pub lines-spec : {M : Type 1} → statement M
 lines-spec =

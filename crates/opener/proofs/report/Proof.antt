@@ -37,10 +37,12 @@ returns c =
     let f = c .before .before .before .before .before .before .before in
     let i = c .before .before .before .before .before .before in
     let a = c .before .before .before .before .before .before .before .before .before .before .before .args in
-    let w = same-text
+    let e = c .before .before .whole .ensures in
+    let w =
+    same-text
     (ap₂ whole (taken 4096 (a .file .now) (f .smaller .ensures)) (taken 65536 (a .input .now) (i .smaller2 .ensures)))
-    (c .before .before .whole .ensures) in
-    (w .place ∙ zero-add _, w .output ∙ sets-over (report (a .file .now) (a .input .now)) (a .out .now))
+    (e .0) in
+    (w .place ∙ zero-add _, (w .output ∙ sets-over (report (a .file .now) (a .input .now)) (a .out .now), e .1))
 
 pub report-spec : {M : Type 1} → statement M
 report-spec =

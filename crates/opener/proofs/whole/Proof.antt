@@ -1,5 +1,6 @@
 -- The width, then what load and publish hand back. Assumes nothing.
 use mathlib.Core.Path.{sym, _∙_}
+use native.Mathlib.Omega.{arith}
 use borrow.Author.Needs.{needs}
 use Rattle.opener.specs.Report.{tooLarge}
 use Rattle.opener.proofs.Written.{same-text}
@@ -23,7 +24,9 @@ returns : tie.Need-returns
 unfolding tooLarge
 returns c =
     let a = c .before .before .before .before .before .before .before .before .before .before .args in
-    same-text (sym (whole-large (a .file .now) (a .input .now) (sym (c .before .before .before .before .before .before .large .ensures) ∙ c .before .before .before .before .before .if1 .taken))) (c .before .before .write .ensures)
+    let i = c .before .before .before .before .before in
+    let w = c .before .before .write .ensures in
+    (same-text (sym (whole-large (a .file .now) (a .input .now) (sym (i .before .large .ensures) ∙ i .if1 .taken))) w, omega (arith, w .place))
 
 fresh-requires : tie.Need-fresh-requires
 fresh-requires c κs = search needs
@@ -42,7 +45,9 @@ returns-2 c =
     let a = c .before .before .before .before .before .before .before .before .before .before .before .before .args in
     let l = c .before .before .before .before .before in
     let small = sym (l .before .before .before .large .ensures) ∙ l .before .before .if1 .left in
-    same-text (sym (whole-load-refused (a .file .now) (a .input .now) small (l .before .fresh .ensures) (l .load .ensures) (c .before .before .before .before .if2 .taken))) (c .before .before .key-refused .ensures)
+    let k = c .before .before .key-refused .ensures in
+    let e = whole-load-refused (a .file .now) (a .input .now) small (l .before .fresh .ensures) (l .load .ensures) (c .before .before .before .before .if2 .taken) in
+    (same-text (sym e) (k .0), k .1)
 
 publish-requires : tie.Need-publish-requires
 publish-requires c κs = search needs
@@ -59,7 +64,11 @@ returns-3 c =
     let p = c .before .before .before .before .before in
     let l = p .before .before in
     let small = sym (l .before .before .before .large .ensures) ∙ l .before .before .if1 .left in
-    same-text (sym (whole-publish-refused (a .file .now) (a .input .now) small (l .before .fresh .ensures) (l .load .ensures) (p .before .if2 .left) (p .publish .ensures) (c .before .before .before .before .if3 .taken))) (c .before .before .key-refused2 .ensures)
+    let k = c .before .before .key-refused2 .ensures in
+    let e =
+    whole-publish-refused (a .file .now) (a .input .now) small (l .before .fresh .ensures) (l .load .ensures) (p .before .if2 .left) (p .publish .ensures)
+    (c .before .before .before .before .if3 .taken) in
+    (same-text (sym e) (k .0), k .1)
 
 lines-requires : tie.Need-lines-requires
 lines-requires c κs =
@@ -68,7 +77,10 @@ lines-requires c κs =
     let p = c .before .before in
     let l = p .before .before in
     let small = sym (l .before .before .before .large .ensures) ∙ l .before .before .if1 .left in
-    (shape (a .file .now) (a .input .now) small (l .before .fresh .ensures) (l .load .ensures) (p .before .if2 .left) (p .publish .ensures) (c .before .if3 .left), s .pre)
+    let f =
+    shape (a .file .now) (a .input .now) small (l .before .fresh .ensures) (l .load .ensures) (p .before .if2 .left) (p .publish .ensures)
+    (c .before .if3 .left) in
+    (f, s .pre)
 
 same-length-4 : tie.Need-same-length-4
 same-length-4 c = search needs
@@ -79,7 +91,11 @@ returns-4 c =
     let p = c .before .before .before .before .before in
     let l = p .before .before in
     let small = sym (l .before .before .before .large .ensures) ∙ l .before .before .if1 .left in
-    same-text (sym (whole-opened (a .file .now) (a .input .now) small (l .before .fresh .ensures) (l .load .ensures) (p .before .if2 .left) (p .publish .ensures) (c .before .before .before .before .if3 .left))) (c .before .before .lines .ensures)
+    let k = c .before .before .lines .ensures in
+    let e =
+    whole-opened (a .file .now) (a .input .now) small (l .before .fresh .ensures) (l .load .ensures) (p .before .if2 .left) (p .publish .ensures)
+    (c .before .before .before .before .if3 .left) in
+    (same-text (sym e) (k .0), k .1)
 
 pub whole-spec : {M : Type 1} → statement M
 whole-spec =
