@@ -200,7 +200,8 @@ fn whole(file: &[u8], input: &[u8], out: &mut [u8]) -> usize
     lines(published.station, input, out)
 }
 
-// The text that the program prints, as much of it as there is room for from the output's start, and its length.
+// The text that the program prints, as much of it as there is room for from the output's start, and its length:
+// at most 17 bytes for each byte of input.
 pub fn report(file: &[u8], input: &[u8], out: &mut [u8]) -> usize
     ensures end { λ r. ⌜ r ≡ length (Report.report (now (file .entry)) (now (input .entry))) ⌝ }
     ensures output { λ _. ⌜ now (out .exit)

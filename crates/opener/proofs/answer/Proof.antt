@@ -18,7 +18,8 @@ unfolding refuses
 write-requires c κs =
     let s = c .before .before .before .before .before in
     let a = s .args in
-    omega (arith, s .pre, length-append refuses (decimal (a .refused)), ap length (answer-refused (a .refused) (unpack (a .n) (a .pattern .now)) (c .before .before .if1 .taken)))
+    let e = answer-refused (a .refused) (unpack (a .n) (a .pattern .now)) (c .before .before .if1 .taken) in
+    omega (arith, s .pre, length-append refuses (decimal (a .refused)), ap length e)
 
 decimal-requires : tie.Need-decimal-requires
 unfolding refuses
@@ -26,7 +27,8 @@ decimal-requires c κs =
     let w = c .before .before .before in
     let s = w .before .before .before .before .before .before in
     let a = s .args in
-    omega (arith, s .pre, w .write .ensures .place, length-append refuses (decimal (a .refused)), ap length (answer-refused (a .refused) (unpack (a .n) (a .pattern .now)) (w .before .before .before .if1 .taken)))
+    let e = answer-refused (a .refused) (unpack (a .n) (a .pattern .now)) (w .before .before .before .if1 .taken) in
+    omega (arith, s .pre, w .write .ensures .place, length-append refuses (decimal (a .refused)), ap length e)
 
 same-length : tie.Need-same-length
 same-length c = search needs

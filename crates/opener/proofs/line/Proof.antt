@@ -23,7 +23,8 @@ decimal-requires c κs =
     let s = c .before .before .before .before .before .before .before in
     let a = s .args in
     let o = c .before .before in
-    omega (arith, s .pre, simp length-append at (ap length (line-parts (a .station) (a .p) (a .capsule .now) (o .«open» .ensures .0) (o .«open» .ensures .1))))
+    let e = line-parts (a .station) (a .p) (a .capsule .now) (o .«open» .ensures .0) (o .«open» .ensures .1) in
+    omega (arith, s .pre, simp length-append at (ap length e))
 
 slice-aggregate-answer : tie.Need-slice-aggregate-answer
 slice-aggregate-answer c = search needs
@@ -37,7 +38,8 @@ answer-requires c κs =
     let s = c .before .before .before .before .before .before .before .before .before .before .before .before .before in
     let a = s .args in
     let o = c .before .before .before .before .before .before .before .before in
-    omega (arith, s .pre, c .before .before .before .before .before .decimal .ensures .place, simp length-append at (ap length (line-parts (a .station) (a .p) (a .capsule .now) (o .«open» .ensures .0) (o .«open» .ensures .1))))
+    let e = line-parts (a .station) (a .p) (a .capsule .now) (o .«open» .ensures .0) (o .«open» .ensures .1) in
+    omega (arith, s .pre, c .before .before .before .before .before .decimal .ensures .place, simp length-append at (ap length e))
 
 put-requires : tie.Need-put-requires
 unfolding room newline
@@ -46,7 +48,8 @@ put-requires c κs =
     let s = w .before .before .before .before .before .before .before .before .before .before .before .before .before .before in
     let a = s .args in
     let o = w .before .before .before .before .before .before .before .before .before in
-    omega (arith, s .pre, w .before .before .before .before .before .before .decimal .ensures .place, w .answer .ensures .place, simp length-append at (ap length (line-parts (a .station) (a .p) (a .capsule .now) (o .«open» .ensures .0) (o .«open» .ensures .1))))
+    let e = line-parts (a .station) (a .p) (a .capsule .now) (o .«open» .ensures .0) (o .«open» .ensures .1) in
+    omega (arith, s .pre, w .before .before .before .before .before .before .decimal .ensures .place, w .answer .ensures .place, simp length-append at (ap length e))
 
 same-length : tie.Need-same-length
 same-length c = search needs
@@ -58,9 +61,11 @@ returns c =
     let s = w .before .before .before .before .before .before .before .before .before .before .before .before .before .before in
     let a = s .args in
     let o = w .before .before .before .before .before .before .before .before .before in
-    same-text (sym (line-parts (a .station) (a .p) (a .capsule .now) (o .«open» .ensures .0) (o .«open» .ensures .1)))
-    (joined (decimal (a .p)) (answer (o .«open» .result .refused) (unpack (a .station .key .n) (o .«open» .last .1 .1 .0)) ++ newline) (w .before .before .before .before .before .before .decimal .ensures)
-    (joined (answer (o .«open» .result .refused) (unpack (a .station .key .n) (o .«open» .last .1 .1 .0))) newline (w .answer .ensures) (c .before .before .put .ensures)))
+    let e = line-parts (a .station) (a .p) (a .capsule .now) (o .«open» .ensures .0) (o .«open» .ensures .1) in
+    let t = answer (o .«open» .result .refused) (unpack (a .station .key .n) (o .«open» .last .1 .1 .0)) in
+    same-text (sym e)
+    (joined (decimal (a .p)) (t ++ newline) (w .before .before .before .before .before .before .decimal .ensures)
+    (joined t newline (w .answer .ensures) (c .before .before .put .ensures)))
 
 pub line-spec : {M : Type 1} → statement M
 line-spec =

@@ -42,7 +42,8 @@ same-length c = search needs
 returns : tie.Need-returns
 returns c =
     let a = c .before .before .before .before .before .before .before .before .args in
-    same-text (ap (line (view (a .station)) (a .p)) (take-within (a .c) (a .i) (a .input .now) (c .before .before .before .before .before .smaller .ensures))) (c .before .before .line .ensures)
+    let e = take-within (a .c) (a .i) (a .input .now) (c .before .before .before .before .before .smaller .ensures) in
+    same-text (ap (line (view (a .station)) (a .p)) e) (c .before .before .line .ensures)
 
 pub line-at-spec : {M : Type 1} → statement M
 line-at-spec =
