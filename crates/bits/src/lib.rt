@@ -1,10 +1,9 @@
 // Packed rows of bits, read and written bit by bit (document 01, 'Bits').
 ghost use mathlib.Core.Path.{_≡_};
-ghost use mathlib.Core.Bool.{true};
 ghost use mathlib.Core.List.{map};
 ghost use Prim.Native.Nat.{_+_, _%_, _^_, _≤_, _<_, min};
 ghost use lib.Count.{ones};
-ghost use lib.ListN.{length, take, drop, replicate};
+ghost use lib.ListN.{length, replicate};
 ghost use Rattle.bits.specs.Bits.{
   from,
   bytesFor,
@@ -17,9 +16,6 @@ ghost use Rattle.bits.specs.Bits.{
   fillerClear,
   wellFormed,
   xorRow,
-  xorRows,
-  onPart,
-  rowsApart,
   rowProduct,
 };
 
@@ -107,16 +103,6 @@ pub fn xor_row(dst: &mut [u8], src: &[u8])
     }
 }
 
-// Of one workspace, the row of n bytes at b added to the row at a; nothing where they are not two rows of it.
-pub fn xor_rows(w: &mut [u8], a: usize, b: usize, n: usize)
-    ensures { λ _. ⌜ now (w .exit) ≡ xorRows n a b (now (w .entry)) ⌝ }
-{
-    if !rows_apart(w.len(), a, b, n) {
-        return;
-    }
-    xor_apart(w, a, b, n);
-}
-
 // The parity of the and of the row and the pattern, over the pattern's bytes.
 pub fn row_product(row: &[u8], pat: &[u8]) -> u8
     ensures { λ r. ⌜ r ≡ rowProduct (now (row .entry)) (now (pat .entry)) ⌝ }
@@ -186,35 +172,4 @@ pub fn smaller(a: usize, b: usize) -> usize
     ensures { λ r. ⌜ r ≡ min a b ⌝ }
 {
     if a < b { a } else { b }
-}
-
-// Two rows of n bytes, at a and at b, lie within len bytes and do not overlap.
-fn rows_apart(len: usize, a: usize, b: usize, n: usize) -> bool
-    ensures { λ r. ⌜ r ≡ rowsApart n a b len ⌝ }
-{
-    if len < n {
-        return false;
-    }
-    if len - n < a {
-        return false;
-    }
-    if len - n < b {
-        return false;
-    }
-    if a + n <= b {
-        return true;
-    }
-    b + n <= a
-}
-
-// The row of n bytes at b added to the row at a, for two rows of w.
-fn xor_apart(w: &mut [u8], a: usize, b: usize, n: usize)
-    requires { ⌜ rowsApart n a b (length (now w)) ≡ true ⌝ }
-    ensures { λ _. ⌜ now (w .exit) ≡ onPart a (λ d. xorRow d (take n (drop b (now (w .entry))))) (now (w .entry)) ⌝ }
-{
-    let mut k = 0;
-    while k < n {
-        w[a + k] ^= w[b + k];
-        k += 1;
-    }
 }
