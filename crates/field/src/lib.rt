@@ -1,14 +1,13 @@
 // The fields GF(2^m) for m of 4, 12 and 13 (document 01, 'Field').
 ghost use mathlib.Core.Path.{_≡_};
-ghost use mathlib.Core.List.{[], _∷_, map};
+ghost use mathlib.Core.List.{[], _∷_};
 ghost use Prim.Native.Nat.{_^_, _<_, _≤_};
 ghost use mathlib.Core.Bool.{true};
 ghost use lib.Dec.{ltb};
-ghost use lib.ListN.{length};
 ghost use Rattle.bits.specs.Xor.{_⊕_};
 ghost use Rattle.bits.specs.Bits.{every, eachWith};
 ghost use Rattle.field.specs.Field.{isWidth, isElement, modulusOf, mul, inv};
-ghost use Rattle.field.specs.Poly.{hornerEach};
+ghost use Rattle.field.specs.Poly.{hornerEach, ofEach};
 ghost use Rattle.field.specs.Answers.{elementsNumber, addOf, multiplyOf, invertOf};
 
 // What a public call answers: the element, or the number of a refusal.
@@ -82,40 +81,22 @@ pub fn inverse(m: u8, a: u16) -> u16
     reciprocal(m, f, a & mask)
 }
 
-// 1/x for each x of v, 0 for 0, and 0 where m is no width.
-pub fn inverse_each(m: u8, v: &[u16; 8192]) -> [u16; 8192]
-    ensures { λ r. ⌜ r ≡ map (inv m) (now (v .entry)) ⌝ }
+// 1/a for each a of v, of at most 8192, 0 for 0; 1 past them, and everywhere where m is no width. It is a^(2^m - 2), as
+// `reciprocal` for one: r is squared, then multiplied by v.
+pub fn inverse_each(m: u8, v: &[u16]) -> [u16; 8192]
+    ensures { λ r. ⌜ r ≡ ofEach m (inv m) (now (v .entry)) ⌝ }
 {
-    let a = &v[..];
-    if modulus(m) == 0 {
-        return [0u16; 8192];
-    }
-    reciprocal_each(m, a)
-}
-
-// x^(2^m - 2) for each x of a, as `reciprocal` for one: the loops over places vectorise.
-fn reciprocal_each(m: u8, a: &[u16]) -> [u16; 8192]
-    requires { ⌜ (isWidth m ≡ true) × (length (now a) ≡ 8192) ⌝ }
-    ensures { λ r. ⌜ r ≡ map (inv m) (now (a .entry)) ⌝ }
-{
+    let n = bits::smaller(v.len(), 8192);
     let mut r = [1u16; 8192];
     let mut k = 1;
     while k < m {
-        r = square_each(m, r);
-        horner_each(m, &mut r, a, 0);
+        let s = r;
+        horner_each(m, &mut r, &s[..n], 0);
+        horner_each(m, &mut r, v, 0);
         k += 1;
     }
-    square_each(m, r)
-}
-
-// x·x for each x of v.
-fn square_each(m: u8, v: [u16; 8192]) -> [u16; 8192]
-    requires { ⌜ isWidth m ≡ true ⌝ }
-    ensures { λ r. ⌜ r ≡ map (λ x. mul m x x) v ⌝ }
-{
-    let s = v;
-    let mut r = v;
-    horner_each(m, &mut r, &s, 0);
+    let s = r;
+    horner_each(m, &mut r, &s[..n], 0);
     r
 }
 

@@ -17,10 +17,11 @@ fn weights(m: u8, g: &[u16], points: &[u16]) -> [u16; 8192]
     requires { ⌜ (isWidth m ≡ true) × (length (now points) ≤ 8192) ⌝ }
     ensures { λ r. ⌜ take (length (now (points .entry))) r ≡ map (squareEntry (keyOf m (now (points .entry)) (now (g .entry))) 0) (now (points .entry)) ⌝ }
 {
+    let n = points.len();
     let v = poly::values(m, g, points);
-    let h = field::inverse_each(m, &v);
+    let h = field::inverse_each(m, &v[..n]);
     let mut p = h;
-    field::horner_each(m, &mut p, &h, 0);
+    field::horner_each(m, &mut p, &h[..n], 0);
     p
 }
 
