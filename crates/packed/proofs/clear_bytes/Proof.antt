@@ -5,9 +5,9 @@ use Prim.Native.Nat.{ℕ, _-_, _≤_}
 use native.Mathlib.Omega.{arith}
 use borrow.Author.Fill.{fill-none, fill-more}
 use lib.ListN.{length, drop, set, replicate, length-set, length-replicate}
 use Rattle.bits.specs.Bits.{over}
-use Rattle.bits.proofs.clear_bytes.Statement.{statement}
-use Rattle.bits.proofs.clear_bytes.Tie as tie
+use Rattle.packed.proofs.clear_bytes.Statement.{statement}
+use Rattle.packed.proofs.clear_bytes.Tie as tie
 
 abbrev Inv-loop : tie.InvT-loop
 Inv-loop out₀ n i₀ out i = (i ≤ n) × (length out ≡ length out₀) × (out ≡ replicate i 0 ++ drop i out₀)

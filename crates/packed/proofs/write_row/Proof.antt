@@ -5,12 +5,12 @@ use Prim.Native.Nat.{ℕ}
 use native.Mathlib.Omega.{arith}
 use borrow.Author.Needs.{needs}
 use lib.ListN.{replicate}
 use Rattle.bits.specs.Bits.{from, bitAt, putBits, over}
 use Rattle.bits.proofs.Bits.{bit-digit}
 use Rattle.bits.proofs.Pack.{row-map}
 use Rattle.bits.proofs.PutBits.{put-over, written-none, written-row}
-use Rattle.bits.proofs.write_row.Statement.{statement}
-use Rattle.bits.proofs.write_row.Tie as tie
+use Rattle.packed.proofs.write_row.Statement.{statement}
+use Rattle.packed.proofs.write_row.Tie as tie
 
 bytes-for-requires : tie.Need-bytes-for-requires
 bytes-for-requires c κs = tt

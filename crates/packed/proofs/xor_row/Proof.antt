@@ -6,11 +6,11 @@ use native.Mathlib.Omega.{arith}
 use native.Mathlib.Numerals.{add-one}
 use borrow.Author.Needs.{needs}
 use lib.ListN.{length, getD, take, set, length-set}
 use Rattle.bits.specs.Xor.{_⊕_}
 use Rattle.bits.specs.Bits.{xorRow}
 use Rattle.bits.proofs.Rows.{xorRow-nil, xorRow-suc, xorRow-take}
-use Rattle.bits.proofs.xor_row.Statement.{statement}
-use Rattle.bits.proofs.xor_row.Tie as tie
+use Rattle.packed.proofs.xor_row.Statement.{statement}
+use Rattle.packed.proofs.xor_row.Tie as tie
 
 abbrev Inv-loop : tie.InvT-loop
 Inv-loop dst₀ src n i₀ dst i = (i ≤ n) × (length dst ≡ length dst₀) × (dst ≡ xorRow dst₀ (take i src))

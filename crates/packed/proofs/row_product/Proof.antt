@@ -4,12 +4,12 @@ use Prim.Native.Nat.{_-_, _*_, _%_, _≤_}
 use native.Mathlib.Omega.{arith}
 use borrow.Author.Needs.{needs}
 use lib.Count as count
 use Rattle.bits.specs.Xor.{_⊕_}
 use Rattle.bits.specs.Bits.{unpack, dot, from}
 use Rattle.bits.proofs.Product.{row-product-byte, row-product-short}
 use Rattle.bits.proofs.Ones.{no-ones}
-use Rattle.bits.proofs.row_product.Statement.{statement}
-use Rattle.bits.proofs.row_product.Tie as tie
+use Rattle.packed.proofs.row_product.Statement.{statement}
+use Rattle.packed.proofs.row_product.Tie as tie
 
 abbrev Inv-loop : tie.InvT-loop
 Inv-loop row pat n acc₀ i₀ acc i = (i ≤ n) × (count.ones acc % 2 ≡ dot (unpack (8 * i) row) (unpack (8 * i) pat))

@@ -4,11 +4,11 @@ use mathlib.Core.List.{List, map}
 use Prim.Native.Nat.{ℕ, _+_, _-_, _≤_}
 use native.Mathlib.Omega.{arith}
 use lib.ListN.{length, drop}
 use Rattle.bits.specs.Bits.{from, bitAt, setBit, putBits}
 use Rattle.bits.proofs.Lists.{length-map-from, map-from-at}
 use Rattle.bits.proofs.PutBits.{put-next, put-end, length-putBits}
-use Rattle.bits.proofs.copy_bits.Statement.{statement}
-use Rattle.bits.proofs.copy_bits.Tie as tie
+use Rattle.packed.proofs.copy_bits.Statement.{statement}
+use Rattle.packed.proofs.copy_bits.Tie as tie
 
 abbrev Inv-loop : tie.InvT-loop
 Inv-loop out₀ s b w j₀ out j =

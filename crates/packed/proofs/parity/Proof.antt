@@ -2,8 +2,8 @@
 use native.Mathlib.Omega.{arith}
 use lib.Bits.{and-le-r, and-mask}
 use lib.Count.{ones}
-use Rattle.bits.proofs.parity.Statement.{statement}
-use Rattle.bits.proofs.parity.Tie as tie
+use Rattle.packed.proofs.parity.Statement.{statement}
+use Rattle.packed.proofs.parity.Tie as tie
 
 cast-result : tie.Need-cast-result
 cast-result c = omega (arith, and-le-r (ones (c .args .x)) 1)
