@@ -119,7 +119,7 @@ fn discrepancy(m: u8, s: &[u16], r: State, n: usize) -> u16
     let e = l + 1;
     let c = r.c;
     let mut p = earlier(s, n, l);
-    field::horner_each(m, &mut p, &c[..e], 0);
+    field_places::horner_each(m, &mut p, &c[..e], 0);
     total(s[n], p, l)
 }
 
@@ -196,7 +196,7 @@ fn corrected(m: u8, r: State, d: u16) -> [u16; 257]
     let f = field::times(m, d, field::inverse(m, r.d));
     let factor = [f; Registered::COEFFICIENTS];
     let mut p = r.b;
-    field::horner_each(m, &mut p, &factor, 0);
+    field_places::horner_each(m, &mut p, &factor, 0);
     let c = r.c;
     added(c, p, r.y)
 }

@@ -6,12 +6,12 @@ use native.Mathlib.Omega.{arith}
 use borrow.Author.Needs.{needs}
 use lib.ListN.{length, take}
 use lib.Seq.{length-take-le}
 use Rattle.field.specs.Poly.{hornerEach, ofEach}
-use Rattle.field.proofs.Table.{Width, width-modulus}
+use Rattle.field.proofs.Table.{Width, width-pos}
 use Rattle.field.proofs.Places.{length-hornerEach, length-ofEach, ofEach-square}
 use Rattle.field.proofs.Reciprocals.{partPower, inverses-start, inverses-next, inverses-last}
-use Rattle.field.proofs.inverse_each.Statement.{statement}
-use Rattle.field.proofs.inverse_each.Tie as tie
+use Rattle.field_places.proofs.inverse_each.Statement.{statement}
+use Rattle.field_places.proofs.inverse_each.Tie as tie
 
 abbrev Inv-loop : tie.InvT-loop
 Inv-loop m v n r₀ k₀ r k = (0 < k) × (Width m → k ≤ m) × (r ≡ ofEach m (partPower m k) v)
@@ -24,7 +24,7 @@ smaller-requires c κs = search needs
 
 loop-holds : tie.Need-loop-holds Inv-loop μ-loop
 loop-holds c =
-    let a = c .before .before .args in (omega arith, (λ w. width-modulus _ w .pos), inverses-start (a .m) (a .v .now))
+    let a = c .before .before .args in (omega arith, width-pos _, inverses-start (a .m) (a .v .now))
 
 slice-aggregate-horner-each : tie.Need-slice-aggregate-horner-each Inv-loop μ-loop
 slice-aggregate-horner-each c = sym (ap length (c .before .before .loop .inv .2) ∙ length-ofEach _ _ _)
