@@ -4,11 +4,11 @@ use Prim.Native.Nat.{_+_, _-_, _≤_}
 use native.Mathlib.Omega.{arith}
 use borrow.Author.Needs.{needs}
 use lib.ListN.{length}
 use Rattle.poly.specs.Register.{turns, register as registerOf}
-use Rattle.poly.specs.Registered.{figure}
+use Rattle.register.specs.Registered.{figure}
 use Rattle.poly.proofs.Steps.{turn-small, start-small, turns-start, turns-none, turns-step}
-use Rattle.poly.proofs.register.run.Statement.{statement}
-use Rattle.poly.proofs.register.run.Tie as tie
+use Rattle.register.proofs.run.Statement.{statement}
+use Rattle.register.proofs.run.Tie as tie
 
 abbrev Inv-loop : tie.InvT-loop
 Inv-loop m s r₀ n₀ r n =

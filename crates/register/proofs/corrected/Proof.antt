@@ -1,12 +1,12 @@
--- `poly::register::corrected` meets its contract. Assumes nothing.
+-- `register::register::corrected` meets its contract. Assumes nothing.
 use mathlib.Core.Path.{_≡_, _∙_}
 use native.Mathlib.Omega.{arith}
 use borrow.Author.Needs.{needs}
 use lib.ListN.{length}
-use Rattle.poly.specs.Registered.{figure}
+use Rattle.register.specs.Registered.{figure}
 use Rattle.poly.proofs.Steps.{corrected-by}
-use Rattle.poly.proofs.register.corrected.Statement.{statement}
-use Rattle.poly.proofs.register.corrected.Tie as tie
+use Rattle.register.proofs.corrected.Statement.{statement}
+use Rattle.register.proofs.corrected.Tie as tie
 
 inverse-requires : tie.Need-inverse-requires
 inverse-requires c κs = search needs

@@ -1,9 +1,9 @@
--- `poly::register::start` meets its contract. Assumes nothing.
+-- `register::register::start` meets its contract. Assumes nothing.
 use mathlib.Core.Path.{refl}
 use borrow.Author.Needs.{needs}
 use Rattle.poly.specs.Register.{start as startOf, longest}
-use Rattle.poly.proofs.register.start.Statement.{statement}
-use Rattle.poly.proofs.register.start.Tie as tie
+use Rattle.register.proofs.start.Statement.{statement}
+use Rattle.register.proofs.start.Tie as tie
 
 array-write-one : tie.Need-array-write-one
 array-write-one c = search needs

@@ -6,9 +6,9 @@ use native.Mathlib.Omega.{arith}
 use borrow.Author.Needs.{needs}
 use lib.ListN.{length, getD, set}
 use Rattle.bits.specs.Xor.{_⊕_}
 use Rattle.poly.proofs.Steps.{partly, partly-start, partly-step, partly-all}
-use Rattle.poly.proofs.register.added.Statement.{statement}
-use Rattle.poly.proofs.register.added.Tie as tie
+use Rattle.register.proofs.added.Statement.{statement}
+use Rattle.register.proofs.added.Tie as tie
 
 abbrev Inv-loop : tie.InvT-loop
 Inv-loop y p r₀ i₀ r i = (y ≤ i) × (i ≤ 257) × (r ≡ partly r₀ p y i)

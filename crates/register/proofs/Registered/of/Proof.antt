@@ -1,10 +1,11 @@
--- `poly::Registered::of` meets its contract. Assumes nothing.
+-- `register::Registered::of` meets its contract. Assumes nothing.
 use mathlib.Core.Path.{sym, _∙_}
 use borrow.Author.Needs.{needs}
-use Rattle.poly.specs.Registered.{figure}
-use Rattle.poly.proofs.Answers.{accepted, refused, found}
-use Rattle.poly.proofs.register.Registered.of.Statement.{statement}
-use Rattle.poly.proofs.register.Registered.of.Tie as tie
+use Rattle.register.specs.Registered.{figure}
+use Rattle.poly.proofs.Answers.{accepted}
+use Rattle.register.proofs.Answers.{refused, found}
+use Rattle.register.proofs.Registered.of.Statement.{statement}
+use Rattle.register.proofs.Registered.of.Tie as tie
 
 refusal-requires : tie.Need-refusal-requires
 refusal-requires c κs = search needs

@@ -7,10 +7,10 @@ use borrow.Author.Needs.{needs}
 use lib.ListN.{getD}
 use Rattle.bits.specs.Xor.{_⊕_}
 use Rattle.bits.specs.Bits.{from}
 use Rattle.poly.specs.Polynomials.{sum}
 use Rattle.poly.proofs.Steps.{rest, rest-start, rest-step, rest-none}
-use Rattle.poly.proofs.register.total.Statement.{statement}
-use Rattle.poly.proofs.register.total.Tie as tie
+use Rattle.register.proofs.total.Statement.{statement}
+use Rattle.register.proofs.total.Tie as tie
 
 abbrev Inv-loop : tie.InvT-loop
 Inv-loop x l p d₀ i₀ d i = (i ≤ l + 1) × (rest p l d i ≡ d₀ ⊕ sum (map (λ k. getD p k 0) (from 1 l)))

@@ -1,11 +1,11 @@
--- `poly::register::refusal` meets its contract. Assumes nothing.
+-- `register::register::refusal` meets its contract. Assumes nothing.
 use mathlib.Core.Path.{sym, _∙_}
 use borrow.Author.Needs.{needs}
 use borrow.Author.Tests.{not-true, not-false}
 use Rattle.field.proofs.Table.{modulus-none, modulus-some}
 use Rattle.poly.proofs.Answers.{number-no-width, number-long, number-element, number-none}
-use Rattle.poly.proofs.register.refusal.Statement.{statement}
-use Rattle.poly.proofs.register.refusal.Tie as tie
+use Rattle.register.proofs.refusal.Statement.{statement}
+use Rattle.register.proofs.refusal.Tie as tie
 
 modulus-requires : tie.Need-modulus-requires
 modulus-requires c κs = search needs

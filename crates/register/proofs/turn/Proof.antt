@@ -2,10 +2,10 @@
 use mathlib.Core.Path.{sym}
 use native.Mathlib.Omega.{arith}
 use borrow.Author.Needs.{needs}
-use Rattle.poly.specs.Registered.{figure}
+use Rattle.register.specs.Registered.{figure}
 use Rattle.poly.proofs.Steps.{turn-skip, turn-fix, turn-grow}
-use Rattle.poly.proofs.register.turn.Statement.{statement}
-use Rattle.poly.proofs.register.turn.Tie as tie
+use Rattle.register.proofs.turn.Statement.{statement}
+use Rattle.register.proofs.turn.Tie as tie
 
 add-t11 : tie.Need-add-t11
 add-t11 c = search needs

@@ -1,13 +1,13 @@
--- `poly::register::discrepancy` meets its contract. Assumes nothing.
+-- `register::register::discrepancy` meets its contract. Assumes nothing.
 use mathlib.Core.Path.{_≡_, sym, _∙_}
 use native.Mathlib.Omega.{arith}
 use borrow.Author.Needs.{needs}
 use lib.ListN.{length}
 use lib.Seq.{length-take-le}
-use Rattle.poly.specs.Registered.{figure}
+use Rattle.register.specs.Registered.{figure}
 use Rattle.poly.proofs.Steps.{discrepancy-by}
-use Rattle.poly.proofs.register.discrepancy.Statement.{statement}
-use Rattle.poly.proofs.register.discrepancy.Tie as tie
+use Rattle.register.proofs.discrepancy.Statement.{statement}
+use Rattle.register.proofs.discrepancy.Tie as tie
 
 add-e : tie.Need-add-e
 add-e c = search needs

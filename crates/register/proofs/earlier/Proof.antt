@@ -4,10 +4,10 @@ use Prim.Native.Nat.{ℕ, _+_, _-_, _≤_}
 use native.Mathlib.Omega.{arith}
 use borrow.Author.Needs.{needs}
 use lib.ListN.{length, length-set, length-replicate}
-use Rattle.poly.specs.Registered.{Earlier}
+use Rattle.poly.specs.Parts.{Earlier}
 use Rattle.poly.proofs.Steps.{earlier-step}
-use Rattle.poly.proofs.register.earlier.Statement.{statement}
-use Rattle.poly.proofs.register.earlier.Tie as tie
+use Rattle.register.proofs.earlier.Statement.{statement}
+use Rattle.register.proofs.earlier.Tie as tie
 
 abbrev Inv-loop : tie.InvT-loop
 Inv-loop s n l w₀ i₀ w i = (i ≤ l + 1) × (length w ≡ 257) × Earlier s n i w

@@ -16,7 +16,8 @@ ghost use Rattle.poly.specs.Register.{
   register as registerOf,
   registerNumber,
 };
-ghost use Rattle.poly.specs.Registered.{figure, Earlier, registeredOf};
+ghost use Rattle.poly.specs.Parts.{Earlier};
+ghost use Rattle.register.specs.Registered.{figure, registeredOf};
 
 // A register: its length and its connection polynomial's coefficients 0 to 256, with 0 past the length; or the number of
 // a refusal, with length 0 and coefficients 0.
