@@ -24,7 +24,7 @@ pub extern "C" fn bench_chain(m: u8, a: u16, b: u16, n: u32) -> u16
 pub extern "C" fn bench_horner(m: u8, r: &mut [u16], a: &[u16], c: u16)
     ensures { λ _. ⌜ now (r .exit) ≡ hornerEach m c (now (r .entry)) (now (a .entry)) ⌝ }
 {
-    field::horner_each(m, r, a, c);
+    field_places::horner_each(m, r, a, c);
 }
 
 // The square test.

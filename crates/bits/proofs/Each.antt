@@ -43,14 +43,6 @@ module _ (f : ℕ → ℕ → ℕ) where
   take-eachWith (suc n) (x ∷ d) [] = refl
   take-eachWith (suc n) (x ∷ d) (y ∷ s) = ap (_∷_ (f x y)) (take-eachWith n d s)
 
-  -- what lies past the end of the second list is as it was
-  pub eachWith-past : (d s : List ℕ) (j : ℕ) → length s ≤ j → getD (eachWith f d s) j 0 ≡ getD d j 0
-  unfolding eachWith
-  eachWith-past [] s j h = refl
-  eachWith-past (x ∷ d) [] j h = refl
-  eachWith-past (x ∷ d) (y ∷ s) zero h = absurd (not-suc-le-zero h)
-  eachWith-past (x ∷ d) (y ∷ s) (suc j) h = eachWith-past d s j (le-of-suc-le-suc h)
-
   pub eachWith-at : (d s : List ℕ) (j : ℕ) → j < length d → j < length s → getD (eachWith f d s) j 0 ≡ f (getD d j 0) (getD s j 0)
   unfolding eachWith
   eachWith-at [] s j h k = absurd (not-suc-le-zero h)

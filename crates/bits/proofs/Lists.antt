@@ -1,13 +1,13 @@
--- Numbers from k on, maps over them, tests of every one, and parts of lists. Assumes nothing.
+-- Numbers from k on, maps over them, tests of every one, and bounds on parts of lists. Assumes nothing.
 use mathlib.Core.Path.{_≡_, refl, sym, ap, ap₂, _∙_}
 use mathlib.Core.Bool.{Bool, true, false, _&&_, false≢true}
 use mathlib.Core.List.{List, [], _∷_, _++_, map}
 use Prim.Native.Nat.{ℕ, zero, suc, _+_, _≤_, _<_, suc-le-suc, zero-le}
-use native.Mathlib.Nat.{add-zero, zero-add, suc-add, zero-lt-suc, le-of-suc-le-suc, not-suc-le-zero, lt-of-le-of-lt, min-le-left}
+use native.Mathlib.Nat.{add-zero, zero-add, suc-add, zero-lt-suc, le-of-suc-le-suc, not-suc-le-zero, lt-of-le-of-lt}
 use native.Mathlib.Numerals.{add-one}
 use native.Mathlib.Omega.{arith}
-use lib.ListN.{length, getD, take, drop, length-map, length-take, length-drop, drop-of-length-le, List·getD-eq-default}
-use lib.Seq.{ext-getD, getD-take, getD-drop, drop-cons}
+use lib.ListN.{length, getD, take, drop, length-map, drop-of-length-le, List·getD-eq-default}
+use lib.Seq.{getD-drop, drop-cons}
 use Rattle.bits.specs.Bits.{from, every}
 
 pub cons-eq : {x y : ℕ} {l r : List ℕ} → x ≡ y → l ≡ r → x ∷ l ≡ y ∷ r
@@ -121,14 +121,3 @@ take-below c (suc m) (x ∷ l) h (suc k) = take-below c m l (λ k. h (suc k)) k
 
 pub drop-below : (c m : ℕ) (l : List ℕ) → ((k : ℕ) → getD l k 0 < c) → (k : ℕ) → getD (drop m l) k 0 < c
 drop-below c m l h k = rw getD-drop (h (m + k))
-
--- parts of m numbers from c on are equal where their numbers are
-pub part-same : (c m : ℕ) (l r : List ℕ) → length l ≡ length r → ((j : ℕ) → c ≤ j → j < c + m → getD l j 0 ≡ getD r j 0)
-    → take m (drop c l) ≡ take m (drop c r)
-part-same c m l r e h =
-    ext-getD 0 (take m (drop c l)) (take m (drop c r)) (simp (length-take, length-drop, e))
-    (λ i k.
-    let short : length (take m (drop c l)) ≤ m = rw length-take (min-le-left m (length (drop c l))) in
-    let b : i < m = omega arith in
-    getD-take m (drop c l) i 0 b ∙ getD-drop c l i 0 ∙ h (c + i) (omega arith) (omega arith)
-    ∙ sym (getD-take m (drop c r) i 0 b ∙ getD-drop c r i 0))

@@ -82,16 +82,6 @@ put-append (b ∷ bs) i s u h =
     ap (putBits bs (suc i)) (set-append s u i b (omega arith))
     ∙ put-append bs (suc i) (setBit s i b) u (rw (length-setBit s i b) (omega arith))
 
--- bytes cleared one after another
-cleared-suc : (i : ℕ) (out : List ℕ) → i < length out → set (over (replicate i 0) out) i 0 ≡ over (replicate (suc i) 0) out
-unfolding over
-cleared-suc i [] h = absurd (not-suc-le-zero h)
-cleared-suc zero (x ∷ out) h = refl
-cleared-suc (suc i) (x ∷ out) h = ap (_∷_ 0) (cleared-suc i out (le-of-suc-le-suc h))
-
-pub cleared-next : (i : ℕ) (out : List ℕ) → i < length out → set (over (replicate i 0) out) i 0 ≡ over (replicate (i + 1) 0) out
-cleared-next i out h = cleared-suc i out h ∙ ap (λ (k : ℕ). over (replicate k 0) out) (sym (add-one i))
-
 -- in bytes that are 0 they make the packed row
 put-zeros : {n : ℕ} {bs : List ℕ} → Row n bs → putBits bs 0 (replicate (bytesFor n) 0) ≡ pack bs
 put-zeros {n} {bs} r =

@@ -1,6 +1,6 @@
 -- Document 01, 'Bits': packed rows, lists of bytes whose bit i has value 2^(i mod 8) in byte i div 8. Assumes nothing.
 use Prim.Native.Nat.{ℕ, zero, suc, _+_, _-_, _*_, _/_, _%_, _^_, _<_}
-use mathlib.Core.Bool.{Bool, true, cond, _&&_, _||_}
+use mathlib.Core.Bool.{Bool, true, cond, _&&_}
 use mathlib.Core.List.{List, [], _∷_, _++_, map}
 use lib.Dec.{eqb, leb}
 use lib.ListN.{length, getD, take, drop, set, replicate}
@@ -87,10 +87,6 @@ eachWith f (x ∷ d) (y ∷ s) = f x y ∷ eachWith f d s
 unfoldable pub xorRow : List ℕ → List ℕ → List ℕ
 xorRow d s = eachWith _⊕_ d s
 
--- the part from index a on, changed by f
-unfoldable pub onPart : ℕ → (List ℕ → List ℕ) → List ℕ → List ℕ
-onPart a f l = take a l ++ f (drop a l)
-
 -- the bytes from the output's start; bytes beyond keep their contents
 unfoldable pub over : List ℕ → List ℕ → List ℕ
 over bytes out = bytes ++ drop (length bytes) out
@@ -102,14 +98,6 @@ padded n l = l ++ replicate (n - length l) 0
 -- the w bits of s from bit b on as a packed row at the output's start; nothing changes where it has no room
 unfoldable pub rowWritten : List ℕ → ℕ → ℕ → List ℕ → List ℕ
 rowWritten s b w out = cond (leb (bytesFor w) (length out)) (over (pack (map (bitAt s) (from b w))) out) out
-
--- two rows of n bytes, at a and at b, lie within len bytes and do not overlap
-unfoldable pub rowsApart : ℕ → ℕ → ℕ → ℕ → Bool
-rowsApart n a b len = leb (a + n) len && leb (b + n) len && (leb (a + n) b || leb (b + n) a)
-
--- the row of n bytes at b added to the row at a; nothing changes where they are not two rows of w
-unfoldable pub xorRows : ℕ → ℕ → ℕ → List ℕ → List ℕ
-xorRows n a b w = cond (rowsApart n a b (length w)) (onPart a (λ d. xorRow d (take n (drop b w))) w) w
 
 -- the sum of x_i·y_i by exclusive or: of bits, their product over two elements
 unfoldable pub dot : List ℕ → List ℕ → ℕ

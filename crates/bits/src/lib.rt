@@ -1,27 +1,7 @@
-// Packed rows of bits, read and written bit by bit (document 01, 'Bits').
+// Bits of packed rows, read and written one by one (document 01, 'Bits').
 ghost use mathlib.Core.Path.{_≡_};
-ghost use mathlib.Core.Bool.{true};
-ghost use mathlib.Core.List.{map};
-ghost use Prim.Native.Nat.{_+_, _%_, _^_, _≤_, _<_, min};
-ghost use lib.Count.{ones};
-ghost use lib.ListN.{length, take, drop, replicate};
-ghost use Rattle.bits.specs.Bits.{
-  from,
-  bytesFor,
-  bitAt,
-  setBit,
-  putBits,
-  over,
-  rowWritten,
-  weight as weightOf,
-  fillerClear,
-  wellFormed,
-  xorRow,
-  xorRows,
-  onPart,
-  rowsApart,
-  rowProduct,
-};
+ghost use Prim.Native.Nat.{min};
+ghost use Rattle.bits.specs.Bits.{bytesFor, bitAt, setBit, weight as weightOf, fillerClear, wellFormed};
 
 // The bytes of a row of n bits, n / 8 rounded up.
 pub fn bytes_for(n: usize) -> usize
@@ -95,78 +75,6 @@ pub fn well_formed(s: &[u8], n: usize) -> bool
     filler_clear(s, n)
 }
 
-// The bytes of src added to those of dst, as far as both go.
-pub fn xor_row(dst: &mut [u8], src: &[u8])
-    ensures { λ _. ⌜ now (dst .exit) ≡ xorRow (now (dst .entry)) (now (src .entry)) ⌝ }
-{
-    let n = smaller(src.len(), dst.len());
-    let mut i = 0;
-    while i < n {
-        dst[i] ^= src[i];
-        i += 1;
-    }
-}
-
-// Of one workspace, the row of n bytes at b added to the row at a; nothing where they are not two rows of it.
-pub fn xor_rows(w: &mut [u8], a: usize, b: usize, n: usize)
-    ensures { λ _. ⌜ now (w .exit) ≡ xorRows n a b (now (w .entry)) ⌝ }
-{
-    if !rows_apart(w.len(), a, b, n) {
-        return;
-    }
-    xor_apart(w, a, b, n);
-}
-
-// The parity of the and of the row and the pattern, over the pattern's bytes.
-pub fn row_product(row: &[u8], pat: &[u8]) -> u8
-    ensures { λ r. ⌜ r ≡ rowProduct (now (row .entry)) (now (pat .entry)) ⌝ }
-{
-    let n = smaller(row.len(), pat.len());
-    let mut acc: u8 = 0;
-    let mut i = 0;
-    while i < n {
-        acc ^= row[i] & pat[i];
-        i += 1;
-    }
-    parity(acc)
-}
-
-// The w bits of s from bit b on become a packed row at the start of out, with zero filler; nothing where it has no room.
-pub fn write_row(out: &mut [u8], s: &[u8], b: u32, w: u32)
-    ensures { λ _. ⌜ now (out .exit) ≡ rowWritten (now (s .entry)) b w (now (out .entry)) ⌝ }
-{
-    let n = bytes_for(w as usize);
-    if out.len() < n {
-        return;
-    }
-    clear_bytes(out, n);
-    copy_bits(out, s, b as usize, w as usize);
-}
-
-// The first n bytes become 0.
-fn clear_bytes(out: &mut [u8], n: usize)
-    requires { ⌜ n ≤ length (now out) ⌝ }
-    ensures { λ _. ⌜ now (out .exit) ≡ over (replicate n 0) (now (out .entry)) ⌝ }
-{
-    let mut i = 0;
-    while i < n {
-        out[i] = 0;
-        i += 1;
-    }
-}
-
-// The w bits of s from bit b on become the first bits of out.
-fn copy_bits(out: &mut [u8], s: &[u8], b: usize, w: usize)
-    requires { ⌜ b + w < 2 ^ 64 ⌝ }
-    ensures { λ _. ⌜ now (out .exit) ≡ putBits (map (bitAt (now (s .entry))) (from b w)) 0 (now (out .entry)) ⌝ }
-{
-    let mut j = 0;
-    while j < w {
-        set_bit(out, j, bit_at(s, b + j));
-        j += 1;
-    }
-}
-
 // A byte as a usize.
 fn wide(x: u8) -> usize
     ensures { λ r. ⌜ r ≡ x ⌝ }
@@ -174,47 +82,9 @@ fn wide(x: u8) -> usize
     x as usize
 }
 
-// The number of ones, modulo 2.
-fn parity(x: u8) -> u8
-    ensures { λ r. ⌜ r ≡ ones x % 2 ⌝ }
-{
-    (u32::count_ones(x as u32) & 1) as u8
-}
-
 // The smaller of two lengths.
 pub fn smaller(a: usize, b: usize) -> usize
     ensures { λ r. ⌜ r ≡ min a b ⌝ }
 {
     if a < b { a } else { b }
-}
-
-// Two rows of n bytes, at a and at b, lie within len bytes and do not overlap.
-fn rows_apart(len: usize, a: usize, b: usize, n: usize) -> bool
-    ensures { λ r. ⌜ r ≡ rowsApart n a b len ⌝ }
-{
-    if len < n {
-        return false;
-    }
-    if len - n < a {
-        return false;
-    }
-    if len - n < b {
-        return false;
-    }
-    if a + n <= b {
-        return true;
-    }
-    b + n <= a
-}
-
-// The row of n bytes at b added to the row at a, for two rows of w.
-fn xor_apart(w: &mut [u8], a: usize, b: usize, n: usize)
-    requires { ⌜ rowsApart n a b (length (now w)) ≡ true ⌝ }
-    ensures { λ _. ⌜ now (w .exit) ≡ onPart a (λ d. xorRow d (take n (drop b (now (w .entry))))) (now (w .entry)) ⌝ }
-{
-    let mut k = 0;
-    while k < n {
-        w[a + k] ^= w[b + k];
-        k += 1;
-    }
 }

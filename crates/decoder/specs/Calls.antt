@@ -5,7 +5,7 @@ use mathlib.Core.List.{List, [], _∷_}
 use mathlib.Core.Option.{Option, none, some}
 use lib.Dec.{eqb, ltb}
 use lib.ListN.{length}
-use Rattle.bits.specs.Bits.{bytesFor, unpack, pack, ones, fillerClear, over}
+use Rattle.bits.specs.Bits.{bytesFor, unpack, pack, fillerClear, over}
 use Rattle.field.specs.Numbers.{firstOf}
 use Rattle.key.specs.Keys.{Key, unsound}
 use Rattle.code.specs.Publish.{capsuleBits}

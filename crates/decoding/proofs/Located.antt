@@ -11,15 +11,15 @@ use Rattle.field.specs.Poly.{value}
 use Rattle.field.proofs.Arrays.{every-elements}
 use Rattle.poly.specs.Polynomials.{monic, valuesAt}
 use Rattle.poly.specs.Register.{register, registerNumber}
-use Rattle.poly.specs.Registered.{registered, registeredOf}
-use Rattle.poly.specs.declared.register.Registered.{Registered}
+use Rattle.register.specs.Registered.{registered, registeredOf}
+use Rattle.register.specs.declared.Registered.{Registered}
 use Rattle.poly.proofs.Answers.{accepted}
+use Rattle.poly.proofs.AtPoints.{take-values}
 use Rattle.poly.proofs.RegisterLaws.{register-length}
 use Rattle.key.specs.Keys.{keyOf}
 use Rattle.decoder.specs.Decoding.{reversed, places}
 use Rattle.decoding.specs.Parts.{backward, mark, packed}
 use Rattle.bits.proofs.Padded.{take-padded}
-use Rattle.decoding.proofs.PowerSums.{take-values}
 
 module _ (c : List ℕ) (l : ℕ) where
   pub length-backward : length (backward c l) ≡ l

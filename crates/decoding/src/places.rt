@@ -1,5 +1,5 @@
 // The places that a register gives.
-use poly::Registered;
+use register::Registered;
 ghost use mathlib.Core.Path.{_≡_};
 ghost use mathlib.Core.List.{[], map};
 ghost use Prim.Native.Nat.{_≤_};

@@ -17,10 +17,11 @@ fn weights(m: u8, g: &[u16], points: &[u16]) -> [u16; 8192]
     requires { ⌜ (isWidth m ≡ true) × (length (now points) ≤ 8192) ⌝ }
     ensures { λ r. ⌜ take (length (now (points .entry))) r ≡ map (squareEntry (keyOf m (now (points .entry)) (now (g .entry))) 0) (now (points .entry)) ⌝ }
 {
+    let n = points.len();
     let v = poly::values(m, g, points);
-    let h = field::inverse_each(m, &v);
+    let h = field_places::inverse_each(m, &v[..n]);
     let mut p = h;
-    field::horner_each(m, &mut p, &h, 0);
+    field_places::horner_each(m, &mut p, &h[..n], 0);
     p
 }
 
@@ -48,7 +49,7 @@ fn point_sums(m: u8, g: &[u16], points: &[u16]) -> [u16; 256]
     let mut k = 0;
     while k < 2 * g.len() {
         s[k] = total(&p[..n]);
-        field::horner_each(m, &mut p, points, 0);
+        field_places::horner_each(m, &mut p, points, 0);
         k += 1;
     }
     s

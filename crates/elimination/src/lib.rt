@@ -91,7 +91,7 @@ fn clear_row(w: &mut [u8], t: &[u8], j: usize)
     if bits::bit_at(w, j) == 0 {
         return;
     }
-    bits::xor_row(w, t);
+    packed::xor_row(w, t);
 }
 
 // The first `rows` rows, cleared in column j by the row t.

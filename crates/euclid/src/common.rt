@@ -111,7 +111,7 @@ fn multiple(m: u8, c: u16, b: [u16; 129]) -> [u16; 129]
 {
     let mut r = b;
     let s = [c; 129];
-    field::horner_each(m, &mut r, &s, 0);
+    field_places::horner_each(m, &mut r, &s, 0);
     r
 }
 

@@ -15,7 +15,7 @@ use Rattle.field.specs.Field.{isWidth, modulusOf, mulMod, mul, power, la
 use Rattle.field.proofs.Horner.{additive-zero}
 use Rattle.field.proofs.Modular.{mulMod-comm, mulMod-add, mulMod-low, mulMod-lt, mulMod-assoc, one-mulMod}
 use Rattle.field.proofs.Inverses.{square, square-add as squareMod-add, frobenius, fermat, unit}
-use Rattle.field.proofs.Table.{Width, by-width, width-over-one, width-modulus, width-test}
+use Rattle.field.proofs.Table.{Width, by-width, width-over-one, width-pos, width-modulus, width-test}
 use Rattle.field.proofs.Search.{lastBelow-passes, lastBelow-lt, lastBelow-none}
 
 pub mul-at : (m : ℕ) → Width m → (a b : ℕ) → mul m a b ≡ mulMod m (modulusOf m) a b
@@ -71,10 +71,10 @@ module _ (m : ℕ) where
 
 module _ (m : ℕ) (w : Width m) where
   pub one-lt : 1 < 2 ^ m
-  one-lt = pow-lt (width-modulus m w .pos)
+  one-lt = pow-lt (width-pos m w)
 
   pub one-mul-low : (a : ℕ) → mul m 1 a ≡ a % 2 ^ m
-  one-mul-low a = mul-at m w 1 a ∙ one-mulMod m (modulusOf m) (width-modulus m w) a
+  one-mul-low a = mul-at m w 1 a ∙ one-mulMod m (modulusOf m) (width-modulus m w) (width-pos m w) a
 
   pub one-mul : {a : ℕ} → a < 2 ^ m → mul m 1 a ≡ a
   one-mul {a} h = one-mul-low a ∙ mod-eq-of-lt h

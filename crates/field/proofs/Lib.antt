@@ -6,6 +6,7 @@ pub mod Table
 pub mod Search
 pub mod Laws
 pub mod Numbers
+pub mod Products
 pub mod Machine
 pub mod Guards
 pub mod Places

@@ -10,9 +10,8 @@ use Rattle.bits.proofs.Xor.{Digit, off, on, digit, low, xor-self, zero-xor, xor
 use Rattle.field.specs.Field.{mulMod}
 use Rattle.field.proofs.Horner.{Additive, additive-zero, xtime, horner, horner-comm, add-horner, horner-one, mulMod-horner}
 
--- f has degree m, which is not 0
+-- f has degree m
 pub record Modulus (m f : ℕ) : Type 0 where
-  pub pos : 0 < m
   pub lo : 2 ^ m ≤ f
   pub hi : f < 2 ^ suc m
 
@@ -69,5 +68,5 @@ module _ (m f : ℕ) (M : Modulus m f) where
       ∙ horner-comm m f m c m a (b % 2 ^ m) ∙ ap (horner m f m a) (sym (mulMod-horner m f b c))
       ∙ sym (mulMod-comm m f a (mulMod m f b c) ∙ mulMod-as-horner a (mulMod-lt b c))
 
-  pub one-mulMod : (a : ℕ) → mulMod m f 1 a ≡ a % 2 ^ m
-  one-mulMod a = mulMod-as-horner a (pow-lt (M .pos)) ∙ horner-one m f m a (le-refl m)
+  pub one-mulMod : 0 < m → (a : ℕ) → mulMod m f 1 a ≡ a % 2 ^ m
+  one-mulMod p a = mulMod-as-horner a (pow-lt p) ∙ horner-one m f m a (le-refl m)

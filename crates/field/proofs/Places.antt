@@ -1,14 +1,17 @@
--- One step of Horner's rule at each place. Assumes nothing.
-use mathlib.Core.Path.{_≡_}
+-- One step of Horner's rule at each place, and a function of the number at each place. Assumes nothing.
+use mathlib.Core.Path.{_≡_, refl, sym, ap, _∙_, fun-ext}
 use mathlib.Core.Bool.{false}
-use mathlib.Core.List.{List}
-use Prim.Native.Nat.{ℕ, _<_}
-use lib.ListN.{length, getD}
+use mathlib.Core.List.{List, [], _∷_, map}
+use Prim.Native.Nat.{ℕ, zero, suc, _≤_, _<_, suc-le-suc}
+use native.Mathlib.Nat.{zero-lt-suc, le-of-suc-le-suc, not-suc-le-zero}
+use lib.ListN.{length, getD, take, replicate, length-replicate}
 use Rattle.bits.specs.Xor.{_⊕_}
 use Rattle.bits.specs.Bits.{eachWith}
+use Rattle.bits.proofs.Lists.{cons-eq}
 use Rattle.bits.proofs.Each.{length-eachWith, eachWith-at}
+use Rattle.bits.proofs.Xor.{xor-zero}
 use Rattle.field.specs.Field.{isWidth, mul}
-use Rattle.field.specs.Poly.{hornerEach}
+use Rattle.field.specs.Poly.{hornerEach, ofEach}
 use Rattle.field.proofs.Table.{Width, by-width}
 
 module _ (m c : ℕ) (r s : List ℕ) where
@@ -25,3 +28,83 @@ module _ (m c : ℕ) (r s : List ℕ) where
 
   pub hornerEach-at : Width m → (i : ℕ) → i < length r → i < length s → getD (hornerEach m c r s) i 0 ≡ mul m (getD r i 0) (getD s i 0) ⊕ c
   hornerEach-at w i h k = rw (hornerEach-width w) (eachWith-at (λ x y. mul m x y ⊕ c) r s i h k)
+
+-- a function h of a list's numbers, followed by f with the same numbers
+module _ (h : ℕ → ℕ) where
+  pub each-map : (f : ℕ → ℕ → ℕ) (s : List ℕ) → eachWith f (map h s) s ≡ map (λ a. f (h a) a) s
+  unfolding eachWith
+  each-map f [] = refl
+  each-map f (a ∷ s) = ap (_∷_ (f (h a) a)) (each-map f s)
+
+  -- over another list: over ones, where h is 1; followed by f with the same numbers, or with its own; at the list's places
+  each-ones : ((a : ℕ) → h a ≡ 1) → (n : ℕ) (s : List ℕ) → eachWith (λ x a. h a) (replicate n 1) s ≡ replicate n 1
+  unfolding eachWith
+  each-ones e zero s = refl
+  each-ones e (suc n) [] = refl
+  each-ones e (suc n) (a ∷ s) = cons-eq (e a) (each-ones e n s)
+
+  each-again : (f : ℕ → ℕ → ℕ) (d s : List ℕ) → eachWith f (eachWith (λ x a. h a) d s) s ≡ eachWith (λ x a. f (h a) a) d s
+  unfolding eachWith
+  each-again f [] s = refl
+  each-again f (x ∷ d) [] = refl
+  each-again f (x ∷ d) (a ∷ s) = ap (_∷_ (f (h a) a)) (each-again f d s)
+
+  each-own : (f : ℕ → ℕ → ℕ) (d s : List ℕ) (n : ℕ) → n ≤ length s → (n < length s → length d ≤ n)
+      → eachWith f (eachWith (λ x a. h a) d s) (take n (eachWith (λ x a. h a) d s)) ≡ eachWith (λ x a. f (h a) (h a)) d s
+  unfolding eachWith
+  each-own f [] s n l e = refl
+  each-own f (x ∷ d) [] zero l e = refl
+  each-own f (x ∷ d) [] (suc n) l e = absurd (not-suc-le-zero l)
+  each-own f (x ∷ d) (a ∷ s) zero l e = absurd (not-suc-le-zero (e (zero-lt-suc (length s))))
+  each-own f (x ∷ d) (a ∷ s) (suc n) l e =
+      ap (_∷_ (f (h a) (h a))) (each-own f d s n (le-of-suc-le-suc l) (λ k. le-of-suc-le-suc (e (suc-le-suc k))))
+
+  take-each : (n : ℕ) (s : List ℕ) → length s ≤ n → take (length s) (eachWith (λ x a. h a) (replicate n 1) s) ≡ map h s
+  unfolding eachWith
+  take-each n [] l = refl
+  take-each zero (a ∷ s) l = absurd (not-suc-le-zero l)
+  take-each (suc n) (a ∷ s) l = ap (_∷_ (h a)) (take-each n s (le-of-suc-le-suc l))
+
+module _ (m : ℕ) (h : ℕ → ℕ) (s : List ℕ) where
+  pub ofEach-none : isWidth m ≡ false → ofEach m h s ≡ replicate 8192 1
+  unfolding ofEach
+  ofEach-none n = rw n
+
+  pub ofEach-width : Width m → ofEach m h s ≡ eachWith (λ x a. h a) (replicate 8192 1) s
+  unfolding ofEach
+  ofEach-width w = rw w
+
+  pub length-ofEach : length (ofEach m h s) ≡ 8192
+  length-ofEach =
+      by-width m
+      (λ w. ap length (ofEach-width w) ∙ length-eachWith (λ x a. h a) (replicate 8192 1) s ∙ length-replicate {A = ℕ} 8192 1)
+      (λ n. ap length (ofEach-none n) ∙ length-replicate {A = ℕ} 8192 1)
+
+  pub ofEach-ones : ((a : ℕ) → h a ≡ 1) → replicate 8192 1 ≡ ofEach m h s
+  ofEach-ones e = by-width m (λ w. sym (ofEach-width w ∙ each-ones h e 8192 s)) (λ n. sym (ofEach-none n))
+
+  pub take-ofEach : Width m → length s ≤ 8192 → take (length s) (ofEach m h s) ≡ map h s
+  take-ofEach w l = ap (take (length s)) (ofEach-width w) ∙ take-each h 8192 s l
+
+-- another function; one step of Horner's rule with the list; the squares
+module _ (m : ℕ) (h : ℕ → ℕ) (s : List ℕ) where
+  pub ofEach-same : (k : ℕ → ℕ) → (Width m → (a : ℕ) → h a ≡ k a) → ofEach m h s ≡ ofEach m k s
+  ofEach-same k e = by-width m (λ w. ap (λ f. ofEach m f s) (fun-ext (e w))) (λ n. ofEach-none m h s n ∙ sym (ofEach-none m k s n))
+
+  pub ofEach-step : (c : ℕ) → hornerEach m c (ofEach m h s) s ≡ ofEach m (λ a. mul m (h a) a ⊕ c) s
+  ofEach-step c =
+      by-width m
+      (λ w. hornerEach-width m c _ s w ∙ ap (λ (d : List ℕ). eachWith (λ x a. mul m x a ⊕ c) d s) (ofEach-width m h s w)
+      ∙ each-again h (λ x a. mul m x a ⊕ c) (replicate 8192 1) s
+      ∙ sym (ofEach-width m (λ a. mul m (h a) a ⊕ c) s w))
+      (λ n. hornerEach-none m c _ s n ∙ ofEach-none m h s n ∙ sym (ofEach-none m _ s n))
+
+  pub ofEach-square : (n : ℕ) → n ≤ length s → (n < length s → 8192 ≤ n)
+      → hornerEach m 0 (ofEach m h s) (take n (ofEach m h s)) ≡ ofEach m (λ a. mul m (h a) (h a)) s
+  ofEach-square n l e =
+      by-width m
+      (λ w. hornerEach-width m 0 _ _ w ∙ ap (λ (d : List ℕ). eachWith (λ x a. mul m x a ⊕ 0) d (take n d)) (ofEach-width m h s w)
+      ∙ each-own h (λ x a. mul m x a ⊕ 0) (replicate 8192 1) s n l (λ k. rw length-replicate (e k))
+      ∙ ap (λ (f : ℕ → ℕ). eachWith (λ x a. f a) (replicate 8192 1) s) (fun-ext λ a. xor-zero (mul m (h a) (h a)))
+      ∙ sym (ofEach-width m (λ a. mul m (h a) (h a)) s w))
+      (λ z. hornerEach-none m 0 _ _ z ∙ ofEach-none m h s z ∙ sym (ofEach-none m _ s z))

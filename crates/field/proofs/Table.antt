@@ -73,10 +73,12 @@ module _ (m : ℕ) (w : Width m) where
   unfolding isField
   width-over-one = ltb-true 1 m (and-left (ltb 1 m) _ checked)
 
+  pub width-pos : 0 < m
+  width-pos = omega (arith, width-over-one)
+
   pub width-modulus : Modulus m (modulusOf m)
   width-modulus =
       record {
-        pos = omega (arith, width-over-one);
         lo = leb-true (2 ^ m) (modulusOf m) (and-left (leb (2 ^ m) (modulusOf m)) _ small);
         hi = ltb-true (modulusOf m) (2 ^ suc m) (and-left (ltb (modulusOf m) (2 ^ suc m)) _ (and-right (leb (2 ^ m) (modulusOf m)) _ small));
       }

@@ -1,7 +1,7 @@
 -- Document 01, 'Field': GF(2^m) for m of 4, 12 and 13. An element is a number below 2^m whose digit of value 2^i is the
 -- coefficient of z^i. Addition is exclusive or. Products and inverses read the m low digits of their operands. Assumes nothing.
 use Prim.Native.Nat.{ℕ, zero, suc, _+_, _*_, _/_, _%_, _^_}
-use mathlib.Core.Bool.{Bool, cond, _||_}
+use mathlib.Core.Bool.{Bool, cond, _&&_, _||_}
 use mathlib.Core.List.{[], _∷_}
 use lib.Dec.{eqb, ltb}
 use lib.ListN.{getD}
@@ -30,6 +30,10 @@ reduced m f (suc k) c = reduced m f k (c ⊕ c / 2 ^ (m + k) % 2 * (f * 2 ^ k))
 -- a times b modulo f, of degree m
 unfoldable pub mulMod : ℕ → ℕ → ℕ → ℕ → ℕ
 mulMod m f a b = reduced m f m (polyMul m (a % 2 ^ m) b)
+
+-- the same where f has the degree m, at most 13; else 0
+unfoldable pub productBy : ℕ → ℕ → ℕ → ℕ → ℕ
+productBy m f a b = cond (ltb m 14 && eqb (f / 2 ^ m) 1) (mulMod m f a b) 0
 
 -- a times b in the field of width m; 0 where m is no width
 unfoldable pub mul : ℕ → ℕ → ℕ → ℕ

@@ -1,14 +1,10 @@
 // The fields GF(2^m) for m of 4, 12 and 13 (document 01, 'Field').
 ghost use mathlib.Core.Path.{_≡_};
-ghost use mathlib.Core.List.{[], _∷_, map};
-ghost use Prim.Native.Nat.{_^_, _<_, _≤_};
-ghost use mathlib.Core.Bool.{true};
+ghost use mathlib.Core.List.{[], _∷_};
+ghost use Prim.Native.Nat.{suc, _^_, _<_, _≤_};
 ghost use lib.Dec.{ltb};
-ghost use lib.ListN.{length};
-ghost use Rattle.bits.specs.Xor.{_⊕_};
-ghost use Rattle.bits.specs.Bits.{every, eachWith};
-ghost use Rattle.field.specs.Field.{isWidth, isElement, modulusOf, mul, inv};
-ghost use Rattle.field.specs.Poly.{hornerEach};
+ghost use Rattle.bits.specs.Bits.{every};
+ghost use Rattle.field.specs.Field.{isElement, modulusOf, mulMod, productBy, mul, inv};
 ghost use Rattle.field.specs.Answers.{elementsNumber, addOf, multiplyOf, invertOf};
 
 // What a public call answers: the element, or the number of a refusal.
@@ -27,11 +23,11 @@ pub fn modulus(m: u8) -> u16
     if m < 14 { MODULI[m as usize] } else { 0 }
 }
 
-// a·b modulo f by Horner's rule, from b's digit n - 1 down. Scalar callers take n = m; the loop over places takes the
+// a·b modulo f, of degree m, by Horner's rule from b's digit n - 1 down. Scalar callers take n = m; loops over places take the
 // constant 13, which the compiler unrolls once the product is inlined there, so that the loop vectorises.
 fn product(m: u8, f: u16, a: u16, b: u16, n: u16) -> u16
-    requires { ⌜ (isWidth m ≡ true) × (f ≡ modulusOf m) × (a < 2 ^ m) × (b < 2 ^ m) × (m ≤ n) × (n < 14) ⌝ }
-    ensures { λ r. ⌜ r ≡ mul m a b ⌝ }
+    requires { ⌜ (2 ^ m ≤ f) × (f < 2 ^ suc m) × (a < 2 ^ m) × (b < 2 ^ m) × (m ≤ n) × (n < 14) ⌝ }
+    ensures { λ r. ⌜ r ≡ mulMod m f a b ⌝ }
 {
     let mut r: u16 = 0;
     let mut k = n;
@@ -55,93 +51,33 @@ pub fn times(m: u8, a: u16, b: u16) -> u16
     product(m, f, a & mask, b & mask, m as u16)
 }
 
-// a^(2^m - 2): the exponent has m - 1 ones and a 0 in binary.
-fn reciprocal(m: u8, f: u16, a: u16) -> u16
-    requires { ⌜ (isWidth m ≡ true) × (f ≡ modulusOf m) × (a < 2 ^ m) ⌝ }
+// a·b modulo f, of the m low digits of a and b, for loops over places; 0 where f has not the degree m, at most 13.
+pub fn lane_product(m: u8, f: u16, a: u16, b: u16) -> u16
+    ensures { λ r. ⌜ r ≡ productBy m f a b ⌝ }
+{
+    if 13 < m {
+        return 0;
+    }
+    if f >> m != 1 {
+        return 0;
+    }
+    let mask: u16 = (1 << m) - 1;
+    product(m, f, a & mask, b & mask, 13)
+}
+
+// The inverse of a's m low digits in the field of width m, 0 for 0; 0 where m is no width. It is a^(2^m - 2): the exponent
+// has m - 1 ones and a 0 in binary.
+pub fn inverse(m: u8, a: u16) -> u16
     ensures { λ r. ⌜ r ≡ inv m a ⌝ }
 {
     let mut r: u16 = 1;
     let mut k = 1;
     while k < m {
-        let s = product(m, f, r, r, m as u16);
-        r = product(m, f, s, a, m as u16);
+        let s = times(m, r, r);
+        r = times(m, s, a);
         k += 1;
     }
-    product(m, f, r, r, m as u16)
-}
-
-// The inverse of a's m low digits in the field of width m, 0 for 0; 0 where m is no width.
-pub fn inverse(m: u8, a: u16) -> u16
-    ensures { λ r. ⌜ r ≡ inv m a ⌝ }
-{
-    let f = modulus(m);
-    if f == 0 {
-        return 0;
-    }
-    let mask: u16 = (1 << m) - 1;
-    reciprocal(m, f, a & mask)
-}
-
-// 1/x for each x of v, 0 for 0, and 0 where m is no width.
-pub fn inverse_each(m: u8, v: &[u16; 8192]) -> [u16; 8192]
-    ensures { λ r. ⌜ r ≡ map (inv m) (now (v .entry)) ⌝ }
-{
-    let a = &v[..];
-    if modulus(m) == 0 {
-        return [0u16; 8192];
-    }
-    reciprocal_each(m, a)
-}
-
-// x^(2^m - 2) for each x of a, as `reciprocal` for one: the loops over places vectorise.
-fn reciprocal_each(m: u8, a: &[u16]) -> [u16; 8192]
-    requires { ⌜ (isWidth m ≡ true) × (length (now a) ≡ 8192) ⌝ }
-    ensures { λ r. ⌜ r ≡ map (inv m) (now (a .entry)) ⌝ }
-{
-    let mut r = [1u16; 8192];
-    let mut k = 1;
-    while k < m {
-        r = square_each(m, r);
-        horner_each(m, &mut r, a, 0);
-        k += 1;
-    }
-    square_each(m, r)
-}
-
-// x·x for each x of v.
-fn square_each(m: u8, v: [u16; 8192]) -> [u16; 8192]
-    requires { ⌜ isWidth m ≡ true ⌝ }
-    ensures { λ r. ⌜ r ≡ map (λ x. mul m x x) v ⌝ }
-{
-    let s = v;
-    let mut r = v;
-    horner_each(m, &mut r, &s, 0);
-    r
-}
-
-// One step of Horner's rule at each place, r[i] := r[i]·a[i] + c, as far as both go; nothing where m is no width.
-pub fn horner_each(m: u8, r: &mut [u16], a: &[u16], c: u16)
-    ensures { λ _. ⌜ now (r .exit) ≡ hornerEach m c (now (r .entry)) (now (a .entry)) ⌝ }
-{
-    let f = modulus(m);
-    if f == 0 {
-        return;
-    }
-    horner_places(m, f, r, a, c);
-}
-
-// The same where m is a width and f its modulus. This loop vectorises.
-fn horner_places(m: u8, f: u16, r: &mut [u16], a: &[u16], c: u16)
-    requires { ⌜ (isWidth m ≡ true) × (f ≡ modulusOf m) ⌝ }
-    ensures { λ _. ⌜ now (r .exit) ≡ eachWith (λ x y. mul m x y ⊕ c) (now (r .entry)) (now (a .entry)) ⌝ }
-{
-    let mask: u16 = (1 << m) - 1;
-    let n = bits::smaller(r.len(), a.len());
-    let mut i = 0;
-    while i < n {
-        r[i] = product(m, f, r[i] & mask, a[i] & mask, 13) ^ c;
-        i += 1;
-    }
+    times(m, r, r)
 }
 
 // Every number is below 2^m.

@@ -1,11 +1,10 @@
 -- What lock answers and writes, and the terms of its private functions. Assumes nothing.
-use Prim.Native.Nat.{ℕ, zero, suc, _*_}
+use Prim.Native.Nat.{ℕ, zero, suc}
 use mathlib.Core.Bool.{cond}
 use mathlib.Core.List.{List, map}
 use lib.Dec.{eqb}
-use lib.ListN.{drop}
 use Rattle.bits.specs.Xor.{_⊕_}
-use Rattle.bits.specs.Bits.{from, bytesFor, bitAt, unpack, dot, over}
+use Rattle.bits.specs.Bits.{from, bitAt, unpack, dot, over}
 use Rattle.code.specs.Lock.{rowOf, lockNumber}
 use Rattle.code.specs.Lock as Lock
 use Rattle.locking.specs.declared.Locked.{Locked}

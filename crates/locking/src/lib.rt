@@ -3,7 +3,6 @@ ghost use mathlib.Core.Path.{_≡_};
 ghost use mathlib.Core.List.{map};
 ghost use Prim.Native.Nat.{_*_, _≤_, _<_};
 ghost use lib.ListN.{length, drop, replicate};
-ghost use Rattle.bits.specs.Xor.{_⊕_};
 ghost use Rattle.bits.specs.Bits.{from, every, bytesFor, bitAt, pack, fillerClear, over, rowProduct};
 ghost use Rattle.code.specs.Lock.{rowOf, lockNumber};
 ghost use Rattle.locking.specs.Locking.{lockedOf, lockOutput, capsuleBit};
@@ -25,7 +24,7 @@ pub fn lock(m: u8, n: u16, t: u16, public: &[u8], pattern: &[u8], out: &mut [u8]
     }
     let rows = (m as usize) * (t as usize);
     let capsule = capsule_of(public, pattern, rows, n as usize - rows);
-    bits::write_row(out, &capsule, 0, rows as u32);
+    packed::write_row(out, &capsule, 0, rows as u32);
     Locked::Done
 }
 
@@ -108,7 +107,7 @@ fn tail_of(pattern: &[u8], rows: usize, w: usize) -> [u8; 1024]
     ensures { λ t. ⌜ t ≡ over (pack (map (bitAt (now (pattern .entry))) (from rows w))) (replicate 1024 0) ⌝ }
 {
     let mut t = [0u8; 1024];
-    bits::write_row(&mut t, pattern, rows as u32, w as u32);
+    packed::write_row(&mut t, pattern, rows as u32, w as u32);
     t
 }
 
@@ -117,5 +116,5 @@ fn row_bit(public: &[u8], at: usize, tail: &[u8]) -> u8
     requires { ⌜ at ≤ length (now public) ⌝ }
     ensures { λ r. ⌜ r ≡ rowProduct (drop at (now (public .entry))) (now (tail .entry)) ⌝ }
 {
-    bits::row_product(&public[at..], tail)
+    packed::row_product(&public[at..], tail)
 }

@@ -1,19 +1,17 @@
--- The number of a refusal, by the tests of the code, and the answer that follows from it. Assumes nothing.
-use mathlib.Core.Path.{_≡_, refl, sym, ap, _∙_}
+-- The number of a refusal of the register's list, by the tests of the code. Assumes nothing.
+use mathlib.Core.Path.{_≡_, refl}
 use mathlib.Core.Bool.{Bool, true, false, not, cond}
 use mathlib.Core.List.{List}
-use Prim.Native.Nat.{ℕ, zero, suc, _≤_, _<_}
+use Prim.Native.Nat.{ℕ, _≤_, _<_}
 use native.Mathlib.Omega.{arith}
 use borrow.Author.Tests.{lt-ltb, le-ltb, ltb-false}
 use lib.Dec.{ltb}
-use lib.ListN.{length, replicate}
+use lib.ListN.{length}
 use Rattle.bits.specs.Bits.{every}
 use Rattle.field.specs.Numbers.{firstOf}
 use Rattle.field.specs.Field.{isWidth, isElement}
 use Rattle.field.proofs.Table.{Width}
-use Rattle.poly.specs.Register.{Register, longest, register, registerNumber}
-use Rattle.poly.specs.Registered.{registered, registeredOf}
-use Rattle.poly.specs.declared.register.Registered.{Registered}
+use Rattle.poly.specs.Register.{longest, registerNumber}
 
 module _ (m : ℕ) (s : List ℕ) where
   pub number-no-width : isWidth m ≡ false → registerNumber m s ≡ 1
@@ -43,15 +41,3 @@ module _ (m : ℕ) (s : List ℕ) where
       go true true e p q r z = absurd (omega arith)
       go true false false p q r z = absurd (omega arith)
       go true false true p q r z = (p, ltb-false 256 (length s) q, r)
-
-  -- the answers
-  pub refused : (n : ℕ) → n ≡ registerNumber m s → (n ≡ 0 → ⊥)
-      → _≡_ {A = Registered} record { refused = n; length = 0; c = replicate 257 0 } (registeredOf m s)
-  unfolding registeredOf registered longest
-  refused zero e h = absurd (h refl)
-  refused (suc n) e h = ap (λ (k : ℕ). registered k (register m s)) e
-
-  pub found : (r : Register) → registerNumber m s ≡ 0 → r ≡ register m s
-      → _≡_ {A = Registered} record { refused = 0; length = r .l; c = r .c } (registeredOf m s)
-  unfolding registeredOf registered
-  found r e h = ap (registered 0) h ∙ ap (λ (k : ℕ). registered k (register m s)) (sym e)

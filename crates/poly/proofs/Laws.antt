@@ -1,7 +1,7 @@
 -- What sums, comparisons and products of coefficient lists are. Assumes nothing.
 use Prim.Native.Nat.{ℕ, zero, suc, _+_, _-_, _^_, _<_}
 use mathlib.Core.Path.{_≡_, refl, sym, ap, ap₂, _∙_, subst}
-use mathlib.Core.Bool.{true, false, false≢true, _&&_}
+use mathlib.Core.Bool.{true, false≢true, _&&_}
 use mathlib.Core.List.{List, [], _∷_, _++_, map}
 use native.Mathlib.Nat.{not-suc-le-zero, zero-add, add-zero, sub-zero, sub-self}
 use native.Mathlib.Numerals.{add-one}

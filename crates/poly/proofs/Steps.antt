@@ -20,7 +20,7 @@ use Rattle.field.proofs.Table.{Width}
 use Rattle.field.proofs.Laws.{mul-comm}
 use Rattle.field.proofs.Places.{hornerEach-width, hornerEach-at}
 use Rattle.poly.specs.Polynomials.{sum}
-use Rattle.poly.specs.Registered.{Earlier}
+use Rattle.poly.specs.Parts.{Earlier}
 use Rattle.poly.specs.Register.{Register, start, discrepancy, corrected, turn, turns, register}
 
 -- the term of the place k in the discrepancy

@@ -1,3 +1,3 @@
 pub mod Polynomials
 pub mod Register
-pub mod Registered
+pub mod Parts

@@ -1,13 +1,13 @@
 -- Polynomials over GF(2^m) as lists of coefficients, the lowest first, and 'a square divides g'. Assumes nothing.
 use Prim.Native.Nat.{ℕ, zero, suc, _+_, _-_, _*_, _/_, _^_}
-use mathlib.Core.Bool.{Bool, true, false, cond, _&&_, _||_}
+use mathlib.Core.Bool.{Bool, true, false, _&&_, _||_}
 use mathlib.Core.List.{List, [], _∷_, _++_, map}
 use lib.Dec.{eqb}
-use lib.ListN.{length, getD, replicate}
+use lib.ListN.{length, getD}
 use Rattle.bits.specs.Xor.{_⊕_}
-use Rattle.bits.specs.Bits.{from, eachWith}
-use Rattle.field.specs.Field.{isWidth, mul}
-use Rattle.field.specs.Poly.{value}
+use Rattle.bits.specs.Bits.{from}
+use Rattle.field.specs.Field.{mul}
+use Rattle.field.specs.Poly.{value, ofEach}
 
 -- the sum of elements
 unfoldable pub sum : List ℕ → ℕ
@@ -27,7 +27,7 @@ monic l = l ++ (1 ∷ [])
 
 -- the monic polynomial with the lower coefficients g at each point, of at most 8192; 1 past them, and everywhere where m is no width
 unfoldable pub valuesAt : ℕ → List ℕ → List ℕ → List ℕ
-valuesAt m g points = cond (isWidth m) (eachWith (λ x a. value m (monic g) a) (replicate 8192 1) points) (replicate 8192 1)
+valuesAt m g points = ofEach m (value m (monic g)) points
 
 -- p·q: coefficient k is the sum of p_i·q_{k-i}
 unfoldable pub product : ℕ → List ℕ → List ℕ → List ℕ

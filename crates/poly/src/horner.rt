@@ -25,7 +25,7 @@ pub fn values(m: u8, g: &[u16], points: &[u16]) -> [u16; 8192]
     let mut k = g.len();
     while 0 < k {
         k -= 1;
-        field::horner_each(m, &mut r, points, g[k]);
+        field_places::horner_each(m, &mut r, points, g[k]);
     }
     r
 }

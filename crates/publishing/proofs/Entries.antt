@@ -1,42 +1,30 @@
 -- The entries α^i / g(α) at all places, from one i to the next, and the rows of H that their digits are. Assumes nothing.
-use mathlib.Core.Path.{_≡_, refl, sym, ap, ap₂, _∙_}
-use mathlib.Core.List.{List, [], _∷_, _++_, map, map-map, map-append}
-use Prim.Native.Nat.{ℕ, zero, suc, _+_, _*_, _/_, _%_, _^_, _≤_}
-use native.Mathlib.Nat.{zero-add, zero-mul, mul-comm, not-suc-le-zero, le-of-suc-le-suc}
+use mathlib.Core.Path.{_≡_, sym, ap, ap₂, _∙_, fun-ext}
+use mathlib.Core.List.{List, _++_, map, map-map, map-append}
+use Prim.Native.Nat.{ℕ, _+_, _*_, _/_, _%_, _^_, _≤_}
+use native.Mathlib.Nat.{zero-add, zero-mul, mul-comm}
 use native.Mathlib.Numerals.{add-one}
-use lib.ListN.{length, take, replicate}
+use native.Mathlib.Omega.{arith}
+use lib.ListN.{length, take, length-map}
 use Rattle.bits.specs.Xor.{_⊕_}
 use Rattle.bits.specs.Bits.{from, eachWith}
 use Rattle.bits.proofs.Xor.{xor-zero}
-use Rattle.bits.proofs.Lists.{cons-eq, from-add, map-from}
+use Rattle.bits.proofs.Lists.{from-add, map-from}
 use Rattle.bits.proofs.Each.{take-eachWith}
 use Rattle.field.specs.Field.{mul, power, inv}
-use Rattle.field.specs.Poly.{value, hornerEach}
+use Rattle.field.specs.Poly.{value, hornerEach, ofEach}
 use Rattle.field.proofs.Table.{Width}
 use Rattle.field.proofs.Laws.{mul-assoc, one-mul, inv-lt}
 use Rattle.field.proofs.Laws as field
-use Rattle.field.proofs.Places.{hornerEach-width}
+use Rattle.field.proofs.Places.{hornerEach-width, each-map, take-ofEach}
 use Rattle.poly.specs.Polynomials.{monic, valuesAt}
-use Rattle.poly.proofs.AtPoints.{values-width}
+use Rattle.poly.proofs.AtPoints.{take-values}
 use Rattle.key.specs.Keys.{Key, goppaAt, keyOf}
 use Rattle.code.specs.Code.{entry, parityRow, parityRows}
 use Rattle.code.specs.PublicKey.{Matrix}
 use Rattle.code.specs.Lock.{rowsOf}
 use Rattle.code.proofs.Parity.{row-power, row-digit}
 use Rattle.publishing.specs.Rows.{digitRow, digitRows}
-
--- a function of the places' numbers, over a list that is as long or longer
-each-start : (f h e : ℕ → ℕ) → ((a : ℕ) → f (h a) ≡ e a) → (n : ℕ) (s : List ℕ) → length s ≤ n
-    → take (length s) (map f (eachWith (λ x a. h a) (replicate n 1) s)) ≡ map e s
-unfolding eachWith
-each-start f h e q n [] l = refl
-each-start f h e q zero (a ∷ s) l = absurd (not-suc-le-zero l)
-each-start f h e q (suc n) (a ∷ s) l = cons-eq (q a) (each-start f h e q n s (le-of-suc-le-suc l))
-
-each-map : (f : ℕ → ℕ → ℕ) (h e : ℕ → ℕ) → ((a : ℕ) → f (h a) a ≡ e a) → (s : List ℕ) → eachWith f (map h s) s ≡ map e s
-unfolding eachWith
-each-map f h e q [] = refl
-each-map f h e q (a ∷ s) = cons-eq (q a) (each-map f h e q s)
 
 module _ (k : Key) where
   entry-zero : Width (k .m) → (a : ℕ) → inv (k .m) (goppaAt k a) ≡ entry k 0 a
@@ -54,11 +42,15 @@ module _ (k : Key) where
 
 module _ (m : ℕ) (w : Width m) (s g : List ℕ) where
   -- 1/g(α) at all places, and the next power of α
-  pub entries-start : length s ≤ 8192 → take (length s) (map (inv m) (valuesAt m g s)) ≡ map (entry (keyOf m s g) 0) s
+  pub entries-start : length s ≤ 8192 → take (length s) (ofEach m (inv m) (take (length s) (valuesAt m g s))) ≡ map (entry (keyOf m s g) 0) s
   unfolding keyOf goppaAt
   entries-start l =
-      ap (λ (v : List ℕ). take (length s) (map (inv m) v)) (values-width m w g s)
-      ∙ each-start (inv m) (value m (monic g)) (entry (keyOf m s g) 0) (entry-zero (keyOf m s g) w) 8192 s l
+      let u : List ℕ = map (value m (monic g)) s in
+      let e : length u ≡ length s = length-map s (value m (monic g)) in
+      ap₂ (λ (n : ℕ) (v : List ℕ). take n (ofEach m (inv m) v)) (sym e) (take-values m w g s l)
+      ∙ take-ofEach m (inv m) u w (omega arith)
+      ∙ map-map (inv m) (value m (monic g)) s
+      ∙ ap (λ f. map f s) (fun-ext (entry-zero (keyOf m s g) w))
 
   pub entries-next : (i : ℕ) (p : List ℕ) → take (length s) p ≡ map (entry (keyOf m s g) i) s
       → take (length s) (hornerEach m 0 p s) ≡ map (entry (keyOf m s g) (i + 1)) s
@@ -67,7 +59,8 @@ module _ (m : ℕ) (w : Width m) (s g : List ℕ) where
       ap (take (length s)) (hornerEach-width m 0 p s w)
       ∙ take-eachWith (λ x a. mul m x a ⊕ 0) (length s) p s
       ∙ ap (λ (v : List ℕ). eachWith (λ x a. mul m x a ⊕ 0) v s) e
-      ∙ each-map (λ x a. mul m x a ⊕ 0) (entry (keyOf m s g) i) (entry (keyOf m s g) (i + 1)) (entry-next (keyOf m s g) i) s
+      ∙ each-map (entry (keyOf m s g) i) (λ x a. mul m x a ⊕ 0) s
+      ∙ ap (λ f. map f s) (fun-ext (entry-next (keyOf m s g) i))
 
   pub parity-none : (w : List ℕ) → rowsOf (0 * m) (length s) w ≡ map (parityRow (keyOf m s g)) (from 0 (0 * m))
   unfolding rowsOf from

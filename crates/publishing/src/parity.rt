@@ -47,12 +47,12 @@ fn parity_rows(work: &mut [u8], m: u8, support: &[u16], g: &[u16])
     let n = support.len();
     let size = (m as usize) * bits::bytes_for(n);
     let values = poly::values(m, g, support);
-    let mut p = field::inverse_each(m, &values);
+    let mut p = field_places::inverse_each(m, &values[..n]);
     let mut at = 0;
     let mut s = 0;
     while s < g.len() {
         digit_rows(&mut work[at..], &p, n, m);
-        field::horner_each(m, &mut p, support, 0);
+        field_places::horner_each(m, &mut p, support, 0);
         at += size;
         s += 1;
     }

@@ -18,7 +18,7 @@ pub fn write_rows(out: &mut [u8], work: &[u8], rows: usize, n: usize)
     let mut base = rows;
     let mut r = 0;
     while r < rows {
-        bits::write_row(&mut out[at..], work, base as u32, w as u32);
+        packed::write_row(&mut out[at..], work, base as u32, w as u32);
         at += size;
         base += step;
         r += 1;

@@ -2,7 +2,7 @@
 // A line is `m N : s_0 .. : LENGTH : c_0 .. c_LENGTH` or `m N : s_0 .. : refused NUMBER`; `#` starts a comment.
 ghost use Prim.Native.Nat.{_<_};
 use libc::STDOUT_FILENO;
-use poly::Registered;
+use register::Registered;
 
 // The bytes of the largest file, and the numbers of the longest line.
 const BYTES: usize = 400000;

@@ -13,7 +13,7 @@ use boundary::with_station;
 ghost use mathlib.Core.Path.{_≡_};
 ghost use mathlib.Core.Bool.{false};
 ghost use Rattle.field.specs.Answers.{addOf, multiplyOf, invertOf};
-ghost use Rattle.poly.specs.Registered.{registeredOf};
+ghost use Rattle.register.specs.Registered.{registeredOf};
 ghost use Rattle.key.specs.Answers.{shapeOf};
 ghost use Rattle.code.specs.Lock.{lockNumber};
 ghost use Rattle.locking.specs.Locking.{lockOutput};
@@ -55,10 +55,10 @@ pub extern "C" fn shearcotter_shape_at(position: u8) -> Shape
 
 // The shortest register of a list; 1, 2 or 4 on refusal.
 #[no_mangle]
-pub extern "C" fn shearcotter_shortest_register(m: u8, list: &[u16]) -> poly::Registered
+pub extern "C" fn shearcotter_shortest_register(m: u8, list: &[u16]) -> register::Registered
     ensures { λ r. ⌜ r ≡ registeredOf m (now (list .entry)) ⌝ }
 {
-    poly::Registered::of(m, list)
+    register::Registered::of(m, list)
 }
 
 // The capsule of a pattern is written from the output's start; 1, 3, 8, 9, 12 or 10 on refusal.

@@ -75,7 +75,7 @@ impl Station {
     pub const MOST_ERRORS: u16 = Key::MOST_ERRORS;
 
     // The limit on the register's list, 256.
-    pub const LONGEST: usize = poly::Registered::LONGEST;
+    pub const LONGEST: usize = register::Registered::LONGEST;
 
     // The empty station.
     pub fn fresh() -> Station

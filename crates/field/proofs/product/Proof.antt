@@ -2,23 +2,15 @@
 -- Assumes nothing.
 use mathlib.Core.Path.{_≡_, sym, _∙_}
 use Prim.Native.Nat.{ℕ, _≤_, _<_, _-_, _*_, _/_, _%_, _^_}
-use native.Mathlib.Nat.{le-of-suc-le-suc}
 use native.Mathlib.Omega.{arith}
-use Rattle.field.specs.Field.{modulusOf, mul}
 use Rattle.field.proofs.Horner.{horner, first, turn, last}
-use Rattle.field.proofs.Modular.{horner-lt, mulMod-as-horner}
-use Rattle.field.proofs.Table.{Width, width-modulus, width-narrow}
-use Rattle.field.proofs.Laws.{mul-at}
+use Rattle.field.proofs.Modular.{Modulus, horner-lt, mulMod-as-horner}
 use Rattle.field.proofs.Machine.{masked-lt, step-law}
 use Rattle.field.proofs.product.Statement.{statement}
 use Rattle.field.proofs.product.Tie as tie
 
-module _ (m f a b n : ℕ) (w : Width m) (e : f ≡ modulusOf m) (ha : a < 2 ^ m) where
-  below : (k r : ℕ) → r ≡ horner m f (n - k) (b / 2 ^ k) a → r < 2 ^ m
-  below k r i = rw (i, e) (horner-lt m (modulusOf m) (width-modulus m w) (n - k) (b / 2 ^ k) ha)
-
-  done : horner m f m b a ≡ mul m a b
-  done = rw e (sym (mul-at m w a b ∙ mulMod-as-horner m (modulusOf m) (width-modulus m w) b ha))
+below : (m f a b n : ℕ) → Modulus m f → a < 2 ^ m → (k r : ℕ) → r ≡ horner m f (n - k) (b / 2 ^ k) a → r < 2 ^ m
+below m f a b n M ha k r i = rw i (horner-lt m f M (n - k) (b / 2 ^ k) ha)
 
 abbrev Inv-loop : tie.InvT-loop
 Inv-loop m f a b n r₀ k₀ r k = (k ≤ n) × (r ≡ horner m f (n - k) (b / 2 ^ k) a)
@@ -33,7 +25,7 @@ sub-k : tie.Need-sub-k Inv-loop μ-loop
 sub-k c = omega arith
 
 shr-r : tie.Need-shr-r Inv-loop μ-loop
-shr-r c = omega (arith, width-narrow _ (c .before .before .pre .0))
+shr-r c = omega arith
 
 mul-r : tie.Need-mul-r Inv-loop μ-loop
 mul-r c =
@@ -55,17 +47,18 @@ loop-again c =
     let at = c .before in
     let pre = at .before .pre in
     let b = at .before .args .b in
-    let r-lt = below _ _ _ b _ (pre .0) (pre .1) (pre .2) _ _ (at .loop .inv .1) in
-    (omega arith, step-law _ (width-narrow _ (pre .0)) _ _ b _ _ r-lt ∙ turn _ _ _ _ b _ _ (c .loop-test .taken) (at .loop .inv .0) (at .loop .inv .1))
+    let M : Modulus (at .before .args .m) (at .before .args .f) = record { lo = pre .0; hi = pre .1 } in
+    let r-lt = below _ _ _ b _ M (pre .2) _ _ (at .loop .inv .1) in
+    let narrow : at .before .args .m < 14 = omega arith in
+    (omega arith, step-law _ narrow _ _ b _ _ r-lt ∙ turn _ _ _ _ b _ _ (c .loop-test .taken) (at .loop .inv .0) (at .loop .inv .1))
 
 returns : tie.Need-returns Inv-loop μ-loop
 returns c =
     let at = c .before in
     let pre = at .before .pre in
-    let wide = le-of-suc-le-suc (width-narrow _ (pre .0)) in
-    let enough : at .before .args .m ≤ at .before .args .n = omega arith in
-    last _ _ _ _ (at .before .args .b) _ _ (c .loop-test .left) enough (pre .3) (at .loop .inv .1)
-    ∙ done _ _ _ _ (at .before .args .n) (pre .0) (pre .1) (pre .2)
+    let M : Modulus (at .before .args .m) (at .before .args .f) = record { lo = pre .0; hi = pre .1 } in
+    last _ _ _ _ (at .before .args .b) _ _ (c .loop-test .left) (pre .4) (pre .3) (at .loop .inv .1)
+    ∙ sym (mulMod-as-horner _ _ M (at .before .args .b) (pre .2))
 
 pub product-spec : {M : Type 1} → statement M
 product-spec =

@@ -3,9 +3,10 @@ use mathlib.Core.Path.{sym, ap₂, _∙_}
 use native.Mathlib.Omega.{arith}
 use lib.Pow.{pow-pos}
 use borrow.Author.Needs.{needs}
-use Rattle.field.specs.Field.{mul}
-use Rattle.field.proofs.Table.{modulus-none, modulus-some, width-narrow}
-use Rattle.field.proofs.Laws.{mul-low, low-mul, mul-none}
+use Rattle.field.specs.Field.{mulMod}
+use Rattle.field.proofs.Table.{modulus-none, modulus-some, width-modulus, width-narrow}
+use Rattle.field.proofs.Laws.{mul-none}
+use Rattle.field.proofs.Products.{mul-low-both}
 use Rattle.field.proofs.Machine.{one-shl, low-digits, low-digits-lt}
 use Rattle.field.proofs.times.Statement.{statement}
 use Rattle.field.proofs.times.Tie as tie
@@ -29,15 +30,18 @@ product-requires c κs =
     let w = modulus-some _ (c .before .modulus .ensures) (c .if1 .left) in
     let low-a = low-digits-lt _ (width-narrow _ w) (c .before .before .args .a) in
     let low-b = low-digits-lt _ (width-narrow _ w) (c .before .before .args .b) in
-    let narrow = width-narrow _ w in
-    (w, c .before .modulus .ensures, search needs, search needs, omega arith, narrow)
+    let M = width-modulus _ w in
+    let e = c .before .modulus .ensures in
+    (rw e (M .lo), rw e (M .hi), low-a, low-b, omega arith, width-narrow _ w)
 
 returns-2 : tie.Need-returns-2
 returns-2 c =
     let at = c .before .before in
-    let s = width-narrow _ (modulus-some _ (at .modulus .ensures) (c .before .if1 .left)) in
-    c .product .ensures ∙ ap₂ (mul _) (low-digits _ s (at .before .args .a)) (low-digits _ s (at .before .args .b))
-    ∙ mul-low _ _ _ ∙ low-mul _ _ _
+    let a = at .before .args in
+    let w = modulus-some _ (at .modulus .ensures) (c .before .if1 .left) in
+    let s = width-narrow _ w in
+    c .product .ensures ∙ ap₂ (mulMod (a .m) (at .modulus .result)) (low-digits _ s (a .a)) (low-digits _ s (a .b))
+    ∙ mul-low-both (a .m) (at .modulus .result) (a .a) (a .b) w (at .modulus .ensures)
 
 pub times-spec : {M : Type 1} → statement M
 times-spec = tie.close (tie.spec modulus-requires returns shl-mask sub-mask product-requires returns-2)

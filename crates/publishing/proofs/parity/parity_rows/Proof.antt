@@ -5,11 +5,13 @@ use Prim.Native.Nat.{ℕ, _-_, _*_, _≤_}
 use native.Mathlib.Nat.{zero-mul, mul-comm, mul-le-mul}
 use native.Mathlib.Omega.{arith}
 use borrow.Rule.Slice.PartMut.{same-len-mid}
-use lib.ListN.{length, take, length-map, length-drop}
+use lib.ListN.{length, take, length-drop}
+use lib.Seq.{length-take-le}
 use Rattle.bits.specs.Bits.{from, bytesFor}
 use Rattle.bits.proofs.Parts.{next-row, row-size, part-all}
 use Rattle.field.specs.Field.{inv}
-use Rattle.field.proofs.Places.{length-hornerEach}
+use Rattle.field.specs.Poly.{ofEach}
+use Rattle.field.proofs.Places.{length-hornerEach, length-ofEach}
 use Rattle.field.proofs.Table.{width-narrow}
 use Rattle.poly.specs.Polynomials.{valuesAt}
 use Rattle.poly.proofs.AtPoints.{length-values}
@@ -47,6 +49,16 @@ mul-size c =
 values-requires : tie.Need-values-requires Inv-loop μ-loop
 values-requires c κs = tt
 
+array-share-prefix-values : tie.Need-array-share-prefix-values Inv-loop μ-loop
+array-share-prefix-values c =
+    let e : length (c .values .result) ≡ 8192 = ap length (c .values .ensures) ∙ length-values _ _ _ in
+    omega arith
+
+slice-aggregate-inverse-each : tie.Need-slice-aggregate-inverse-each Inv-loop μ-loop
+slice-aggregate-inverse-each c =
+    let e : length (c .before .values .result) ≡ 8192 = ap length (c .before .values .ensures) ∙ length-values _ _ _ in
+    sym (length-take-le _ _ (omega arith))
+
 inverse-each-requires : tie.Need-inverse-each-requires Inv-loop μ-loop
 inverse-each-requires c κs = tt
 
@@ -54,13 +66,13 @@ loop-holds : tie.Need-loop-holds Inv-loop μ-loop
 loop-holds c =
     let b = c .before .before .before .before .before .before .before in
     let a = b .args in
-    let v = valuesAt (a .m) (a .g .now) (a .support .now) in
-    let e : c .inverse-each .result ≡ map (inv (a .m)) v =
-    c .inverse-each .ensures ∙ ap (map (inv (a .m))) (c .before .before .values .ensures) in (
+    let n : ℕ = length (a .support .now) in
+    let e : c .inverse-each .result ≡ ofEach (a .m) (inv (a .m)) (take n (valuesAt (a .m) (a .g .now) (a .support .now))) =
+    c .inverse-each .ensures ∙ ap (λ (v : List ℕ). ofEach (a .m) (inv (a .m)) (take n v)) (c .before .before .values .ensures) in (
       omega arith,
       sym (ap (λ (x : ℕ). x * bytesFor (length (a .support .now))) (zero-mul (a .m)) ∙ zero-mul (bytesFor (length (a .support .now)))),
       refl,
-      ap length e ∙ length-map v (inv (a .m)) ∙ length-values (a .m) (a .g .now) (a .support .now),
+      ap length e ∙ length-ofEach (a .m) (inv (a .m)) _,
       ap (take (length (a .support .now))) e ∙ entries-start (a .m) (b .pre .0) (a .support .now) (a .g .now) (b .pre .1),
       parity-none (a .m) (b .pre .0) (a .support .now) (a .g .now) (a .work .now),
     )
@@ -164,6 +176,8 @@ parity-rows-spec =
     bytes-for-requires
     mul-size
     values-requires
+    array-share-prefix-values
+    slice-aggregate-inverse-each
     inverse-each-requires
     loop-holds
     sub-digit-rows

@@ -1,0 +1,76 @@
+// Packed rows added, multiplied and written.
+ghost use mathlib.Core.Path.{_≡_};
+ghost use mathlib.Core.List.{map};
+ghost use Prim.Native.Nat.{_+_, _%_, _^_, _≤_, _<_};
+ghost use lib.Count.{ones};
+ghost use lib.ListN.{length, replicate};
+ghost use Rattle.bits.specs.Bits.{from, bitAt, putBits, over, rowWritten, xorRow, rowProduct};
+
+// The bytes of src added to those of dst, as far as both go.
+pub fn xor_row(dst: &mut [u8], src: &[u8])
+    ensures { λ _. ⌜ now (dst .exit) ≡ xorRow (now (dst .entry)) (now (src .entry)) ⌝ }
+{
+    let n = bits::smaller(src.len(), dst.len());
+    let mut i = 0;
+    while i < n {
+        dst[i] ^= src[i];
+        i += 1;
+    }
+}
+
+// The parity of the and of the row and the pattern, over the pattern's bytes.
+pub fn row_product(row: &[u8], pat: &[u8]) -> u8
+    ensures { λ r. ⌜ r ≡ rowProduct (now (row .entry)) (now (pat .entry)) ⌝ }
+{
+    let n = bits::smaller(row.len(), pat.len());
+    let mut acc: u8 = 0;
+    let mut i = 0;
+    while i < n {
+        acc ^= row[i] & pat[i];
+        i += 1;
+    }
+    parity(acc)
+}
+
+// The w bits of s from bit b on become a packed row at the start of out, with zero filler; nothing where it has no room.
+pub fn write_row(out: &mut [u8], s: &[u8], b: u32, w: u32)
+    ensures { λ _. ⌜ now (out .exit) ≡ rowWritten (now (s .entry)) b w (now (out .entry)) ⌝ }
+{
+    let n = bits::bytes_for(w as usize);
+    if out.len() < n {
+        return;
+    }
+    clear_bytes(out, n);
+    copy_bits(out, s, b as usize, w as usize);
+}
+
+// The first n bytes become 0.
+fn clear_bytes(out: &mut [u8], n: usize)
+    requires { ⌜ n ≤ length (now out) ⌝ }
+    ensures { λ _. ⌜ now (out .exit) ≡ over (replicate n 0) (now (out .entry)) ⌝ }
+{
+    let mut i = 0;
+    while i < n {
+        out[i] = 0;
+        i += 1;
+    }
+}
+
+// The w bits of s from bit b on become the first bits of out.
+fn copy_bits(out: &mut [u8], s: &[u8], b: usize, w: usize)
+    requires { ⌜ b + w < 2 ^ 64 ⌝ }
+    ensures { λ _. ⌜ now (out .exit) ≡ putBits (map (bitAt (now (s .entry))) (from b w)) 0 (now (out .entry)) ⌝ }
+{
+    let mut j = 0;
+    while j < w {
+        bits::set_bit(out, j, bits::bit_at(s, b + j));
+        j += 1;
+    }
+}
+
+// The number of ones, modulo 2.
+fn parity(x: u8) -> u8
+    ensures { λ r. ⌜ r ≡ ones x % 2 ⌝ }
+{
+    (u32::count_ones(x as u32) & 1) as u8
+}
