@@ -32,7 +32,7 @@ product-requires c κs =
     let low-b = low-digits-lt _ (width-narrow _ w) (c .before .before .args .b) in
     let M = width-modulus _ w in
     let e = c .before .modulus .ensures in
-    (rw e (M .lo), rw e (M .hi), low-a, low-b, omega arith, width-narrow _ w)
+    (rw e (M .lo), rw e (M .hi), search needs, search needs, omega arith, width-narrow _ w)
 
 returns-2 : tie.Need-returns-2
 returns-2 c =
