@@ -6,7 +6,7 @@
  * - A refusal writes nothing (but publish's workspace under 23) and hands the caller's station back unchanged.
  * - Refusals are listed in the order in which they are looked for: the first whose condition holds is answered.
  * - Nothing is allocated or kept between calls, so calls may run at once in several threads.
- * - Stack, argument and reply included, in KiB: open and read 201, publish 162, load 101, drop 49, fresh 33, the others 4.
+ * - Stack, argument and reply included, in KiB: open and read 170, publish 165, load 101, drop 49, fresh 36, the others 4.
  */
 #ifndef SHEARCOTTER_H
 #define SHEARCOTTER_H
