@@ -5,7 +5,6 @@
 use key::kept::Key;
 use libc::STDOUT_FILENO;
 use station::Reply;
-use station::State;
 use station::Station;
 use vectors::line::FILLER;
 use vectors::line::bytes_of;
@@ -120,27 +119,19 @@ fn same_key(a: Key, b: Key) -> bool {
     a.m == b.m && a.n == b.n && a.t == b.t && same(&a.support, &b.support) && same(&a.g, &b.g)
 }
 
-fn is_state(state: State, number: u16) -> bool {
-    match state {
-        State::Empty => number == 0,
-        State::Loaded => number == 1,
-        State::Published => number == 2,
-    }
-}
-
 // The station is what the list's last line says.
 fn ends(station: Station, line: &[u8]) -> bool {
-    let state = station.state;
+    let state = station.state as u16;
     let key = station.key;
     let b = bytes_of(line, 1);
     if b.count == 0 {
-        return is_state(state, 0) && same_key(key, key::kept::none());
+        return state == 0 && same_key(key, key::kept::none());
     }
     let file = b.bytes;
     let n = size(&file, b.count);
     let r = key_file::load(&file[..n]);
     let held = r.key;
-    r.refused == 0 && is_state(state, number_of(line, 2) % 100 + 1) && same_key(key, held)
+    r.refused == 0 && state == number_of(line, 2) % 100 + 1 && same_key(key, held)
 }
 
 // The station, and what was counted.

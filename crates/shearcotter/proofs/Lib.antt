@@ -1,1 +1,1 @@
-pub mod Demands
+pub mod Own

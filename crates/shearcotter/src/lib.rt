@@ -1,15 +1,12 @@
-// The calls under C names; include/shearcotter.h declares them. What each call answers is what the crates below answer.
+// The calls under C names; include/shearcotter.h declares them. What each call answers is what the crates below answer. Where a
+// call leaves the station or its key, the reply takes the caller's own: one copy less.
 use boundary::Element;
-use boundary::Reply;
 use boundary::Shape;
-use boundary::Station;
 use boundary::as_element;
 use boundary::as_shape;
-use boundary::inward;
 use boundary::locked_number;
-use boundary::moved;
-use boundary::outward;
-use boundary::with_station;
+use station::Reply;
+use station::Station;
 ghost use mathlib.Core.Path.{_≡_};
 ghost use mathlib.Core.Bool.{false};
 ghost use Rattle.field.specs.Answers.{addOf, multiplyOf, invertOf};
@@ -19,7 +16,7 @@ ghost use Rattle.code.specs.Lock.{lockNumber};
 ghost use Rattle.locking.specs.Locking.{lockOutput};
 ghost use Rattle.ledger.specs.Calls.{load, publish, open-capsule, read-word, drop-key};
 ghost use Rattle.station.specs.Replies.{freshStation, handed};
-ghost use Rattle.boundary.specs.Boundary.{asElement, asShape, inward as inwardOf, outward as outwardOf, replied};
+ghost use Rattle.boundary.specs.Boundary.{asElement, asShape};
 
 // The sum of two elements; 1 or 4 on refusal.
 #[no_mangle]
@@ -80,57 +77,78 @@ pub extern "C" fn shearcotter_lock(
 // The empty station.
 #[no_mangle]
 pub extern "C" fn shearcotter_fresh() -> Station
-    ensures { λ r. ⌜ r ≡ outwardOf freshStation ⌝ }
+    ensures { λ r. ⌜ r ≡ freshStation ⌝ }
 {
-    outward(station::Station::fresh())
+    Station::fresh()
 }
 
 // The file's key is kept; 22, 1, 2, 3, 4, 5, 6 or 7 on refusal.
 #[no_mangle]
 pub extern "C" fn shearcotter_load(own: Station, file: &[u8]) -> Reply
-    ensures { λ r. ⌜ r ≡ replied own (load (now (file .entry))) ⌝ }
+    ensures { λ r. ⌜ r ≡ handed own (load (now (file .entry))) .reply ⌝ }
 {
-    let s = inward(own);
-    moved(own, s.load(file))
+    let loaded = own.load(file);
+    if loaded.refused != 0 {
+        return Reply {
+            station: own,
+            refused: loaded.refused,
+            ones: 0,
+        };
+    }
+    loaded
 }
 
 // T is written from the output's start, made in work; 21, 25, 10, 11 or 23 on refusal.
 #[no_mangle]
 pub extern "C" fn shearcotter_publish(own: Station, out: &mut [u8], work: &mut [u8]) -> Reply
-    ensures reply { λ r. ⌜ r ≡ replied own (publish (now (out .entry)) (now (work .entry))) ⌝ }
-    ensures output { λ _. ⌜ now (out .exit) ≡ handed (inwardOf own) (publish (now (out .entry)) (now (work .entry))) .output ⌝ }
-    ensures workspace { λ _. ⌜ (handed (inwardOf own) (publish (now (out .entry)) (now (work .entry))) .free ≡ false
+    ensures reply { λ r. ⌜ r ≡ handed own (publish (now (out .entry)) (now (work .entry))) .reply ⌝ }
+    ensures output { λ _. ⌜ now (out .exit) ≡ handed own (publish (now (out .entry)) (now (work .entry))) .output ⌝ }
+    ensures workspace { λ _. ⌜ (handed own (publish (now (out .entry)) (now (work .entry))) .free ≡ false
         → now (work .exit) ≡ now (work .entry)) ⌝ }
 {
-    let s = inward(own);
-    moved(own, s.publish(out, work))
+    let published = own.publish(out, work);
+    let next = published.station;
+    let mut station = own;
+    station.state = next.state;
+    Reply {
+        station,
+        refused: published.refused,
+        ones: published.ones,
+    }
 }
 
 // The pattern of a capsule is written from the output's start; 21, 25, 24, 8, 9, 10 or 13 on refusal.
 #[no_mangle]
 pub extern "C" fn shearcotter_open(own: Station, capsule: &[u8], out: &mut [u8]) -> Reply
-    ensures reply { λ r. ⌜ r ≡ replied own (open-capsule (now (capsule .entry)) (now (out .entry))) ⌝ }
-    ensures output { λ _. ⌜ now (out .exit) ≡ handed (inwardOf own) (open-capsule (now (capsule .entry)) (now (out .entry))) .output ⌝ }
+    ensures reply { λ r. ⌜ r ≡ handed own (open-capsule (now (capsule .entry)) (now (out .entry))) .reply ⌝ }
+    ensures output { λ _. ⌜ now (out .exit) ≡ handed own (open-capsule (now (capsule .entry)) (now (out .entry))) .output ⌝ }
 {
-    let s = inward(own);
-    with_station(own, s.open(capsule, out))
+    let opened = own.open(capsule, out);
+    Reply {
+        station: own,
+        refused: opened.refused,
+        ones: opened.ones,
+    }
 }
 
 // The pattern of a word is written from the output's start; 21, 25, 8, 9, 10 or 14 on refusal.
 #[no_mangle]
 pub extern "C" fn shearcotter_read(own: Station, word: &[u8], out: &mut [u8]) -> Reply
-    ensures reply { λ r. ⌜ r ≡ replied own (read-word (now (word .entry)) (now (out .entry))) ⌝ }
-    ensures output { λ _. ⌜ now (out .exit) ≡ handed (inwardOf own) (read-word (now (word .entry)) (now (out .entry))) .output ⌝ }
+    ensures reply { λ r. ⌜ r ≡ handed own (read-word (now (word .entry)) (now (out .entry))) .reply ⌝ }
+    ensures output { λ _. ⌜ now (out .exit) ≡ handed own (read-word (now (word .entry)) (now (out .entry))) .output ⌝ }
 {
-    let s = inward(own);
-    with_station(own, s.read(word, out))
+    let found = own.read(word, out);
+    Reply {
+        station: own,
+        refused: found.refused,
+        ones: found.ones,
+    }
 }
 
 // Afterwards the station is a fresh one; 21 on refusal.
 #[no_mangle]
 pub extern "C" fn shearcotter_drop(own: Station) -> Reply
-    ensures { λ r. ⌜ r ≡ replied own drop-key ⌝ }
+    ensures { λ r. ⌜ r ≡ handed own drop-key .reply ⌝ }
 {
-    let s = inward(own);
-    moved(own, s.drop())
+    own.drop()
 }

@@ -11,17 +11,15 @@ use Rattle.key.specs.Kept.{kept}
 use Rattle.key.specs.declared.kept.Key.{Key}
 use Rattle.code.specs.PublicKey.{Matrix, publicKey}
 use Rattle.code.specs.Publish.{capsuleBits, publicBytes, workBytes}
-use Rattle.ledger.specs.Station.{isEmpty}
+use Rattle.ledger.specs.Station.{published, isEmpty}
 use Rattle.ledger.specs.Calls.{Call, publish, open-capsule, step}
 use Rattle.ledger.specs.Demands.{Locks, capsuleOf, lockAnswer, openResult}
 use Rattle.ledger.specs.Demands as Station
 use Rattle.ledger.proofs.StepLaws.{step-number}
 use Rattle.ledger.proofs.Demand2 as Definitions
 use Rattle.ledger.proofs.Demand3.{open-decides}
-use Rattle.station.specs.Replies.{stateOf, view, acceptance, moved, handed}
+use Rattle.station.specs.Replies.{stateOf, byteOf, view, acceptance, moved, handed}
 use Rattle.station.specs.Demands.{at, publishHanded, openHanded, patternOf, Demand2}
-use Rattle.station.specs.declared.State.{State}
-use Rattle.station.specs.declared.State.the-variants as states
 use Rattle.station.specs.declared.Station.{Station}
 use Rattle.station.proofs.ReplyLaws.{reply-accepted, tally, count-accepted}
 use Rattle.station.proofs.StepView.{same}
@@ -34,8 +32,8 @@ module _ (k : Key) (rows : Matrix) (good : keyNumber (kept k) ≡ 0) (public : p
   trips : Station.RoundTrips (kept k) rows
   trips = Definitions.demand-2 (kept k) rows good public
 
-  publishes : (state : State) (out work : List ℕ) → isEmpty (stateOf state) ≡ false → publicBytes (kept k) ≤ length out → workBytes (kept k) ≤ length work
-      → (publishHanded state k out work .reply ≡ acceptance (at states.Published k) 0) × (publishHanded state k out work .output ≡ over (flatMap pack rows) out)
+  publishes : (state : ℕ) (out work : List ℕ) → isEmpty (stateOf state) ≡ false → publicBytes (kept k) ≤ length out → workBytes (kept k) ≤ length work
+      → (publishHanded state k out work .reply ≡ acceptance (at (byteOf published) k) 0) × (publishHanded state k out work .output ≡ over (flatMap pack rows) out)
   unfolding at Station.at view handed moved tally
   publishes state out work h long room =
       let d = trips .publishes (stateOf state) out work h long room in
@@ -44,7 +42,7 @@ module _ (k : Key) (rows : Matrix) (good : keyNumber (kept k) ≡ 0) (public : p
         d .2,
       )
 
-  public-begins : (state : State) (out work : List ℕ) → publishHanded state k out work .reply .refused ≡ 0
+  public-begins : (state : ℕ) (out work : List ℕ) → publishHanded state k out work .reply .refused ≡ 0
       → take (publicBytes (kept k)) (publishHanded state k out work .output) ≡ flatMap pack rows
   unfolding at Station.at view handed
   public-begins state out work e = trips .public (stateOf state) out work (sym (same (at state k) (publish out work) .number) ∙ e)
@@ -60,26 +58,26 @@ module _ (k : Key) (rows : Matrix) (good : keyNumber (kept k) ≡ 0) (public : p
 
   locked-opened : (pattern out : List ℕ) → Bytes pattern → wellFormed (k .n) pattern ≡ true → weight (k .n) pattern ≡ k .t
       → bytesFor (k .n) ≤ length out
-      → (openHanded k (capsuleOf (kept k) rows pattern) out .reply ≡ acceptance (at states.Published k) (k .t))
+      → (openHanded k (capsuleOf (kept k) rows pattern) out .reply ≡ acceptance (at (byteOf published) k) (k .t))
       × (openHanded k (capsuleOf (kept k) rows pattern) out .output ≡ over pattern out)
-  unfolding at Station.at view stateOf handed moved kept
+  unfolding at Station.at view stateOf byteOf handed moved kept
   locked-opened pattern out bytes formed count long =
       let capsule = capsuleOf (kept k) rows pattern in
       let d = trips .locked-opened pattern out bytes formed count long in
-      (accepted-reply (at states.Published k) (open-capsule capsule out) (d .0) (opened-count capsule out (d .0)), d .1)
+      (accepted-reply (at (byteOf published) k) (open-capsule capsule out) (d .0) (opened-count capsule out (d .0)), d .1)
 
   opened : (capsule out : List ℕ) → openHanded k capsule out .reply .refused ≡ 0 → openResult (kept k) capsule out .number ≡ 0
-  unfolding at Station.at view stateOf
-  opened capsule out e = sym (same (at states.Published k) (open-capsule capsule out) .number) ∙ e
+  unfolding at Station.at view stateOf byteOf
+  opened capsule out e = sym (same (at (byteOf published) k) (open-capsule capsule out) .number) ∙ e
 
   opened-locks : (capsule out buffer : List ℕ) → openHanded k capsule out .reply .refused ≡ 0
       → bytesFor (capsuleBits (kept k)) ≤ length buffer → lockAnswer (kept k) rows (patternOf k capsule out) buffer ≡ 0
-  unfolding at Station.at view stateOf handed kept
+  unfolding at Station.at view stateOf byteOf handed kept
   opened-locks capsule out buffer e room = trips .opened-locks capsule out buffer (opened capsule out e) room
 
   opened-locked : (capsule out : List ℕ) → Bytes capsule → openHanded k capsule out .reply .refused ≡ 0
       → capsuleOf (kept k) rows (patternOf k capsule out) ≡ capsule
-  unfolding at Station.at view stateOf handed kept
+  unfolding at Station.at view stateOf byteOf handed kept
   opened-locked capsule out bytes e = trips .opened-locked capsule out bytes (opened capsule out e)
 
 pub demand-2 : Demand2

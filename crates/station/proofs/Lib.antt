@@ -1,3 +1,4 @@
+pub mod States
 pub mod ReplyLaws
 pub mod LowerLaws
 pub mod StepView

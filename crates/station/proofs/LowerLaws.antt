@@ -21,12 +21,11 @@ use Rattle.reading.specs.Answers.{answerOf}
 use Rattle.reading.specs.Answers as Answers
 use Rattle.reading.specs.declared.calls.Answer.{Answer}
 use Rattle.reading.specs.declared.calls.Answer.the-variants as answers
-use Rattle.ledger.specs.Station.{isEmpty, isUnpublished, heldBy, publishChecks, openOf, readOf}
+use Rattle.ledger.specs.Station.{loaded, published as isPublished, isEmpty, isUnpublished, heldBy, publishChecks, openOf, readOf}
 use Rattle.ledger.specs.Calls.{Call, load, publish, open-capsule, read-word}
 use Rattle.ledger.specs.Demands.{outputOf}
 use Rattle.ledger.proofs.StepLaws.{step-free, freed}
-use Rattle.station.specs.Replies.{stateOf, view, publishedNumber, answerNumber, refusal, acceptance, moved, handed}
-use Rattle.station.specs.declared.State.the-variants as states
+use Rattle.station.specs.Replies.{stateOf, byteOf, view, publishedNumber, answerNumber, refusal, acceptance, moved, handed}
 use Rattle.station.specs.declared.Station.{Station}
 use Rattle.station.proofs.ReplyLaws.{stop, lower, tally, bytes, lower-refused, lower-accepted, lower-output}
 
@@ -49,10 +48,10 @@ module _ (s : Station) (file : List ℕ) (empty : isEmpty (stateOf (s .state)) �
       ap (λ (l : Loaded). l .key) e
       ∙ ap (λ (b : Bool). cond b (keep (parse file)) noKey) (eq-eqb _ 0 (sym (ap (λ (l : Loaded). l .refused) e) ∙ z))
 
-  pub load-accepted : r .refused ≡ 0 → acceptance (record { state = states.Loaded; key = r .key }) 0 ≡ handed s (load file) .reply
+  pub load-accepted : r .refused ≡ 0 → acceptance (record { state = byteOf loaded; key = r .key }) 0 ≡ handed s (load file) .reply
   unfolding moved tally
   load-accepted z =
-      ap (λ (k : Kept.Key). acceptance (record { state = states.Loaded; key = k }) 0) (load-key z)
+      ap (λ (k : Kept.Key). acceptance (record { state = byteOf loaded; key = k }) 0) (load-key z)
       ∙ lower-accepted s (load file) load-passes (sym load-number ∙ z)
 
 -- publish, with a key
@@ -86,7 +85,7 @@ module _ (s : Station) (out work : List ℕ) (keyed : isEmpty (stateOf (s .state
     publish-refused h =
         lower-refused s (publish out work) publish-passes (publishedNumber a) publish-number (λ z. published-refused _ (sym e ∙ h) (sym publish-number ∙ z))
 
-    pub publish-done : a ≡ published.Done → acceptance (record { state = states.Published; key = s .key }) 0 ≡ handed s (publish out work) .reply
+    pub publish-done : a ≡ published.Done → acceptance (record { state = byteOf isPublished; key = s .key }) 0 ≡ handed s (publish out work) .reply
     unfolding lower moved tally
     publish-done h = lower-accepted s (publish out work) publish-passes (published-done _ (sym e ∙ h))
 

@@ -12,7 +12,7 @@ use Rattle.ledger.specs.Station as Definition
 use Rattle.ledger.specs.Calls.{Call, load, publish, open-capsule, read-word, drop-key, step}
 use Rattle.ledger.specs.Calls as Calls
 use Rattle.ledger.proofs.StepLaws as Step
-use Rattle.station.specs.Replies.{stateOf, view, freshStation, refusal, acceptance, moved, replyOf, handed, run, answered}
+use Rattle.station.specs.Replies.{stateOf, byteOf, view, freshStation, refusal, acceptance, moved, replyOf, handed, run, answered}
 use Rattle.station.specs.Demands.{viewed}
 use Rattle.station.specs.declared.Station.{Station}
 use Rattle.station.specs.declared.Reply.{Reply}
@@ -24,12 +24,12 @@ kept-parse file = kept-keep (parse file) (length-elements file _ _) (length-elem
 
 -- the fresh station
 pub view-fresh : view freshStation ≡ fresh
-unfolding view stateOf freshStation kept noKey fresh Definition.noKey
+unfolding view stateOf byteOf freshStation kept noKey fresh Definition.noKey
 view-fresh = refl
 
 -- the station after an accepted call
 view-moved : (s : Station) (c : Call) → view (moved s c) ≡ Step.moved (view s) c
-unfolding view stateOf moved Step.moved
+unfolding view stateOf byteOf moved Step.moved
 view-moved s (load file) = ap (λ (k : Key). record { state = loaded; key = k }) (kept-parse file)
 view-moved s (publish out work) = refl
 view-moved s (open-capsule capsule out) = refl

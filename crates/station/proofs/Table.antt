@@ -16,22 +16,15 @@ use Rattle.ledger.specs.Station as Definition
 use Rattle.ledger.specs.Calls.{step}
 use Rattle.ledger.proofs.Table.{Asked, after, on, frees, lock-shape, locks, times, Outcome, free, outcomeOf, rows, running, orders, bad}
 use Rattle.ledger.proofs.Table as Definitions
-use Rattle.station.specs.Replies.{stateOf, view, freshStation, handed, run}
+use Rattle.station.specs.Replies.{stateOf, byteOf, view, freshStation, handed, run}
 use Rattle.station.specs.Demands.{viewed}
-use Rattle.station.specs.declared.State.{State}
-use Rattle.station.specs.declared.State.the-variants as states
 use Rattle.station.specs.declared.Station.{Station}
 use Rattle.station.proofs.StepView.{reply-step}
 use Rattle.station.proofs.Demand3.{run-fresh}
 
 -- the code's station for one of the definitions
-unfoldable pub stateFor : Definition.State → State
-stateFor empty = states.Empty
-stateFor loaded = states.Loaded
-stateFor published = states.Published
-
 unfoldable pub stored : Definition.Station → Station
-stored s = record { state = stateFor (s .state); key = keep (s .key) }
+stored s = record { state = byteOf (s .state); key = keep (s .key) }
 
 -- what a row asks, of the code's calls; locking and products are no calls of the station
 unfoldable pub answer : Asked → Outcome
@@ -62,8 +55,8 @@ unfoldable allFit : List (Asked × Outcome) → Bool
 allFit [] = true
 allFit (r ∷ rs) = fits (r .0) && allFit rs
 
-state-for : (t : Definition.State) → stateOf (stateFor t) ≡ t
-unfolding stateOf stateFor
+state-for : (t : Definition.State) → stateOf (byteOf t) ≡ t
+unfolding stateOf byteOf
 state-for empty = refl
 state-for loaded = refl
 state-for published = refl

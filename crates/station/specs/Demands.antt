@@ -13,13 +13,11 @@ use Rattle.key.specs.Kept.{kept}
 use Rattle.key.specs.declared.kept.Key as Kept
 use Rattle.code.specs.PublicKey.{Matrix, publicKey}
 use Rattle.code.specs.Publish.{capsuleBits, publicBytes, workBytes}
-use Rattle.ledger.specs.Station.{isEmpty, heldBy, Result}
+use Rattle.ledger.specs.Station.{published, isEmpty, heldBy, Result}
 use Rattle.ledger.specs.Calls.{Call, publish, open-capsule, read-word, conditionsOf}
 use Rattle.ledger.specs.Ledger.{Ledger, blank, ledgerAfter, expected}
 use Rattle.ledger.specs.Demands.{outputOf, keyHeld, Locks, Differs, Decides, capsuleOf, lockAnswer}
-use Rattle.station.specs.Replies.{stateOf, view, freshStation, acceptance, Handed, handed, run, answered}
-use Rattle.station.specs.declared.State.{State}
-use Rattle.station.specs.declared.State.the-variants as states
+use Rattle.station.specs.Replies.{stateOf, byteOf, view, freshStation, acceptance, Handed, handed, run, answered}
 use Rattle.station.specs.declared.Station.{Station}
 
 -- what a call hands back, with the station of the definitions for the code's
@@ -40,16 +38,16 @@ pub record Refuses (s : Station) (c : Call) : Type 0 where
 abbrev pub Demand1 : Type 0
 Demand1 = (s : Station) (c : Call) → Refuses s c
 
--- a station in a state with a kept key
-unfoldable pub at : State → Kept.Key → Station
+-- a station with a state byte and a kept key
+unfoldable pub at : ℕ → Kept.Key → Station
 at state k = record { state = state; key = k }
 
 -- what publish and open hand back, and the pattern that open wrote
-abbrev pub publishHanded : State → Kept.Key → List ℕ → List ℕ → Handed
+abbrev pub publishHanded : ℕ → Kept.Key → List ℕ → List ℕ → Handed
 publishHanded state k out work = handed (at state k) (publish out work)
 
 abbrev pub openHanded : Kept.Key → List ℕ → List ℕ → Handed
-openHanded k capsule out = handed (at states.Published k) (open-capsule capsule out)
+openHanded k capsule out = handed (at (byteOf published) k) (open-capsule capsule out)
 
 abbrev pub patternOf : Kept.Key → List ℕ → List ℕ → List ℕ
 patternOf k capsule out = take (bytesFor (k .n)) (openHanded k capsule out .output)
@@ -57,16 +55,16 @@ patternOf k capsule out = take (bytesFor (k .n)) (openHanded k capsule out .outp
 -- Demand 2, under an accepted key and its public key T: publish with room writes T, loaded or published, and hands back the
 -- published station; on that station lock then open gives the pattern back, and open then lock the capsule, byte for byte.
 pub record RoundTrips (k : Kept.Key) (rows : Matrix) : Type 0 where
-  pub publishes : (state : State) (out work : List ℕ) → isEmpty (stateOf state) ≡ false → publicBytes (kept k) ≤ length out → workBytes (kept k) ≤ length work
-      → (publishHanded state k out work .reply ≡ acceptance (at states.Published k) 0) × (publishHanded state k out work .output ≡ over (flatMap pack rows) out)
+  pub publishes : (state : ℕ) (out work : List ℕ) → isEmpty (stateOf state) ≡ false → publicBytes (kept k) ≤ length out → workBytes (kept k) ≤ length work
+      → (publishHanded state k out work .reply ≡ acceptance (at (byteOf published) k) 0) × (publishHanded state k out work .output ≡ over (flatMap pack rows) out)
   -- the bytes that publish wrote are the public key that lock takes
-  pub public : (state : State) (out work : List ℕ) → publishHanded state k out work .reply .refused ≡ 0
+  pub public : (state : ℕ) (out work : List ℕ) → publishHanded state k out work .reply .refused ≡ 0
       → take (publicBytes (kept k)) (publishHanded state k out work .output) ≡ flatMap pack rows
   pub locks : (pattern buffer : List ℕ) → wellFormed (k .n) pattern ≡ true → weight (k .n) pattern ≡ k .t
       → bytesFor (capsuleBits (kept k)) ≤ length buffer → lockAnswer (kept k) rows pattern buffer ≡ 0
   pub locked-opened : (pattern out : List ℕ) → Bytes pattern → wellFormed (k .n) pattern ≡ true → weight (k .n) pattern ≡ k .t
       → bytesFor (k .n) ≤ length out
-      → (openHanded k (capsuleOf (kept k) rows pattern) out .reply ≡ acceptance (at states.Published k) (k .t))
+      → (openHanded k (capsuleOf (kept k) rows pattern) out .reply ≡ acceptance (at (byteOf published) k) (k .t))
       × (openHanded k (capsuleOf (kept k) rows pattern) out .output ≡ over pattern out)
   pub opened-locks : (capsule out buffer : List ℕ) → openHanded k capsule out .reply .refused ≡ 0
       → bytesFor (capsuleBits (kept k)) ≤ length buffer → lockAnswer (kept k) rows (patternOf k capsule out) buffer ≡ 0

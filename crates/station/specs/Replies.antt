@@ -11,16 +11,20 @@ use Rattle.reading.specs.declared.calls.Answer.{Answer}
 use Rattle.reading.specs.declared.calls.Answer.the-variants as answers
 use Rattle.ledger.specs.Station as Definition
 use Rattle.ledger.specs.Calls.{Call, load, publish, open-capsule, read-word, drop-key, step}
-use Rattle.station.specs.declared.State.{State}
-use Rattle.station.specs.declared.State.the-variants.{Empty, Loaded, Published as IsPublished}
 use Rattle.station.specs.declared.Station.{Station}
 use Rattle.station.specs.declared.Reply.{Reply}
 
--- the three states
-unfoldable pub stateOf : State → Definition.State
-stateOf Empty = Definition.empty
-stateOf Loaded = Definition.loaded
-stateOf IsPublished = Definition.published
+-- the state of a state byte: 0 empty, 1 loaded, any other published
+unfoldable pub stateOf : ℕ → Definition.State
+stateOf zero = Definition.empty
+stateOf (suc zero) = Definition.loaded
+stateOf (suc (suc b)) = Definition.published
+
+-- the byte that a call writes for a state
+unfoldable pub byteOf : Definition.State → ℕ
+byteOf Definition.empty = 0
+byteOf Definition.loaded = 1
+byteOf Definition.published = 2
 
 -- the station of the definitions: the state, and the key without what lies past n and t
 unfoldable pub view : Station → Definition.Station
@@ -37,12 +41,12 @@ answerNumber (answers.Refused n) = n
 
 -- the empty station, with zeros only
 unfoldable pub freshStation : Station
-freshStation = record { state = Empty; key = noKey }
+freshStation = record { state = byteOf Definition.empty; key = noKey }
 
 -- the station after a call that is accepted
 unfoldable pub moved : Station → Call → Station
-moved s (load file) = record { state = Loaded; key = keep (parse file) }
-moved s (publish out work) = record { state = IsPublished; key = s .key }
+moved s (load file) = record { state = byteOf Definition.loaded; key = keep (parse file) }
+moved s (publish out work) = record { state = byteOf Definition.published; key = s .key }
 moved s (open-capsule capsule out) = s
 moved s (read-word word out) = s
 moved s drop-key = freshStation

@@ -8,20 +8,15 @@ ghost use Rattle.ledger.specs.Station.{isEmpty, isUnpublished};
 ghost use Rattle.ledger.specs.Calls.{load, publish, open-capsule, read-word, drop-key};
 ghost use Rattle.station.specs.Replies.{stateOf, publishedNumber, answerNumber, freshStation, refusal, acceptance, handed};
 
-// No key, a key, and a key that is published.
-pub enum State {
-    Empty,
-    Loaded,
-    Published,
-}
-
-// One slot: the state and the key, the key of zeros where it is empty.
+// One slot: the state and the key, the key of zeros where it is empty. State 0 is no key, 1 a key, any other a published key.
+#[repr(C)]
 pub struct Station {
-    pub state: State,
+    pub state: u8,
     pub key: Key,
 }
 
 // What a call hands back: the new station, the number of the refusal, 0 for none, and the number of ones written.
+#[repr(C)]
 pub struct Reply {
     pub station: Station,
     pub refused: u8,
@@ -29,25 +24,17 @@ pub struct Reply {
 }
 
 // No key is held.
-fn is_empty(state: State) -> bool
+fn is_empty(state: u8) -> bool
     ensures { λ r. ⌜ r ≡ isEmpty (stateOf state) ⌝ }
 {
-    match state {
-        State::Empty => true,
-        State::Loaded => false,
-        State::Published => false,
-    }
+    state == Station::EMPTY
 }
 
 // The key is published.
-fn is_published(state: State) -> bool
+fn is_published(state: u8) -> bool
     ensures { λ r. ⌜ r ≡ not (isUnpublished (stateOf state)) ⌝ }
 {
-    match state {
-        State::Empty => false,
-        State::Loaded => false,
-        State::Published => true,
-    }
+    Station::LOADED < state
 }
 
 // The number of publish's refusal, and 0 where T is written.
@@ -71,6 +58,13 @@ fn answer_number(answer: Answer) -> u8
 }
 
 impl Station {
+    // The states.
+    pub const EMPTY: u8 = 0;
+
+    pub const LOADED: u8 = 1;
+
+    pub const PUBLISHED: u8 = 2;
+
     // The limit on t, 128.
     pub const MOST_ERRORS: u16 = Key::MOST_ERRORS;
 
@@ -82,7 +76,7 @@ impl Station {
         ensures { λ r. ⌜ r ≡ freshStation ⌝ }
     {
         Station {
-            state: State::Empty,
+            state: Station::EMPTY,
             key: key::kept::none(),
         }
     }
@@ -125,7 +119,7 @@ impl Station {
         let key = loaded.key;
         Reply {
             station: Station {
-                state: State::Loaded,
+                state: Station::LOADED,
                 key,
             },
             refused: 0,
@@ -158,7 +152,7 @@ impl Station {
         };
         Reply {
             station: Station {
-                state: State::Published,
+                state: Station::PUBLISHED,
                 key: self.key,
             },
             refused: 0,

@@ -2,7 +2,7 @@
 use mathlib.Core.Path.{ap, _∙_}
 use borrow.Author.Needs.{needs}
 use Rattle.boundary.specs.Boundary.{lockedNumber}
-use Rattle.boundary.proofs.Images.{locked-number}
+use Rattle.boundary.proofs.Locked.{locked-number}
 use Rattle.shearcotter.proofs.shearcotter_lock.Statement.{statement}
 use Rattle.shearcotter.proofs.shearcotter_lock.Tie as tie
 

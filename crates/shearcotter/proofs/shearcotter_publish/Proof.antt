@@ -1,21 +1,11 @@
--- The station's reply as a struct. Assumes nothing.
-use mathlib.Core.Path.{ap, _∙_}
+-- The station's reply, with the caller's own key. Assumes nothing.
 use borrow.Author.Needs.{needs}
-use Rattle.ledger.specs.Calls.{publish}
-use Rattle.station.specs.Replies.{Handed, handed}
-use Rattle.station.specs.declared.Station.{Station}
-use Rattle.boundary.specs.Boundary.{moved, replied}
+use Rattle.shearcotter.proofs.Own.{own-key}
 use Rattle.shearcotter.proofs.shearcotter_publish.Statement.{statement}
 use Rattle.shearcotter.proofs.shearcotter_publish.Tie as tie
 
-inward-requires : tie.Need-inward-requires
-inward-requires c κs = tt
-
 publish-requires : tie.Need-publish-requires
 publish-requires c κs = tt
-
-moved-requires : tie.Need-moved-requires
-moved-requires c κs = tt
 
 same-length : tie.Need-same-length
 same-length c = search needs
@@ -24,16 +14,10 @@ same-length-2 : tie.Need-same-length-2
 same-length-2 c = search needs
 
 returns : tie.Need-returns
-unfolding replied
 returns c =
-    let a = c .before .before .before .before .before .before .before .before .before .before .before .args in
-    let r = c .before .before .before .before .before .publish in
-    let i = c .before .before .before .before .before .before .before .before .inward in
-    let h = ap (λ (s : Station). handed s (publish (a .out .now) (a .work .now))) (i .ensures) in (
-      c .moved .ensures ∙ ap (moved (a .own)) (r .ensures .0 ∙ ap (λ (x : Handed). x .reply) h),
-      (r .ensures .1 .0 ∙ ap (λ (x : Handed). x .output) h, λ free. r .ensures .1 .1 (ap (λ (x : Handed). x .free) h ∙ free)),
-    )
+    let p = c .before .before .before .before .before in
+    let a = p .before .before .before .before .before .args in
+    (own-key (a .own) (a .out .now) (a .work .now) _ (p .publish .ensures .0), p .publish .ensures .1)
 
 pub shearcotter-publish-spec : {M : Type 1} → statement M
-shearcotter-publish-spec =
-    tie.close (tie.spec inward-requires publish-requires moved-requires same-length same-length-2 returns)
+shearcotter-publish-spec = tie.close (tie.spec publish-requires same-length same-length-2 returns)

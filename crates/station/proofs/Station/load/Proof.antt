@@ -3,7 +3,7 @@ use mathlib.Core.Path.{sym, ap, _∙_}
 use mathlib.Core.Bool.{not}
 use borrow.Author.Tests.{not-true, not-false}
 use Rattle.ledger.specs.Calls.{load}
-use Rattle.station.specs.Replies.{acceptance}
+use Rattle.station.specs.Replies.{byteOf, acceptance}
 use Rattle.station.proofs.ReplyLaws.{stop, stopped}
 use Rattle.station.proofs.LowerLaws.{load-refused, load-accepted}
 use Rattle.station.proofs.Station.load.Statement.{statement}
@@ -36,7 +36,7 @@ returns-2 c =
     ∙ load-refused (a .self) (a .file .now) (sym (i .is-empty .ensures) ∙ not-false _ (c .before .before .before .if1 .left)) _ (c .before .before .load .ensures) (c .before .if2 .taken)
 
 returns-3 : tie.Need-returns-3
-unfolding acceptance
+unfolding acceptance byteOf
 returns-3 c =
     let i = c .before .before .before .before in
     let a = i .before .before .args in

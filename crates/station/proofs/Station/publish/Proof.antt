@@ -3,7 +3,7 @@ use mathlib.Core.Path.{refl, sym, ap, _∙_}
 use borrow.Author.Needs.{needs}
 use Rattle.ledger.specs.Calls.{publish}
 use Rattle.ledger.specs.Demands.{outputOf}
-use Rattle.station.specs.Replies.{refusal, acceptance}
+use Rattle.station.specs.Replies.{byteOf, refusal, acceptance}
 use Rattle.station.proofs.ReplyLaws.{stop, stopped}
 use Rattle.station.proofs.LowerLaws.{publish-refused, publish-done, publish-output, publish-work}
 use Rattle.station.proofs.Station.publish.Statement.{statement}
@@ -63,7 +63,7 @@ same-length-4 : tie.Need-same-length-4
 same-length-4 c = search needs
 
 returns-3 : tie.Need-returns-3
-unfolding acceptance
+unfolding acceptance byteOf
 returns-3 c =
     let p = c .before .before .before .before .before .before .before in
     let l = p .before .before .before .before .before .before in

@@ -1,0 +1,46 @@
+-- Replies that hold the caller's own station, or its key. Assumes nothing.
+use Prim.Native.Nat.{ℕ, zero, suc}
+use mathlib.Core.Path.{_≡_, refl, sym, ap, _∙_}
+use mathlib.Core.List.{List}
+use native.Mathlib.Omega.{arith}
+use Rattle.key.specs.declared.kept.Key.{Key}
+use Rattle.ledger.specs.Calls.{Call, publish, step}
+use Rattle.station.specs.Replies.{view, refusal, acceptance, moved, replyOf, handed}
+use Rattle.station.specs.declared.Station.{Station}
+use Rattle.station.specs.declared.Reply.{Reply}
+use Rattle.station.proofs.Demand1.{refused-reply}
+
+-- a reply with another station
+abbrev pub with : Station → Reply → Reply
+with s r = record { station = s; refused = r .refused; ones = r .ones }
+
+module _ (s : Station) (c : Call) (r : Reply) (e : r ≡ handed s c .reply) where
+  -- refused
+  pub own-refused : (r .refused ≡ 0 → ⊥) → refusal s (r .refused) ≡ handed s c .reply
+  own-refused h = go (r .refused) refl
+    where
+      go : (n : ℕ) → r .refused ≡ n → refusal s n ≡ handed s c .reply
+      go zero z = absurd (h z)
+      go (suc n) z = sym (refused-reply s c n (ap (λ (q : Reply). q .refused) (sym e) ∙ z))
+
+  -- a call that leaves the station
+  pub own-left : moved s c ≡ s → with s r ≡ handed s c .reply
+  unfolding handed replyOf acceptance refusal
+  own-left m = ap (with s) e ∙ ap (λ (t : Station). with t (handed s c .reply)) (sym (go (step (view s) c .number)))
+    where
+      go : (n : ℕ) → replyOf n s (moved s c) (step (view s) c .count) .station ≡ s
+      go zero = m
+      go (suc n) = refl
+
+-- publish leaves the key
+module _ (s : Station) (out work : List ℕ) (r : Reply) (e : r ≡ handed s (publish out work) .reply) where
+  pub own-key : with (record { state = r .station .state; key = s .key }) r ≡ handed s (publish out work) .reply
+  unfolding handed replyOf acceptance refusal moved
+  own-key =
+      ap (λ (q : Reply). with (record { state = q .station .state; key = s .key }) q) e
+      ∙ ap (λ (k : Key). with (record { state = handed s (publish out work) .reply .station .state; key = k }) (handed s (publish out work) .reply))
+      (sym (go (step (view s) (publish out work) .number)))
+    where
+      go : (n : ℕ) → replyOf n s (moved s (publish out work)) (step (view s) (publish out work) .count) .station .key ≡ s .key
+      go zero = refl
+      go (suc n) = refl
