@@ -2,8 +2,6 @@
 // and writes a line for each.
 use libc::STDIN_FILENO;
 use libc::STDOUT_FILENO;
-ghost use mathlib.Core.Path.{_≡_};
-ghost use lib.ListN.{length};
 ghost use Rattle.io.specs.Counts.{Counts};
 
 // The first bytes of key.bin; none where there is no such file.
@@ -19,19 +17,12 @@ fn read_key(file: &mut [u8]) -> usize
     n
 }
 
-// Room for the longest text, by report's contract. The `ensures` gives only the length.
-fn room() -> [u8; 1114112]
-    ensures { λ r. ⌜ 1114112 ≡ length r ⌝ }
-{
-    [0; 1114112]
-}
-
 fn main() {
     let mut file = io::buffer();
     let f = read_key(&mut file);
     let mut input = io::large_buffer();
     let i = io::read_full(STDIN_FILENO, &mut input);
-    let mut out = room();
+    let mut out = opener::longest();
     let n = opener::report(&file[..f], &input[..i], &mut out);
     io::write_all(STDOUT_FILENO, &out[..n]);
 }

@@ -212,3 +212,10 @@ pub fn report(file: &[u8], input: &[u8], out: &mut [u8]) -> usize
     let i = bits::smaller(65536, input.len());
     whole(&file[..f], &input[..i], out)
 }
+
+// Room for the longest text. The `ensures` gives only the length.
+pub fn longest() -> [u8; 1114112]
+    ensures { λ r. ⌜ 1114112 ≡ length r ⌝ }
+{
+    [0; 1114112]
+}

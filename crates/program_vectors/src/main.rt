@@ -1,5 +1,5 @@
 // Runs the cases of data/ through opener::report. Case NN is the key file NN.key, none where it is missing, the
-// input NN.inp and the text NN.txt; 12 and 18 are cut to the lines of the input's first 1,000 bytes.
+// input NN.inp, of which the program reads 65,536 bytes, and the text NN.txt.
 use libc::STDOUT_FILENO;
 ghost use Rattle.io.specs.Counts.{Counts};
 
@@ -48,9 +48,9 @@ fn agrees(case: u8) -> bool {
     let f = read(case, *b"key", &mut file);
     let mut input = io::large_buffer();
     let i = read(case, *b"inp", &mut input);
-    let mut text = io::large_buffer();
+    let mut text = opener::longest();
     let t = read(case, *b"txt", &mut text);
-    let mut out = io::large_buffer();
+    let mut out = opener::longest();
     let n = opener::report(&file[..f], &input[..i], &mut out);
     n == t && starts(&out, &text[..t])
 }

@@ -1,4 +1,4 @@
-//! A progress bar on standard error, for long work and only on a terminal.
+//! A progress bar on standard error, where that is a terminal and the work is long.
 
 use std::io::{self, IsTerminal, Write};
 use std::time::{Duration, Instant};
@@ -16,9 +16,8 @@ pub struct Progress {
 }
 
 impl Progress {
-    /// Shown where standard error is a terminal and the lines on standard output do not show progress themselves.
     pub fn new(total: Option<u64>, unit: &'static str) -> Progress {
-        let wanted = io::stderr().is_terminal() && !io::stdout().is_terminal();
+        let wanted = io::stderr().is_terminal();
         Progress { total, unit, next: wanted.then(|| Instant::now() + LONG), shown: false }
     }
 
@@ -30,14 +29,19 @@ impl Progress {
             let _ = write!(io::stderr(), "\r{}", text(done, self.total, self.unit));
         }
     }
-}
 
-/// The bar is taken away at the end.
-impl Drop for Progress {
-    fn drop(&mut self) {
-        if self.shown {
+    /// Takes the bar away until it is shown next: before lines, which may go to the same terminal, and at the end.
+    pub fn clear(&mut self) {
+        if std::mem::take(&mut self.shown) {
+            self.next = Some(Instant::now());
             let _ = write!(io::stderr(), "\r\x1b[K");
         }
+    }
+}
+
+impl Drop for Progress {
+    fn drop(&mut self) {
+        self.clear();
     }
 }
 

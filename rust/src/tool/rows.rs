@@ -2,11 +2,14 @@
 
 use std::ffi::OsString;
 use std::fs::File;
-use std::io::{self, BufReader, BufWriter, Read, Write};
+use std::io::{self, BufReader, Read, Write};
 use std::path::Path;
 
 use crate::failure::Failure;
 use crate::progress::Progress;
+
+/// Bytes of lines that are written at once.
+const MANY: usize = 1 << 13;
 
 pub struct Rows {
     name: String,
@@ -44,19 +47,31 @@ impl Rows {
 
 /// Writes what `line` says of each position and row; whether all were accepted.
 pub fn each(mut rows: Rows, line: impl Fn(u64, &[u8]) -> (String, bool)) -> Result<bool, Failure> {
-    let mut out = BufWriter::new(io::stdout().lock());
-    let (mut row, mut position, mut all) = (vec![], 0, true);
-    while rows.next(&mut row)? {
+    let (mut row, mut lines, mut position, mut all) = (vec![], String::new(), 0, true);
+    loop {
+        let more = rows.next(&mut row);
+        // At the end, before a wait for more input, and where many have gathered, the lines are handed on.
+        if !matches!(more, Ok(true)) {
+            hand_on(&mut lines, &mut rows.progress)?;
+            return more.map(|_| all);
+        }
         position += 1;
         let (text, accepted) = line(position, &row);
-        writeln!(out, "{text}")?;
-        // Before a wait for more input, what is known is handed on.
-        if rows.input.buffer().is_empty() {
-            out.flush()?;
+        lines.push_str(&text);
+        lines.push('\n');
+        if rows.input.buffer().is_empty() || lines.len() >= MANY {
+            hand_on(&mut lines, &mut rows.progress)?;
         }
         all &= accepted;
         rows.progress.show(position);
     }
+}
+
+fn hand_on(lines: &mut String, progress: &mut Progress) -> io::Result<()> {
+    progress.clear();
+    let mut out = io::stdout().lock();
+    out.write_all(lines.as_bytes())?;
     out.flush()?;
-    Ok(all)
+    lines.clear();
+    Ok(())
 }

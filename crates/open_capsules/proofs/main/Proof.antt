@@ -23,8 +23,8 @@ slice-aggregate-read-full c = search needs
 read-full-requires : tie.Need-read-full-requires
 read-full-requires c κs = search needs
 
-room-requires : tie.Need-room-requires
-room-requires c κs = search needs
+longest-requires : tie.Need-longest-requires
+longest-requires c κs = search needs
 
 array-share-prefix-file : tie.Need-array-share-prefix-file
 array-share-prefix-file c = search needs
@@ -66,7 +66,7 @@ main-spec =
     large-buffer-requires
     slice-aggregate-read-full
     read-full-requires
-    room-requires
+    longest-requires
     array-share-prefix-file
     slice-aggregate-report
     array-share-prefix-input
