@@ -34,7 +34,7 @@ drop-zeros zero k = rw (sub-zero k)
 drop-zeros (suc n) zero = let e : 0 - suc n ≡ zero = omega arith in rw e
 drop-zeros (suc n) (suc k) = let e : suc k - suc n ≡ k - n = omega arith in rw e (drop-zeros n k)
 
-over-zeros : (n : ℕ) (l : List ℕ) → over l (replicate n 0) ≡ padded n l
+pub over-zeros : (n : ℕ) (l : List ℕ) → over l (replicate n 0) ≡ padded n l
 unfolding over padded
 over-zeros n l = ap (_++_ l) (drop-zeros (length l) n)
 

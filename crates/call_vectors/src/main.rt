@@ -129,8 +129,9 @@ fn ends(station: Station, line: &[u8]) -> bool {
     }
     let file = b.bytes;
     let n = size(&file, b.count);
-    let r = key_file::load(&file[..n]);
-    let held = r.key;
+    let r = Station::fresh().load(&file[..n]);
+    let loaded = r.station;
+    let held = loaded.key;
     r.refused == 0 && state == number_of(line, 2) % 100 + 1 && same_key(key, held)
 }
 

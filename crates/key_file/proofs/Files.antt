@@ -2,25 +2,29 @@
 use mathlib.Core.Path.{_≡_, refl, sym, ap, ap₂, _∙_, subst}
 use mathlib.Core.Bool.{Bool, true, false, not, cond, _&&_}
 use mathlib.Core.List.{List, _++_}
-use Prim.Native.Nat.{ℕ, _+_, _*_, _≤_}
+use Prim.Native.Nat.{ℕ, zero, suc, _+_, _*_, _≤_}
 use native.Mathlib.Decide.{ℕ-discrete}
 use lib.Dec.{eqb}
-use lib.ListN.{length, take, drop, getD, replicate}
+use lib.ListN.{length, take, drop, getD}
+use lib.Seq.{take-append-seam}
 use borrow.Author.Tests.{eq-eqb, ne-eqb}
-use Rattle.bits.specs.Bits.{padded}
+use Rattle.bits.specs.Bits.{over}
 use Rattle.field.specs.Numbers.{firstOf}
 use Rattle.field.specs.Field.{isWidth}
 use Rattle.field.proofs.Table.{Width}
 use Rattle.key.specs.Shapes.{inLimits}
 use Rattle.key.specs.Keys.{pair, elements, parse, conditions, fileConditions, keyNumber}
-use Rattle.key.specs.Kept.{kept, keep, noKey, sizesOf}
+use Rattle.key.specs.Kept.{parts, kept, sizesOf}
+use Rattle.key.specs.Answers.{sizes, shapeAnswer}
+use Rattle.key.specs.declared.shape.ShapeAnswer.the-variants as answers
 use Rattle.key.specs.declared.shape.Sizes.{Sizes}
-use Rattle.key.specs.declared.kept.Key.{Key}
 use Rattle.key.proofs.Conditions.{head-width, head-length, head-limits, head-none, head-clear, first-take, number-faults, limits-fit}
 use Rattle.key.proofs.Parse.{length-elements}
-use Rattle.key.proofs.Filled.{filled-zeros, kept-keep}
-use Rattle.key_file.specs.Loaded.{loadedOf}
-use Rattle.key_file.specs.declared.Loaded.{Loaded}
+use Rattle.key_file.specs.Loaded.{loadedOf, writtenOf}
+
+-- the start of a list that another is written over
+front : (l x : List ℕ) {n : ℕ} → length l ≡ n → take n (l ++ drop (length l) x) ≡ l
+front l x e = ap (λ (n : ℕ). take n (l ++ drop (length l) x)) (sym e) ∙ take-append-seam l (drop (length l) x)
 
 -- the shape that a file says
 pub sizes-said : (file : List ℕ) {m n t : ℕ} → m ≡ getD file 0 0 → n ≡ pair file 1 → t ≡ pair file (3 + 2 * n)
@@ -104,62 +108,67 @@ module _ (file : List ℕ) where
         let fit = limits-fit (parse file .m) (parse file .n) (parse file .t) clear-width clear-limits in
         (subst (_≤ 8192) (sym (ap (λ (x : Sizes). x .n) e)) (fit .0), subst (_≤ 128) (sym (ap (λ (x : Sizes). x .t) e)) (fit .1))
 
-    -- the kept key decides
-    pub kept-decides : keyNumber (kept (keep (parse file))) ≡ firstOf (fileConditions file)
+    -- the file's key decides
+    key-decides : keyNumber (parse file) ≡ firstOf (fileConditions file)
     unfolding keyNumber
-    kept-decides =
+    key-decides =
         let k = parse file in
         let lengths : not (eqb (length (k .support)) (k .n) && eqb (length (k .g)) (k .t)) ≡ false =
         ap₂ (λ (x y : Bool). not (x && y)) (eq-eqb (length (k .support)) (k .n) support-length) (eq-eqb (length (k .g)) (k .t) g-length) in
-        ap keyNumber (kept-keep k support-length g-length)
-        ∙ sym (number-faults (not (eqb (length (k .support)) (k .n) && eqb (length (k .g)) (k .t))) k clear-width lengths clear-limits)
+        sym (number-faults (not (eqb (length (k .support)) (k .n) && eqb (length (k .g)) (k .t))) k clear-width lengths clear-limits)
         ∙ number-faults wrong k clear-width (clear .1) clear-limits
         ∙ ap firstOf conditions-of
 
-  -- the arrays, filled from zeros, with the shape s that the file says
-  pub read-right : (s : Sizes) {x y : List ℕ} → s ≡ sizesOf (parse file)
-      → x ≡ elements file 3 (s .n) ++ drop (s .n) (replicate 8192 0)
-      → y ≡ elements file (5 + 2 * s .n) (s .t) ++ drop (s .t) (replicate 128 0)
-      → _≡_ {A = Key} (record { m = s .m; n = s .n; t = s .t; support = x; g = y }) (keep (parse file))
-  unfolding sizesOf parse keep
-  read-right s e p q =
-      ap₂ (λ (x y : List ℕ). record { m = s .m; n = s .n; t = s .t; support = x; g = y })
-      (p ∙ filled-zeros file 3 (s .n) 8192)
-      (q ∙ filled-zeros file (5 + 2 * s .n) (s .t) 128)
-      ∙ ap (λ (s : Sizes). record {
-        m = s .m;
-        n = s .n;
-        t = s .t;
-        support = padded 8192 (elements file 3 (s .n));
-        g = padded 128 (elements file (5 + 2 * s .n) (s .t));
-      }) e
+  -- the elements of the shape s that the file says, over the start of the lists x and y
+  module _ (s : Sizes) (e : s ≡ sizesOf (parse file)) (x y : List ℕ) where
+    pub support-over : elements file 3 (s .n) ++ drop (s .n) x ≡ over (parse file .support) x
+    unfolding over parse sizesOf
+    support-over =
+        ap (λ (s : Sizes). elements file 3 (s .n) ++ drop (s .n) x) e
+        ∙ ap (λ (n : ℕ). parse file .support ++ drop n x) (sym support-length)
 
-  -- what load answers
-  pub loaded-refused : {x : ℕ} {k : Key} → x ≡ firstOf (fileConditions file) → (x ≡ 0 → ⊥) → k ≡ noKey
-      → _≡_ {A = Loaded} (record { refused = x; key = k }) (loadedOf file)
-  unfolding loadedOf
-  loaded-refused e n q =
-      ap₂ (λ (x : ℕ) (k : Key). record { refused = x; key = k }) e
-      (q ∙ ap (λ (b : Bool). cond b (keep (parse file)) noKey) (sym (ne-eqb (firstOf (fileConditions file)) 0 (λ z. n (e ∙ z)))))
+    pub g-over : elements file (5 + 2 * s .n) (s .t) ++ drop (s .t) y ≡ over (parse file .g) y
+    unfolding over parse sizesOf
+    g-over =
+        ap (λ (s : Sizes). elements file (5 + 2 * s .n) (s .t) ++ drop (s .t) y) e
+        ∙ ap (λ (n : ℕ). parse file .g ++ drop n y) (sym g-length)
 
-  pub loaded-accepted : {k : Key} → 0 ≡ firstOf (fileConditions file) → k ≡ keep (parse file)
-      → _≡_ {A = Loaded} (record { refused = 0; key = k }) (loadedOf file)
-  unfolding loadedOf
-  loaded-accepted e q =
-      ap₂ (λ (x : ℕ) (k : Key). record { refused = x; key = k }) e
-      (q ∙ ap (λ (b : Bool). cond b (keep (parse file)) noKey) (sym (eq-eqb (firstOf (fileConditions file)) 0 (sym e))))
+    -- they decide
+    pub over-decides : head ≡ 0 → keyNumber (kept (parts (s .m) (s .n) (s .t) (over (parse file .support) x) (over (parse file .g) y))) ≡ firstOf (fileConditions file)
+    unfolding over sizesOf kept
+    over-decides z =
+        let k = parse file in
+        ap (λ (s : Sizes). keyNumber (record {
+          m = s .m;
+          n = s .n;
+          t = s .t;
+          support = take (s .n) (k .support ++ drop (length (k .support)) x);
+          g = take (s .t) (k .g ++ drop (length (k .g)) y);
+        })) e
+        ∙ ap₂ (λ (a b : List ℕ). keyNumber (record { m = k .m; n = k .n; t = k .t; support = a; g = b })) (front (k .support) x support-length) (front (k .g) y g-length)
+        ∙ key-decides z
 
-  -- an accepted file's key is kept
-  pub loaded-key : firstOf (fileConditions file) ≡ 0 → kept (loadedOf file .key) ≡ parse file
-  unfolding loadedOf
-  loaded-key z =
-      ap (λ (b : Bool). kept (cond b (keep (parse file)) noKey)) (eq-eqb (firstOf (fileConditions file)) 0 z)
-      ∙ kept-keep (parse file) support-length g-length
+  -- what load answers and writes, by its numbers
+  pub loaded-refused : {x : ℕ} → x ≡ firstOf (fileConditions file) → (x ≡ 0 → ⊥) → answers.Refused x ≡ loadedOf file
+  unfolding loadedOf shapeAnswer
+  loaded-refused {x = zero} e n = absurd (n refl)
+  loaded-refused {x = suc x} e n = ap (λ (i : ℕ). shapeAnswer i (parse file .m, parse file .n, parse file .t)) e
 
-  -- and check answers 0 for it
-  pub loaded-number : firstOf (fileConditions file) ≡ 0 → keyNumber (kept (loadedOf file .key)) ≡ 0
-  unfolding loadedOf
-  loaded-number z = elim (ℕ-discrete head 0) [
-    | yes h ↦ ap (λ (b : Bool). keyNumber (kept (cond b (keep (parse file)) noKey))) (eq-eqb (firstOf (fileConditions file)) 0 z) ∙ kept-decides h ∙ z
+  pub loaded-sizes : {s : Sizes} → s ≡ sizesOf (parse file) → 0 ≡ firstOf (fileConditions file) → answers.Sizes s ≡ loadedOf file
+  unfolding loadedOf shapeAnswer sizes sizesOf
+  loaded-sizes q e = ap (λ (s : Sizes). answers.Sizes s) q ∙ ap (λ (i : ℕ). shapeAnswer i (parse file .m, parse file .n, parse file .t)) e
+
+  pub read-none : (head ≡ 0 → ⊥) → (x : List ℕ) → (x ≡ over (writtenOf file .support) x) × (x ≡ over (writtenOf file .g) x)
+  unfolding writtenOf over
+  read-none n x = rw (ne-eqb head 0 n) (refl, refl)
+
+  pub read-whole : head ≡ 0 → writtenOf file ≡ parse file
+  unfolding writtenOf
+  read-whole z = rw (eq-eqb head 0 z)
+
+  -- an accepted file is read whole
+  pub read-accepted : firstOf (fileConditions file) ≡ 0 → writtenOf file ≡ parse file
+  read-accepted z = elim (ℕ-discrete head 0) [
+    | yes h ↦ read-whole h
     | no n ↦ absurd (n (first-take 3 (fileConditions file) n ∙ z))
   ]

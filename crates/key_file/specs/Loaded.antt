@@ -1,15 +1,18 @@
--- What load answers. Assumes nothing.
+-- What load answers and writes. Assumes nothing.
 use Prim.Native.Nat.{ℕ}
 use mathlib.Core.Bool.{cond}
-use mathlib.Core.List.{List}
+use mathlib.Core.List.{List, []}
 use lib.Dec.{eqb}
+use lib.ListN.{take}
 use Rattle.field.specs.Numbers.{firstOf}
-use Rattle.key.specs.Keys.{parse, fileConditions}
-use Rattle.key.specs.Kept.{keep, noKey}
-use Rattle.key_file.specs.declared.Loaded.{Loaded}
+use Rattle.key.specs.Keys.{Key, parse, fileConditions}
+use Rattle.key.specs.Answers.{shapeAnswer}
+use Rattle.key.specs.declared.shape.ShapeAnswer.{ShapeAnswer}
 
--- the number of the file, and its key where that is 0
-unfoldable pub loadedOf : List ℕ → Loaded
-loadedOf file =
-    let x : ℕ = firstOf (fileConditions file) in
-    record { refused = x; key = cond (eqb x 0) (keep (parse file)) noKey }
+-- the shape of the file's key, or the number of a refusal
+unfoldable pub loadedOf : List ℕ → ShapeAnswer
+loadedOf file = let k : Key = parse file in shapeAnswer (firstOf (fileConditions file)) (k .m, k .n, k .t)
+
+-- the key whose elements are written: the file's, and one of no size where one of 1 to 3 holds
+unfoldable pub writtenOf : List ℕ → Key
+writtenOf file = cond (eqb (firstOf (take 3 (fileConditions file))) 0) (parse file) (record { m = 0; n = 0; t = 0; support = []; g = [] })

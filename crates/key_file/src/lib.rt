@@ -1,22 +1,17 @@
 // Key files (document 01, 'Keys').
 use key::checks::check;
-use key::kept::Key;
-use key::kept::none;
+use key::shape::ShapeAnswer;
 use key::shape::Sizes;
 use key::shape::in_limits;
 ghost use mathlib.Core.Path.{_≡_};
 ghost use mathlib.Core.List.{_++_};
 ghost use lib.ListN.{length, take, drop, getD};
 ghost use Prim.Native.Nat.{_+_, _*_, _^_, _≤_, _<_};
+ghost use Rattle.bits.specs.Bits.{over};
 ghost use Rattle.field.specs.Numbers.{firstOf};
 ghost use Rattle.key.specs.Keys.{pair as pairOf, elements, parse, fileConditions};
-ghost use Rattle.key.specs.Kept.{keep, sizesOf};
-ghost use Rattle.key_file.specs.Loaded.{loadedOf};
-
-pub struct Loaded {
-    pub refused: u8,
-    pub key: Key,
-}
+ghost use Rattle.key.specs.Kept.{sizesOf};
+ghost use Rattle.key_file.specs.Loaded.{loadedOf, writtenOf};
 
 // The byte at i, and 0 past the end.
 fn byte(file: &[u8], i: usize) -> u8
@@ -77,45 +72,23 @@ fn fill(out: &mut [u16], file: &[u8], at: usize, n: usize)
     }
 }
 
-// The kept key of a file whose header is right.
-fn read(file: &[u8]) -> Key
-    requires { ⌜ firstOf (take 3 (fileConditions (now file))) ≡ 0 ⌝ }
-    ensures { λ r. ⌜ r ≡ keep (parse (now (file .entry))) ⌝ }
-{
-    let s = sizes(file);
-    let n = s.n;
-    let t = s.t;
-    let mut support = [0u16; 8192];
-    fill(&mut support, file, 3, n as usize);
-    let mut g = [0u16; 128];
-    fill(&mut g, file, 5 + 2 * (n as usize), t as usize);
-    Key {
-        m: s.m,
-        n,
-        t,
-        support,
-        g,
-    }
-}
-
-// The key of a file, with zeros past n and past t; the key of zeros where the file is refused.
-pub fn load(file: &[u8]) -> Loaded
-    ensures { λ r. ⌜ r ≡ loadedOf (now (file .entry)) ⌝ }
+// The shape of a file's key, whose elements are written over the start of the arrays once the header is right; 1 to 7 on refusal.
+pub fn load<'a, 'b>(file: &[u8], support: &'a mut [u16; 8192], g: &'b mut [u16; 128]) -> ShapeAnswer
+    ensures answer { λ r. ⌜ r ≡ loadedOf (now (file .entry)) ⌝ }
+    ensures support { λ _. ⌜ now (support .exit) ≡ over (writtenOf (now (file .entry)) .support) (now (support .entry)) ⌝ }
+    ensures g { λ _. ⌜ now (g .exit) ≡ over (writtenOf (now (file .entry)) .g) (now (g .entry)) ⌝ }
 {
     let x = header(file);
     if x != 0 {
-        return Loaded {
-            refused: x,
-            key: none(),
-        };
+        return ShapeAnswer::Refused(x);
     }
-    let key = read(file);
-    let y = check(key.m, key.n, key.t, &key.support, &key.g);
+    let z = sizes(file);
+    let n = z.n as usize;
+    fill(&mut support[..], file, 3, n);
+    fill(&mut g[..], file, 5 + 2 * n, z.t as usize);
+    let y = check(z.m, z.n, z.t, &*support, &*g);
     if y != 0 {
-        return Loaded {
-            refused: y,
-            key: none(),
-        };
+        return ShapeAnswer::Refused(y);
     }
-    Loaded { refused: 0, key }
+    ShapeAnswer::Sizes(z)
 }

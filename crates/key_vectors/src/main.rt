@@ -4,7 +4,7 @@ ghost use Prim.Native.Nat.{_+_, _*_, _≤_, _<_};
 ghost use lib.ListN.{length};
 use key::shape::ShapeAnswer;
 use key::shape::shape;
-use key_file::load;
+use station::Station;
 use vectors::line::digit;
 use vectors::line::end;
 use vectors::tally::Tally;
@@ -37,7 +37,7 @@ fn gives(file: &[u8], n: usize, number: u8) -> bool {
     if file.len() < n {
         return false;
     }
-    let r = load(&file[..n]);
+    let r = Station::fresh().load(&file[..n]);
     r.refused == number
 }
 
@@ -70,8 +70,9 @@ fn tally_of(text: &[u8]) -> Tally {
 
 // Load accepts the key and it has the shape at the position.
 fn has_shape(file: &[u8], position: u8) -> bool {
-    let r = load(file);
-    let k = r.key;
+    let r = Station::fresh().load(file);
+    let held = r.station;
+    let k = held.key;
     match shape(position) {
         ShapeAnswer::Sizes(s) => r.refused == 0 && k.m == s.m && k.n == s.n && k.t == s.t,
         ShapeAnswer::Refused(x) => false,

@@ -87,15 +87,7 @@ pub extern "C" fn shearcotter_fresh() -> Station
 pub extern "C" fn shearcotter_load(own: Station, file: &[u8]) -> Reply
     ensures { λ r. ⌜ r ≡ handed own (load (now (file .entry))) .reply ⌝ }
 {
-    let loaded = own.load(file);
-    if loaded.refused != 0 {
-        return Reply {
-            station: own,
-            refused: loaded.refused,
-            ones: 0,
-        };
-    }
-    loaded
+    own.load(file)
 }
 
 // T is written from the output's start, made in work; 21, 25, 10, 11 or 23 on refusal.

@@ -1,16 +1,23 @@
 -- What each call hands back once its state lets it through, from the lower call's answer. Assumes nothing.
 use Prim.Native.Nat.{ℕ, zero, suc}
-use mathlib.Core.Path.{_≡_, refl, sym, ap, _∙_}
+use mathlib.Core.Path.{_≡_, refl, sym, ap, ap₂, _∙_}
 use mathlib.Core.Bool.{Bool, true, false, true≢false, not, cond}
 use mathlib.Core.List.{List}
 use native.Mathlib.Omega.{arith}
 use borrow.Author.Tests.{eq-eqb}
+use lib.ListN.{replicate}
+use Rattle.bits.specs.Bits.{over, padded}
+use Rattle.bits.proofs.Padded.{over-zeros}
 use Rattle.field.specs.Numbers.{firstOf}
 use Rattle.key.specs.Keys.{Key, parse, unsound}
-use Rattle.key.specs.Kept.{kept, keep, noKey}
+use Rattle.key.specs.Kept.{kept, keep, parts}
+use Rattle.key.specs.Answers.{sizes, shapeAnswer}
 use Rattle.key.specs.declared.kept.Key as Kept
-use Rattle.key_file.specs.Loaded.{loadedOf}
-use Rattle.key_file.specs.declared.Loaded.{Loaded}
+use Rattle.key.specs.declared.shape.Sizes.{Sizes}
+use Rattle.key.specs.declared.shape.ShapeAnswer.{ShapeAnswer}
+use Rattle.key.specs.declared.shape.ShapeAnswer.the-variants as shapes
+use Rattle.key_file.specs.Loaded.{loadedOf, writtenOf}
+use Rattle.key_file.proofs.Files.{read-accepted}
 use Rattle.code.specs.Publish.{publishNumber, publishOutput}
 use Rattle.code.specs.Publish as Publish
 use Rattle.decoder.specs.Calls.{openOutput, readOutput, patternOutput}
@@ -25,34 +32,53 @@ use Rattle.ledger.specs.Station.{loaded, published as isPublished, isEmpty, isU
 use Rattle.ledger.specs.Calls.{Call, load, publish, open-capsule, read-word}
 use Rattle.ledger.specs.Demands.{outputOf}
 use Rattle.ledger.proofs.StepLaws.{step-free, freed}
-use Rattle.station.specs.Replies.{stateOf, byteOf, view, publishedNumber, answerNumber, refusal, acceptance, moved, handed}
+use Rattle.station.specs.Replies.{stateOf, byteOf, view, shapeNumber, publishedNumber, answerNumber, refusal, acceptance, moved, handed}
 use Rattle.station.specs.declared.Station.{Station}
 use Rattle.station.proofs.ReplyLaws.{stop, lower, tally, bytes, lower-refused, lower-accepted, lower-output}
 
 -- load, on an empty station
-module _ (s : Station) (file : List ℕ) (empty : isEmpty (stateOf (s .state)) ≡ true) (r : Loaded) (e : r ≡ loadedOf file) where
+shape-number : (q : ℕ) (s : ℕ × ℕ × ℕ) → shapeNumber (shapeAnswer q s) ≡ q
+unfolding shapeNumber shapeAnswer
+shape-number zero s = refl
+shape-number (suc q) s = refl
+
+shape-sizes : (q : ℕ) (s : ℕ × ℕ × ℕ) {z : Sizes} → shapeAnswer q s ≡ shapes.Sizes z → (q ≡ 0) × (z ≡ sizes s)
+unfolding shapeAnswer
+shape-sizes zero s e = (refl, cc)
+shape-sizes (suc q) s e = let z : _≡_ {A = ℕ} 0 1 = cc in absurd (omega arith)
+
+shape-refused : (q : ℕ) (s : ℕ × ℕ × ℕ) {x : ℕ} → shapeAnswer q s ≡ shapes.Refused x → q ≡ 0 → ⊥
+unfolding shapeAnswer
+shape-refused zero s e h = let z : _≡_ {A = ℕ} 0 1 = cc in omega arith
+shape-refused (suc q) s e h = omega arith
+
+module _ (s : Station) (file : List ℕ) (empty : isEmpty (stateOf (s .state)) ≡ true) (a : ShapeAnswer) (e : a ≡ loadedOf file) where
   load-passes : stop s (load file) .0 ≡ false
   unfolding stop
   load-passes = ap not empty
 
-  load-number : r .refused ≡ lower s (load file)
+  load-number : shapeNumber a ≡ lower s (load file)
   unfolding lower loadedOf
-  load-number = ap (λ (l : Loaded). l .refused) e
+  load-number = ap shapeNumber e ∙ shape-number _ _
 
-  pub load-refused : (r .refused ≡ 0 → ⊥) → refusal s (r .refused) ≡ handed s (load file) .reply
-  load-refused h = lower-refused s (load file) load-passes (r .refused) load-number h
+  pub load-refused : {x : ℕ} → a ≡ shapes.Refused x → refusal s (shapeNumber a) ≡ handed s (load file) .reply
+  unfolding lower loadedOf
+  load-refused h =
+      lower-refused s (load file) load-passes (shapeNumber a) load-number (λ z. shape-refused _ _ (sym e ∙ h) (sym load-number ∙ z))
 
-  load-key : r .refused ≡ 0 → r .key ≡ keep (parse file)
-  unfolding loadedOf
-  load-key z =
-      ap (λ (l : Loaded). l .key) e
-      ∙ ap (λ (b : Bool). cond b (keep (parse file)) noKey) (eq-eqb _ 0 (sym (ap (λ (l : Loaded). l .refused) e) ∙ z))
-
-  pub load-accepted : r .refused ≡ 0 → acceptance (record { state = byteOf loaded; key = r .key }) 0 ≡ handed s (load file) .reply
-  unfolding moved tally
-  load-accepted z =
-      ap (λ (k : Kept.Key). acceptance (record { state = byteOf loaded; key = k }) 0) (load-key z)
-      ∙ lower-accepted s (load file) load-passes (sym load-number ∙ z)
+  -- the elements are written over zeros
+  pub load-accepted : {z : Sizes} {x y : List ℕ} → a ≡ shapes.Sizes z → x ≡ over (writtenOf file .support) (replicate 8192 0)
+      → y ≡ over (writtenOf file .g) (replicate 128 0)
+      → acceptance (record { state = byteOf loaded; key = parts (z .m) (z .n) (z .t) x y }) 0 ≡ handed s (load file) .reply
+  unfolding moved tally lower loadedOf keep sizes
+  load-accepted {z} h p q =
+      let o = shape-sizes _ _ (sym e ∙ h) in
+      let k = read-accepted file (o .0) in
+      ap (λ (k : Kept.Key). acceptance (record { state = byteOf loaded; key = k }) 0)
+      (ap₂ (λ (x y : List ℕ). parts (z .m) (z .n) (z .t) x y) (p ∙ ap (λ (r : Key). over (r .support) (replicate 8192 0)) k ∙ over-zeros 8192 _)
+      (q ∙ ap (λ (r : Key). over (r .g) (replicate 128 0)) k ∙ over-zeros 128 _)
+      ∙ ap (λ (z : Sizes). parts (z .m) (z .n) (z .t) (padded 8192 (parse file .support)) (padded 128 (parse file .g))) (o .1))
+      ∙ lower-accepted s (load file) load-passes (o .0)
 
 -- publish, with a key
 published-number : (q : ℕ) → publishedNumber (publishedOf q) ≡ q

@@ -5,6 +5,8 @@ use mathlib.Core.Bool.{Bool}
 use mathlib.Core.List.{List, [], _∷_}
 use Rattle.key.specs.Keys.{parse}
 use Rattle.key.specs.Kept.{kept, keep, noKey}
+use Rattle.key.specs.declared.shape.ShapeAnswer.{ShapeAnswer}
+use Rattle.key.specs.declared.shape.ShapeAnswer.the-variants as shapes
 use Rattle.publishing.specs.declared.Published.{Published}
 use Rattle.publishing.specs.declared.Published.the-variants as published
 use Rattle.reading.specs.declared.calls.Answer.{Answer}
@@ -31,6 +33,10 @@ unfoldable pub view : Station → Definition.Station
 view s = record { state = stateOf (s .state); key = kept (s .key) }
 
 -- the number in a lower answer, and 0 where it is no refusal
+unfoldable pub shapeNumber : ShapeAnswer → ℕ
+shapeNumber (shapes.Sizes s) = 0
+shapeNumber (shapes.Refused n) = n
+
 unfoldable pub publishedNumber : Published → ℕ
 publishedNumber published.Done = 0
 publishedNumber (published.Refused n) = n

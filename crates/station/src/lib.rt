@@ -1,12 +1,13 @@
 // The station that keeps one key (document 01, 'Station').
 use key::kept::Key;
+use key::shape::ShapeAnswer;
 use publishing::Published;
 use reading::Answer;
 ghost use mathlib.Core.Path.{_≡_};
 ghost use mathlib.Core.Bool.{false, not};
 ghost use Rattle.ledger.specs.Station.{isEmpty, isUnpublished};
 ghost use Rattle.ledger.specs.Calls.{load, publish, open-capsule, read-word, drop-key};
-ghost use Rattle.station.specs.Replies.{stateOf, publishedNumber, answerNumber, freshStation, refusal, acceptance, handed};
+ghost use Rattle.station.specs.Replies.{stateOf, shapeNumber, publishedNumber, answerNumber, freshStation, refusal, acceptance, handed};
 
 // One slot: the state and the key, the key of zeros where it is empty. State 0 is no key, 1 a key, any other a published key.
 #[repr(C)]
@@ -35,6 +36,16 @@ fn is_published(state: u8) -> bool
     ensures { λ r. ⌜ r ≡ not (isUnpublished (stateOf state)) ⌝ }
 {
     Station::LOADED < state
+}
+
+// The number of load's refusal, and 0 where there is a shape.
+fn shape_number(answer: ShapeAnswer) -> u8
+    ensures { λ r. ⌜ r ≡ shapeNumber answer ⌝ }
+{
+    match answer {
+        ShapeAnswer::Sizes(_) => 0,
+        ShapeAnswer::Refused(n) => n,
+    }
 }
 
 // The number of publish's refusal, and 0 where T is written.
@@ -111,12 +122,19 @@ impl Station {
         if !is_empty(state) {
             return self.refuse(22);
         }
-        let loaded = key_file::load(file);
-        let x = loaded.refused;
-        if x != 0 {
-            return self.refuse(x);
-        }
-        let key = loaded.key;
+        let mut support = [0u16; 8192];
+        let mut g = [0u16; 128];
+        let answer = key_file::load(file, &mut support, &mut g);
+        let ShapeAnswer::Sizes(s) = answer else {
+            return self.refuse(shape_number(answer));
+        };
+        let key = Key {
+            m: s.m,
+            n: s.n,
+            t: s.t,
+            support,
+            g,
+        };
         Reply {
             station: Station {
                 state: Station::LOADED,

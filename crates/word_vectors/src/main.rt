@@ -3,11 +3,12 @@
 // `read WORD ok PATTERN ONES`, `open CAPSULE ok PATTERN` as if published, `lock PATTERN ok CAPSULE`, or one of the
 // four with `refused NUMBER` from `ok` on. Bytes are in hexadecimal, and `-` is none.
 use key::kept::Key;
-use key_file::load;
 use libc::STDOUT_FILENO;
 use locking::Locked;
 use publishing::Published;
 use reading::Answer;
+use station::Reply;
+use station::Station;
 use vectors::line::Bytes;
 use vectors::line::FILLER;
 use vectors::line::bytes_of;
@@ -69,12 +70,12 @@ fn locked(l: Locked) -> u8 {
     }
 }
 
-// The key of a line.
-fn key_of(line: &[u8]) -> key_file::Loaded {
+// The key of a line, loaded.
+fn key_of(line: &[u8]) -> Reply {
     let b = bytes_of(line, 1);
     let file = b.bytes;
     let n = size(&file, b.count);
-    load(&file[..n])
+    Station::fresh().load(&file[..n])
 }
 
 // Publish gives the number and the public key.
@@ -161,7 +162,8 @@ fn counted(mut s: State, kind: usize, agrees: bool) -> State {
 // The state at a key's line.
 fn keyed(mut s: State, line: &[u8]) -> State {
     let r = key_of(line);
-    let key = r.key;
+    let held = r.station;
+    let key = held.key;
     s.key = key;
     counted(s, KEY, r.refused == 0)
 }
@@ -217,12 +219,14 @@ fn by_running() {
     let k2 = key_of(
         b"key 04100000000100020003000400050006000700080009000a000b000c000d000e000f00020008000100",
     );
-    let key = k1.key;
+    let held = k1.station;
+    let key = held.key;
     say(
         b"K1 lock 00 gives 12",
         locks(key, bytes_of(b"public 03010200", 1), b"lock 00 refused 12"),
     );
-    let key = k2.key;
+    let held = k2.station;
+    let key = held.key;
     say(
         b"K2 read 03 00 gives 03 00, two ones",
         reads(key, b"read 0300 ok 0300 2"),

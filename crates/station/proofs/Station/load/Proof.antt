@@ -1,9 +1,10 @@
 -- The state, then the file. Assumes nothing.
 use mathlib.Core.Path.{sym, ap, _∙_}
 use mathlib.Core.Bool.{not}
+use borrow.Author.Needs.{needs}
 use borrow.Author.Tests.{not-true, not-false}
 use Rattle.ledger.specs.Calls.{load}
-use Rattle.station.specs.Replies.{byteOf, acceptance}
+use Rattle.station.specs.Replies.{byteOf, refusal, acceptance}
 use Rattle.station.proofs.ReplyLaws.{stop, stopped}
 use Rattle.station.proofs.LowerLaws.{load-refused, load-accepted}
 use Rattle.station.proofs.Station.load.Statement.{statement}
@@ -25,22 +26,35 @@ returns c =
 load-requires : tie.Need-load-requires
 load-requires c κs = tt
 
+enum-known-answer : tie.Need-enum-known-answer
+enum-known-answer c = search needs
+
+enum-told : tie.Need-enum-told
+enum-told c = search needs
+
+shape-number-requires : tie.Need-shape-number-requires
+shape-number-requires c κs = tt
+
 refuse-requires-2 : tie.Need-refuse-requires-2
 refuse-requires-2 c κs = tt
 
 returns-2 : tie.Need-returns-2
 returns-2 c =
-    let i = c .before .before .before .before in
-    let a = i .before .before .args in
+    let p = c .before .before .before .before in
+    let e = p .before .before .before in
+    let a = e .before .before .before .args in
     c .refuse2 .ensures
-    ∙ load-refused (a .self) (a .file .now) (sym (i .is-empty .ensures) ∙ not-false _ (c .before .before .before .if1 .left)) _ (c .before .before .load .ensures) (c .before .if2 .taken)
+    ∙ ap (refusal (a .self)) (c .before .shape-number .ensures)
+    ∙ load-refused (a .self) (a .file .now) (sym (e .before .is-empty .ensures) ∙ not-false _ (e .if1 .left)) _ (p .load .ensures .0) (c .before .before .enum-told .given .1)
 
 returns-3 : tie.Need-returns-3
 unfolding acceptance byteOf
 returns-3 c =
-    let i = c .before .before .before .before in
-    let a = i .before .before .args in
-    load-accepted (a .self) (a .file .now) (sym (i .is-empty .ensures) ∙ not-false _ (c .before .before .before .if1 .left)) _ (c .before .before .load .ensures) (c .before .if2 .left)
+    let p = c .before .before .before in
+    let e = p .before .before .before in
+    let a = e .before .before .before .args in
+    load-accepted (a .self) (a .file .now) (sym (e .before .is-empty .ensures) ∙ not-false _ (e .if1 .left)) _ (p .load .ensures .0) (c .before .answer .given .1)
+    (p .load .ensures .1 .0) (p .load .ensures .1 .1)
 
 pub load-spec : {M : Type 1} → statement M
 load-spec =
@@ -50,6 +64,9 @@ load-spec =
     refuse-requires
     returns
     load-requires
+    enum-known-answer
+    enum-told
+    shape-number-requires
     refuse-requires-2
     returns-2
     returns-3)
