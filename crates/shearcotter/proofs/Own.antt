@@ -2,17 +2,27 @@
 use Prim.Native.Nat.{ℕ, zero, suc}
 use mathlib.Core.Path.{_≡_, refl, sym, ap, _∙_}
 use mathlib.Core.List.{List}
+use native.Mathlib.Omega.{arith}
 use Rattle.key.specs.declared.kept.Key.{Key}
 use Rattle.ledger.specs.Calls.{Call, publish, step}
 use Rattle.station.specs.Replies.{view, refusal, acceptance, moved, replyOf, handed}
 use Rattle.station.specs.declared.Station.{Station}
 use Rattle.station.specs.declared.Reply.{Reply}
+use Rattle.station.proofs.Demand1.{refused-reply}
 
 -- a reply with another station
 abbrev pub with : Station → Reply → Reply
 with s r = record { station = s; refused = r .refused; ones = r .ones }
 
 module _ (s : Station) (c : Call) (r : Reply) (e : r ≡ handed s c .reply) where
+  -- refused
+  pub own-refused : (r .refused ≡ 0 → ⊥) → refusal s (r .refused) ≡ handed s c .reply
+  own-refused h = go (r .refused) refl
+    where
+      go : (n : ℕ) → r .refused ≡ n → refusal s n ≡ handed s c .reply
+      go zero z = absurd (h z)
+      go (suc n) z = sym (refused-reply s c n (ap (λ (q : Reply). q .refused) (sym e) ∙ z))
+
   -- a call that leaves the station
   pub own-left : moved s c ≡ s → with s r ≡ handed s c .reply
   unfolding handed replyOf acceptance refusal

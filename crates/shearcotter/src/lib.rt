@@ -87,7 +87,15 @@ pub extern "C" fn shearcotter_fresh() -> Station
 pub extern "C" fn shearcotter_load(own: Station, file: &[u8]) -> Reply
     ensures { λ r. ⌜ r ≡ handed own (load (now (file .entry))) .reply ⌝ }
 {
-    own.load(file)
+    let loaded = own.load(file);
+    if loaded.refused != 0 {
+        return Reply {
+            station: own,
+            refused: loaded.refused,
+            ones: 0,
+        };
+    }
+    loaded
 }
 
 // T is written from the output's start, made in work; 21, 25, 10, 11 or 23 on refusal.

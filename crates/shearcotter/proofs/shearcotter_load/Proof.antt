@@ -1,0 +1,21 @@
+-- The station's reply, with the caller's own station on refusal. Assumes nothing.
+use Rattle.ledger.specs.Calls.{load}
+use Rattle.station.specs.Replies.{refusal}
+use Rattle.shearcotter.proofs.Own.{own-refused}
+use Rattle.shearcotter.proofs.shearcotter_load.Statement.{statement}
+use Rattle.shearcotter.proofs.shearcotter_load.Tie as tie
+
+load-requires : tie.Need-load-requires
+load-requires c κs = tt
+
+returns : tie.Need-returns
+unfolding refusal
+returns c =
+    let a = c .before .before .before .before .args in
+    own-refused (a .own) (load (a .file .now)) _ (c .before .before .load .ensures) (c .if1 .taken)
+
+returns-2 : tie.Need-returns-2
+returns-2 c = c .before .before .load .ensures
+
+pub shearcotter-load-spec : {M : Type 1} → statement M
+shearcotter-load-spec = tie.close (tie.spec load-requires returns returns-2)
