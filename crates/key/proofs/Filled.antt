@@ -1,4 +1,4 @@
--- Elements read from a file into an array of zeros. Assumes nothing.
+-- Elements read from a file into an array, and what is kept of a key. Assumes nothing.
 use mathlib.Core.Path.{_≡_, refl, sym, ap, ap₂, _∙_}
 use mathlib.Core.List.{List, [], _∷_, _++_, map, append-assoc}
 use Prim.Native.Nat.{ℕ, suc, _+_, _-_, _*_, _<_}
@@ -6,10 +6,8 @@ use native.Mathlib.Nat.{zero-add}
 use native.Mathlib.Numerals.{add-one}
 use lib.ListN.{length, getD, drop, set, replicate}
 use lib.Seq.{drop-cons, set-at, take-at}
-use Rattle.bits.specs.Bits.{from}
+use Rattle.bits.specs.Bits.{from, padded}
 use Rattle.bits.proofs.Lists.{from-add, map-append}
-use Rattle.bits.specs.Bits.{padded}
-use Rattle.bits.proofs.Padded.{drop-zeros}
 use Rattle.key.specs.Keys.{pair, elements}
 use Rattle.key.specs.Keys as Keys
 use Rattle.key.specs.Kept.{kept, keep}
@@ -35,12 +33,6 @@ module _ (file : List ℕ) (at : ℕ) where
       ∙ set-at (elements file at i) (getD out i 0) (drop (suc i) out) (pair file (at + 2 * i)) i (length-elements file at i)
       ∙ sym (append-assoc (elements file at i) (pair file (at + 2 * i) ∷ []) (drop (suc i) out))
       ∙ ap₂ _++_ (sym (elements-next i)) (ap (λ (k : ℕ). drop k out) (sym (add-one i)))
-
--- an array of zeros, filled from its start
-pub filled-zeros : (file : List ℕ) (at n k : ℕ) → elements file at n ++ drop n (replicate k 0) ≡ padded k (elements file at n)
-unfolding padded
-filled-zeros file at n k =
-    ap (_++_ (elements file at n)) (drop-zeros n k ∙ ap (λ (i : ℕ). replicate (k - i) 0) (sym (length-elements file at n)))
 
 -- what is kept of a key is that key
 pub kept-keep : (k : Keys.Key) → length (k .support) ≡ k .n → length (k .g) ≡ k .t → kept (keep k) ≡ k
