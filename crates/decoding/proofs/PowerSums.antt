@@ -21,8 +21,8 @@ use Rattle.field.specs.Poly.{value, hornerEach, ofEach}
 use Rattle.field.proofs.Table.{Width}
 use Rattle.field.proofs.Laws.{mul-comm, mul-assoc, mul-lt, one-mul, power-suc}
 use Rattle.field.proofs.Places.{hornerEach-width, each-map, take-ofEach, ofEach-square}
-use Rattle.field_places.specs.PointTable.{multiplesOf, combineEach}
-use Rattle.field_places.proofs.PointTable.{combineEach-horner}
+use Rattle.field.specs.PointTable.{multiplesOf, combineEach}
+use Rattle.field.proofs.PointTable.{combineEach-horner}
 use Rattle.poly.specs.Polynomials.{sum, monic, valuesAt}
 use Rattle.poly.proofs.Laws.{sum-append}
 use Rattle.poly.proofs.AtPoints.{take-values}
@@ -101,13 +101,15 @@ module _ (m : ℕ) (g s : List ℕ) where
     added-all k h = ap (xorRow d) (take-all k (pointSums m g s) (omega (arith, length-pointSums)))
 
   -- a list of these sums with zeros behind them
-  are-sums : (l : List ℕ) → 2 * length g ≤ 256 → length l ≡ 256 → ((k : ℕ) → k < 2 * length g → getD l k 0 ≡ sum (map (squareEntry (keyOf m s g) k) s))
+  are-sums : (l : List ℕ) → 2 * length g ≤ 256 → length l ≡ 256
+      → ((k : ℕ) → k < 2 * length g → getD l k 0 ≡ sum (map (squareEntry (keyOf m s g) k) s))
       → ((k : ℕ) → 2 * length g ≤ k → getD l k 0 ≡ 0) → l ≡ padded 256 (pointSums m g s)
   are-sums l n e at past =
       ext-getD 0 l (padded 256 (pointSums m g s)) (e ∙ sym (length-padded 256 (pointSums m g s) (omega (arith, length-pointSums))))
       (λ k h. elim (decLt k (2 * length g)) [
         | yes b ↦ at k b ∙ sym (padded-at 256 (pointSums m g s) k ∙ pointSums-at k b)
-        | no b ↦ past k (omega arith) ∙ sym (padded-at 256 (pointSums m g s) k ∙ List·getD-eq-default (pointSums m g s) 0 {n = k} (omega (arith, length-pointSums)))
+        | no b ↦ past k (omega arith)
+            ∙ sym (padded-at 256 (pointSums m g s) k ∙ List·getD-eq-default (pointSums m g s) 0 {n = k} (omega (arith, length-pointSums)))
       ])
 
 module _ (m : ℕ) (g : List ℕ) (n : 2 * length g ≤ 256) where
@@ -131,7 +133,8 @@ module _ (m : ℕ) (g : List ℕ) (n : 2 * length g ≤ 256) where
       (λ k h. both k ∙ ap₂ _⊕_ (pointSums-at m g a k h) (pointSums-at m g b k h) ∙ sum-parts (squareEntry (keyOf m a g) k) a b)
       (λ k h.
       both k
-      ∙ ap₂ _⊕_ (List·getD-eq-default (pointSums m g a) 0 {n = k} (omega (arith, length-pointSums m g a))) (List·getD-eq-default (pointSums m g b) 0 {n = k} (omega arith))
+      ∙ ap₂ _⊕_ (List·getD-eq-default (pointSums m g a) 0 {n = k} (omega (arith, length-pointSums m g a)))
+      (List·getD-eq-default (pointSums m g b) 0 {n = k} (omega arith))
       ∙ xor-self 0)
 
   -- a block more
@@ -158,7 +161,8 @@ mid-map f (suc at) zero l = refl
 mid-map f (suc at) (suc k) [] = refl
 mid-map f (suc at) (suc k) (x ∷ l) = mid-map f at (suc k) l
 
-pub weights-block : (m : ℕ) (g s : List ℕ) (at e : ℕ) (p q : List ℕ) → at ≤ e → e ≤ length s → take (length s) q ≡ map (squareEntry (keyOf m s g) 0) s
+pub weights-block : (m : ℕ) (g s : List ℕ) (at e : ℕ) (p q : List ℕ) → at ≤ e → e ≤ length s
+    → take (length s) q ≡ map (squareEntry (keyOf m s g) 0) s
     → drop at p ≡ drop at q → midOf at (e - at) p ≡ map (squareEntry (keyOf m (midOf at (e - at) s) g) 0) (midOf at (e - at) s)
 unfolding squareEntry goppaAt keyOf
 weights-block m g s at e p q h l eq ep =

@@ -6,7 +6,7 @@ ghost use lib.ListN.{length, take};
 ghost use Rattle.bits.specs.Bits.{padded};
 ghost use Rattle.field.specs.Field.{isWidth, inv};
 ghost use Rattle.field.specs.Poly.{hornerEach, ofEach};
-ghost use Rattle.field_places.specs.PointTable.{multiplesOf, combination, combineEach};
+ghost use Rattle.field.specs.PointTable.{multiplesOf, combination, combineEach};
 
 // One step of Horner's rule at each place, r[i] := r[i]·a[i] + c, as far as both go; nothing where m is no width.
 pub fn horner_each(m: u8, r: &mut [u16], a: &[u16], c: u16)
@@ -43,6 +43,13 @@ pub fn inverse_each(m: u8, v: &[u16]) -> [u16; 8192]
     r
 }
 
+// v where d's lowest digit is 1, else 0.
+fn selected(d: u16, v: u16) -> u16
+    ensures { λ r. ⌜ r ≡ d % 2 * v ⌝ }
+{
+    (d & 1) * v
+}
+
 // The first row of `multiples`, with zeros behind it: the m low digits of each of a's first 64 points.
 fn first_row(m: u8, a: &[u16]) -> [u16; 832]
     requires { ⌜ isWidth m ≡ true ⌝ }
@@ -73,20 +80,13 @@ pub fn multiples(m: u8, a: &[u16]) -> [u16; 832]
     let mut q = 64;
     while q < n {
         let d = t[q - 64] << 1;
-        t[q] = d ^ ((d >> m) & 1) * f;
+        t[q] = d ^ selected(d >> m, f);
         q += 1;
     }
     t
 }
 
-// v where d's lowest digit is 1, else 0.
-fn selected(d: u16, v: u16) -> u16
-    ensures { λ r. ⌜ r ≡ d % 2 * v ⌝ }
-{
-    (d & 1) * v
-}
-
-// The sum of the multiples in column i of t that r's 13 low digits select.
+// The sum of the multiples in column i of t that r's 13 low digits select. The constant 13 lets the loop over places vectorise.
 fn combined(t: &[u16; 832], i: usize, r: u16) -> u16
     requires { ⌜ i < 64 ⌝ }
     ensures { λ s. ⌜ s ≡ combination (now (t .entry)) i r ⌝ }

@@ -17,8 +17,8 @@ use Rattle.field.specs.Poly.{value, hornerEach}
 use Rattle.field.proofs.Table.{Width}
 use Rattle.field.proofs.Laws.{mul-comm, mul-zero}
 use Rattle.field.proofs.Places.{hornerEach-width, ofEach-none, ofEach-width, length-ofEach, take-ofEach}
-use Rattle.field_places.specs.PointTable.{multiplesOf, combineEach}
-use Rattle.field_places.proofs.PointTable.{combineEach-horner}
+use Rattle.field.specs.PointTable.{multiplesOf, combineEach}
+use Rattle.field.proofs.PointTable.{combineEach-horner}
 use Rattle.poly.specs.Polynomials.{monic, valueFrom, valuesAt}
 
 module _ (m : ℕ) where

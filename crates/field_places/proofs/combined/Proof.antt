@@ -5,8 +5,8 @@ use native.Mathlib.Omega.{arith}
 use lib.ListN.{getD}
 use borrow.Author.Needs.{needs}
 use Rattle.bits.specs.Xor.{_⊕_}
-use Rattle.field_places.specs.PointTable.{digitSum, combination}
-use Rattle.field_places.proofs.PointTable.{digitSum-next}
+use Rattle.field.specs.PointTable.{digitSum, combination}
+use Rattle.field.proofs.PointTable.{digitSum-next}
 use Rattle.field_places.proofs.combined.Statement.{statement}
 use Rattle.field_places.proofs.combined.Tie as tie
 

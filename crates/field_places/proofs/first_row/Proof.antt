@@ -8,7 +8,7 @@ use lib.ListN.{getD, set}
 use borrow.Author.Needs.{needs}
 use Rattle.field.proofs.Machine.{one-shl, low-digits}
 use Rattle.field.proofs.Table.{width-narrow}
-use Rattle.field_places.proofs.PointTable.{made, made-start, first-next, first-all}
+use Rattle.field.proofs.PointTable.{made, made-start, first-next, first-all}
 use Rattle.field_places.proofs.first_row.Statement.{statement}
 use Rattle.field_places.proofs.first_row.Tie as tie
 

@@ -6,8 +6,8 @@ use mathlib.Core.List.{List}
 use lib.ListN.{length, getD, set, length-set}
 use borrow.Author.Needs.{needs}
 use Rattle.bits.specs.Xor.{_⊕_}
-use Rattle.field_places.specs.PointTable.{combination}
-use Rattle.field_places.proofs.PointTable.{combinedTo, combined-start, combined-next, combined-all}
+use Rattle.field.specs.PointTable.{combination}
+use Rattle.field.proofs.PointTable.{combinedTo, combined-start, combined-next, combined-all}
 use Rattle.field_places.proofs.horner_with.Statement.{statement}
 use Rattle.field_places.proofs.horner_with.Tie as tie
 

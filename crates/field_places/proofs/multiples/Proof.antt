@@ -1,13 +1,13 @@
 -- The loop's invariant: the first q entries are made. Assumes nothing.
 use mathlib.Core.Path.{_≡_, ap, _∙_}
-use Prim.Native.Nat.{ℕ, _-_, _*_, _/_, _%_, _^_, _≤_}
+use Prim.Native.Nat.{ℕ, _-_, _*_, _%_, _≤_}
 use native.Mathlib.Omega.{arith}
 use mathlib.Core.List.{List}
 use lib.ListN.{getD, set}
 use borrow.Author.Needs.{needs}
-use Rattle.field.proofs.Machine.{masked-lt}
+use Rattle.bits.specs.Xor.{_⊕_}
 use Rattle.field.proofs.Table.{width-narrow, width-pos, modulus-none, modulus-some}
-use Rattle.field_places.proofs.PointTable.{doubled, made, rows-next, rows-all, multiples-none}
+use Rattle.field.proofs.PointTable.{doubled, made, rows-next, rows-all, multiples-none}
 use Rattle.field_places.proofs.multiples.Statement.{statement}
 use Rattle.field_places.proofs.multiples.Tie as tie
 
@@ -45,23 +45,25 @@ mul-d : tie.Need-mul-d Inv-loop μ-loop
 mul-d c = search needs
 
 array-read-d : tie.Need-array-read-d Inv-loop μ-loop
-array-read-d c = let n = width-narrow _ (modulus-some _ (c .before .before .before .before .modulus .ensures) (c .before .before .before .if1 .left)) in omega arith
+array-read-d c =
+    let n = width-narrow _ (modulus-some _ (c .before .before .before .before .modulus .ensures) (c .before .before .before .if1 .left)) in
+    omega arith
 
-shr-t : tie.Need-shr-t Inv-loop μ-loop
-shr-t c = let n = width-narrow _ (modulus-some _ (c .before .before .before .before .modulus .ensures) (c .before .before .before .if1 .left)) in omega arith
+shr-selected : tie.Need-shr-selected Inv-loop μ-loop
+shr-selected c =
+    let n = width-narrow _ (modulus-some _ (c .before .before .before .before .modulus .ensures) (c .before .before .before .if1 .left)) in
+    omega arith
+
+selected-requires : tie.Need-selected-requires Inv-loop μ-loop
+selected-requires c κs = search needs
 
 mul-t : tie.Need-mul-t Inv-loop μ-loop
-mul-t c =
-    let l = c .before .loop in
-    let f = c .before .before .before .before .modulus in
-    let m : ℕ = c .before .before .before .before .before .before .args .m in
-    record { fits = masked-lt (getD (l .t) (l .q - 64) 0 * 2 % 65536 / 2 ^ m) (f .ok) }
-
-mul-t-2 : tie.Need-mul-t-2 Inv-loop μ-loop
-mul-t-2 c = search needs
+mul-t c = search needs
 
 array-write-t : tie.Need-array-write-t Inv-loop μ-loop
-array-write-t c = let n = width-narrow _ (modulus-some _ (c .before .before .before .before .modulus .ensures) (c .before .before .before .if1 .left)) in omega arith
+array-write-t c =
+    let n = width-narrow _ (modulus-some _ (c .before .before .before .before .before .modulus .ensures) (c .before .before .before .before .if1 .left)) in
+    omega arith
 
 add-q : tie.Need-add-q Inv-loop μ-loop
 add-q c = search needs
@@ -70,14 +72,16 @@ loop-less : tie.Need-loop-less Inv-loop μ-loop
 loop-less c = omega arith
 
 loop-again : tie.Need-loop-again Inv-loop μ-loop
+unfolding _⊕_
 loop-again c =
-    let l = c .before .loop in
-    let a = c .before .before .before .before .before .before .args in
-    let f = c .before .before .before .before .modulus in
-    let w = modulus-some (a .m) (f .ensures) (c .before .before .before .if1 .left) in (
+    let l = c .before .before .loop in
+    let a = c .before .before .before .before .before .before .before .args in
+    let f = c .before .before .before .before .before .modulus in
+    let w = modulus-some (a .m) (f .ensures) (c .before .before .before .before .if1 .left) in (
       omega arith,
       omega arith,
-      ap (λ (t : List ℕ). set t (l .q) (doubled (a .m) (f .result) (getD t (l .q - 64) 0))) (l .inv .2)
+      ap (λ (x : ℕ). set (l .t) (l .q) (getD (l .t) (l .q - 64) 0 * 2 % 65536 ⊕ x)) (c .selected .ensures)
+          ∙ ap (λ (t : List ℕ). set t (l .q) (doubled (a .m) (f .result) (getD t (l .q - 64) 0))) (l .inv .2)
           ∙ rows-next (a .m) (a .a .now) w (l .q) (f .result) (l .inv .0) (omega arith) (f .ensures),
     )
 
@@ -103,9 +107,9 @@ multiples-spec =
     sub-d
     mul-d
     array-read-d
-    shr-t
+    shr-selected
+    selected-requires
     mul-t
-    mul-t-2
     array-write-t
     add-q
     loop-less

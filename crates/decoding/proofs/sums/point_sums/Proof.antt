@@ -68,7 +68,8 @@ block-sums-requires c κs =
     let e = c .before .before .before .smaller .result in
     let w = c .before .before .before .before .before .before .weights in
     let n : length (midOf (l .at) (e - l .at) (a .points .now)) ≡ e - l .at = mid-len (l .at) e (a .points .now) (omega arith) in
-    (b .pre .0, omega arith, omega arith, weights-block (a .m) (a .g .now) (a .points .now) (l .at) e (l .p) (w .result) (omega arith) (omega arith) (w .ensures) (l .inv .3))
+    let v = weights-block (a .m) (a .g .now) (a .points .now) (l .at) e (l .p) (w .result) (omega arith) (omega arith) (w .ensures) (l .inv .3) in
+    (b .pre .0, omega arith, omega arith, v)
 
 loop-less : tie.Need-loop-less Inv-loop μ-loop
 loop-less c = omega arith

@@ -4,7 +4,7 @@ use Prim.Native.Nat.{_-_, _≤_}
 use native.Mathlib.Omega.{arith}
 use lib.ListN.{length, getD}
 use borrow.Author.Needs.{needs}
-use Rattle.field_places.specs.PointTable.{combineEach}
+use Rattle.field.specs.PointTable.{combineEach}
 use Rattle.poly.proofs.AtPoints.{valuesFrom, from-start, from-step}
 use Rattle.poly.proofs.horner.value_block.Statement.{statement}
 use Rattle.poly.proofs.horner.value_block.Tie as tie
@@ -40,12 +40,14 @@ loop-again : tie.Need-loop-again Inv-loop μ-loop
 loop-again c =
     let l = c .before .before .before .before .before .before .before .loop in
     let b = c .before .before .before .before .before .before .before .before in
-    let a = b .before .before .before .before .args in
+    let p = b .before .before .before .before in
+    let a = p .args in
     let h = c .before .before .horner-with in (
       omega arith,
       h .kept .1 .0 ∙ l .inv .1,
       h .ensures ∙ ap (combineEach (b .multiples .result) (getD (a .g .now) (l .k - 1) 0)) (l .inv .2)
-          ∙ from-step (a .m) (a .g .now) (a .r .now) (a .a .now) (b .before .before .before .before .pre .0) _ (b .multiples .ensures) (b .before .before .before .before .pre .1) (b .before .before .before .before .pre .2) (l .k) (omega arith) (l .inv .0),
+          ∙ from-step (a .m) (a .g .now) (a .r .now) (a .a .now) (p .pre .0) _ (b .multiples .ensures)
+          (p .pre .1) (p .pre .2) (l .k) (omega arith) (l .inv .0),
     )
 
 same-length : tie.Need-same-length Inv-loop μ-loop

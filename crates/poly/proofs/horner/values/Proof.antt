@@ -72,7 +72,8 @@ value-block-requires c κs =
     let n = c .before .before .smaller2 .result in
     let i : length (midOf (l .at) (n - l .at) (l .r)) ≡ n - l .at = mid-len (l .at) n (l .r) (omega arith) in
     let j : length (midOf (l .at) (n - l .at) (a .points .now)) ≡ n - l .at = mid-len (l .at) n (a .points .now) (omega arith) in
-    (modulus-some _ (c .before .before .before .before .before .before .before .modulus .ensures) (c .before .before .before .before .before .before .if1 .left), i ∙ sym j, omega arith)
+    let w = modulus-some _ (c .before .before .before .before .before .before .before .modulus .ensures) (c .before .before .before .before .before .before .if1 .left) in
+    (w, i ∙ sym j, omega arith)
 
 loop-less : tie.Need-loop-less Inv-loop μ-loop
 loop-less c = omega arith
@@ -88,7 +89,8 @@ returns-2 : tie.Need-returns-2 Inv-loop μ-loop
 returns-2 c =
     let l = c .before .loop in
     let a = c .before .before .before .before .before .before .before .args in
-    l .inv .1 ∙ to-all (a .m) (a .g .now) (a .points .now) (modulus-some _ (c .before .before .before .before .modulus .ensures) (c .before .before .before .if1 .left)) (l .at) (λ h. omega arith)
+    let w = modulus-some _ (c .before .before .before .before .modulus .ensures) (c .before .before .before .if1 .left) in
+    l .inv .1 ∙ to-all (a .m) (a .g .now) (a .points .now) w (l .at) (λ h. omega arith)
 
 pub values-spec : {M : Type 1} → statement M
 values-spec =

@@ -7,7 +7,6 @@ use native.Mathlib.Nat.{add-zero, le-of-eq, mul-mod-left, mod-eq-of-lt, mod-lt, 
 use native.Mathlib.Numerals.{add-one, one-add}
 use native.Mathlib.Omega.{arith}
 use lib.Pow.{pow-pos, pow-mono, pow-lt, pow-add, mod-pow-add, mod-mod-pow}
-use lib.Bits.{bitXor, bitAnd, and-mask}
 use lib.ListN.{length, getD, take, set, replicate, length-take, List·getD-eq-default}
 use lib.Seq.{ext-getD, getD-take, set-getD, take-all}
 use Rattle.bits.specs.Xor.{_⊕_}
@@ -16,13 +15,13 @@ use Rattle.bits.proofs.Xor.{low, xor-comm, zero-xor, xor-shifted}
 use Rattle.bits.proofs.Lists.{from-at, length-from, length-map-from, map-from-at}
 use Rattle.bits.proofs.Each.{length-eachWith, eachWith-nil, eachWith-suc, eachWith-take, eachWith-at}
 use Rattle.bits.proofs.Padded.{padded-start, padded-next, padded-at}
 use Rattle.field.specs.Field.{isWidth, modulusOf, mul}
 use Rattle.field.specs.Poly.{hornerEach}
 use Rattle.field.proofs.Horner.{Additive, additive-zero, additive-digit, xtime, horner, horner-pad, mulMod-horner}
 use Rattle.field.proofs.Table.{Width, width-narrow}
 use Rattle.field.proofs.Laws.{mul-at, mul-none, mul-comm, mul-add, low-mul, mul-lt, mul-zero, one-mul-low, zero-mul as zero-mul-field}
 use Rattle.field.proofs.Places.{hornerEach-width}
-use Rattle.field_places.specs.PointTable.{multiplesOf, digitSum, combination, combineEach}
+use Rattle.field.specs.PointTable.{multiplesOf, digitSum, combination, combineEach}
 
 -- an additive map of r's k low digits is the sum of its values at their powers
 module _ (g : ℕ → ℕ) (h : Additive g) where
@@ -32,7 +31,8 @@ module _ (g : ℕ → ℕ) (h : Additive g) where
   digitSum-additive (suc k) r =
       ap₂ _⊕_ (digitSum-additive k r) (sym (additive-digit g h (low (r / 2 ^ k)) (2 ^ k)))
       ∙ sym (h (r % 2 ^ k) (r / 2 ^ k % 2 * 2 ^ k))
-      ∙ ap g (xor-comm (r % 2 ^ k) (r / 2 ^ k % 2 * 2 ^ k) ∙ xor-shifted (r / 2 ^ k % 2) k (r % 2 ^ k) (mod-lt r (pow-pos k)) ∙ sym (mod-pow-add r 1 k) ∙ ap (λ (n : ℕ). r % 2 ^ n) (one-add k))
+      ∙ ap g (xor-comm (r % 2 ^ k) (r / 2 ^ k % 2 * 2 ^ k) ∙ xor-shifted (r / 2 ^ k % 2) k (r % 2 ^ k) (mod-lt r (pow-pos k))
+      ∙ sym (mod-pow-add r 1 k) ∙ ap (λ (n : ℕ). r % 2 ^ n) (one-add k))
 
 pub digitSum-same : (k : ℕ) (u v : ℕ → ℕ) (r : ℕ) → ((j : ℕ) → j < k → u j ≡ v j) → digitSum k u r ≡ digitSum k v r
 unfolding digitSum
@@ -47,13 +47,13 @@ digitSum-next v k r = ap (λ (n : ℕ). digitSum n v r) (sym (add-one k))
 
 -- the next multiple, as the code makes it
 abbrev pub doubled : ℕ → ℕ → ℕ → ℕ
-doubled m f v = bitXor (v * 2 % 65536) (bitAnd (v * 2 % 65536 / 2 ^ m) 1 * f)
+doubled m f v = v * 2 % 65536 ⊕ v * 2 % 65536 / 2 ^ m % 2 * f
 
 doubled-xtime : (m f v : ℕ) → m < 14 → v < 2 ^ m → doubled m f v ≡ xtime m f v
-unfolding xtime _⊕_
+unfolding xtime
 doubled-xtime m f v s h =
     let e : v * 2 % 65536 ≡ v * 2 = mod-eq-of-lt (omega (arith, pow-mono (le-of-suc-le-suc s))) in
-    ap (λ (d : ℕ). bitXor d (bitAnd (d / 2 ^ m) 1 * f)) e ∙ ap (λ (x : ℕ). bitXor (v * 2) (x * f)) (and-mask (v * 2 / 2 ^ m) 1)
+    ap (λ (d : ℕ). d ⊕ d / 2 ^ m % 2 * f) e
 
 horner-double : (m f k j v : ℕ) → j < k → xtime m f (horner m f (k + 1) (2 ^ j) v) ≡ horner m f (suc k) (2 ^ suc j) v
 unfolding horner
@@ -181,7 +181,8 @@ module _ (m : ℕ) (a : List ℕ) where
         let j : suc (q / 64 - 1) ≡ q / 64 = omega arith in
         let x : ℕ = getD a (q % 64) 0 in
         ap (set (made q) q)
-        (ap₂ (doubled m) e (rows-at q h (omega arith)) ∙ doubled-xtime m (modulusOf m) (mul m x (2 ^ (q / 64 - 1))) n (mul-lt m x (2 ^ (q / 64 - 1)))
+        (ap₂ (doubled m) e (rows-at q h (omega arith))
+        ∙ doubled-xtime m (modulusOf m) (mul m x (2 ^ (q / 64 - 1))) n (mul-lt m x (2 ^ (q / 64 - 1)))
         ∙ mul-double m w x (q / 64 - 1) (omega arith) ∙ ap (λ (j : ℕ). mul m x (2 ^ j)) j)
         ∙ made-next q (omega arith)
 
