@@ -1,10 +1,12 @@
 -- A function at each place of two lists, as loops over places compute it. Assumes nothing.
-use mathlib.Core.Path.{_≡_, refl, sym, ap}
-use mathlib.Core.List.{List, [], _∷_}
-use Prim.Native.Nat.{ℕ, zero, suc, _≤_, _<_, suc-le-suc}
-use native.Mathlib.Nat.{zero-lt-suc, le-of-suc-le-suc, not-suc-le-zero}
-use lib.ListN.{length, getD, take, set}
+use mathlib.Core.Path.{_≡_, refl, sym, ap, _∙_}
+use mathlib.Core.List.{List, [], _∷_, _++_}
+use Prim.Native.Nat.{ℕ, zero, suc, _+_, _≤_, _<_, suc-le-suc}
+use native.Mathlib.Nat.{zero-add, suc-add, zero-lt-suc, le-of-suc-le-suc, not-suc-le-zero}
+use lib.ListN.{length, getD, take, drop, set, replicate, take-append-drop}
+use lib.Seq.{take-nil, drop-nil}
 use Rattle.bits.specs.Bits.{eachWith}
+use Rattle.bits.proofs.Lists.{cons-eq}
 
 module _ (f : ℕ → ℕ → ℕ) where
   pub length-eachWith : (d s : List ℕ) → length (eachWith f d s) ≡ length d
@@ -49,3 +51,47 @@ module _ (f : ℕ → ℕ → ℕ) where
   eachWith-at (x ∷ d) [] j h k = absurd (not-suc-le-zero k)
   eachWith-at (x ∷ d) (y ∷ s) zero h k = refl
   eachWith-at (x ∷ d) (y ∷ s) (suc j) h k = eachWith-at d s j (le-of-suc-le-suc h) (le-of-suc-le-suc k)
+
+  -- the places from `at` on, k of them, written back into the list
+  eachWith-front : (k : ℕ) (d s : List ℕ) → eachWith f (take k d) (take k s) ++ drop k d ≡ eachWith f d (take k s)
+  unfolding eachWith
+  eachWith-front zero d s = sym (eachWith-nil d)
+  eachWith-front (suc k) [] s = refl
+  eachWith-front (suc k) (x ∷ d) [] = ap (_∷_ x) (take-append-drop k d)
+  eachWith-front (suc k) (x ∷ d) (y ∷ s) = ap (_∷_ (f x y)) (eachWith-front k d s)
+
+  pub eachWith-block : (at k : ℕ) (d s : List ℕ) → at ≤ length s
+      → take at (eachWith f d (take at s))
+      ++ (eachWith f (take k (drop at (eachWith f d (take at s)))) (take k (drop at s)) ++ drop k (drop at (eachWith f d (take at s))))
+      ≡ eachWith f d (take (at + k) s)
+  unfolding eachWith
+  eachWith-block zero k d s h =
+      ap (λ (e : List ℕ). eachWith f (take k e) (take k s) ++ drop k e) (eachWith-nil d) ∙ eachWith-front k d s
+      ∙ ap (λ (n : ℕ). eachWith f d (take n s)) (sym (zero-add k))
+  eachWith-block (suc at) k d [] h = absurd (not-suc-le-zero h)
+  eachWith-block (suc at) k [] (y ∷ s) h =
+      ap (λ (e : List ℕ). eachWith f e (take k (drop at s)) ++ drop k []) (take-nil k) ∙ drop-nil k
+  eachWith-block (suc at) k (x ∷ d) (y ∷ s) h =
+      ap (_∷_ (f x y)) (eachWith-block at k d s (le-of-suc-le-suc h))
+      ∙ ap (λ (n : ℕ). eachWith f (x ∷ d) (take n (y ∷ s))) (sym (suc-add at k))
+
+-- two functions, one after the other, with the same list
+pub eachWith-again : (g f : ℕ → ℕ → ℕ) (d s : List ℕ) → eachWith f (eachWith g d s) s ≡ eachWith (λ x y. f (g x y) y) d s
+unfolding eachWith
+eachWith-again g f [] s = refl
+eachWith-again g f (x ∷ d) [] = refl
+eachWith-again g f (x ∷ d) (y ∷ s) = ap (_∷_ (f (g x y) y)) (eachWith-again g f d s)
+
+-- a function that keeps the list's number
+pub eachWith-keep : (f : ℕ → ℕ → ℕ) → ((x y : ℕ) → f x y ≡ x) → (d s : List ℕ) → eachWith f d s ≡ d
+unfolding eachWith
+eachWith-keep f e [] s = refl
+eachWith-keep f e (x ∷ d) [] = refl
+eachWith-keep f e (x ∷ d) (y ∷ s) = cons-eq (e x y) (eachWith-keep f e d s)
+
+-- over a list of one number
+pub eachWith-replicate : (f : ℕ → ℕ → ℕ) (n v : ℕ) (s : List ℕ) → eachWith f (replicate n v) s ≡ eachWith (λ x y. f v y) (replicate n v) s
+unfolding eachWith
+eachWith-replicate f zero v s = refl
+eachWith-replicate f (suc n) v [] = refl
+eachWith-replicate f (suc n) v (y ∷ s) = ap (_∷_ (f v y)) (eachWith-replicate f n v s)

@@ -3,9 +3,9 @@ use super::points::chosen;
 ghost use mathlib.Core.Path.{_≡_};
 ghost use mathlib.Core.Bool.{true};
 ghost use mathlib.Core.List.{map};
-ghost use Prim.Native.Nat.{_≤_};
+ghost use Prim.Native.Nat.{_*_, _≤_};
 ghost use lib.ListN.{length, take};
-ghost use Rattle.bits.specs.Bits.{unpack, padded};
+ghost use Rattle.bits.specs.Bits.{unpack, padded, xorRow};
 ghost use Rattle.field.specs.Field.{isWidth};
 ghost use Rattle.poly.specs.Polynomials.{sum, same as sameAs};
 ghost use Rattle.key.specs.Keys.{keyOf};
@@ -38,7 +38,23 @@ fn total(p: &[u16]) -> u16
     d
 }
 
-// The sums of a^k / g(a)² over the points a, k below 2t, with zeros behind them; p has the terms of the next sum.
+// The sums of a^k / g(a)² over at most 64 points a, k below 2t, added to s, by the multiples of the points; p has the terms of
+// the next sum.
+fn block_sums(m: u8, g: &[u16], s: &mut [u16], p: &mut [u16], points: &[u16])
+    requires { ⌜ (isWidth m ≡ true) × (length (now points) ≤ 64) × (2 * length (now g) ≤ length (now s))
+        × (now p ≡ map (squareEntry (keyOf m (now points) (now g)) 0) (now points)) ⌝ }
+    ensures { λ _. ⌜ now (s .exit) ≡ xorRow (now (s .entry)) (pointSums m (now (g .entry)) (now (points .entry))) ⌝ }
+{
+    let t = field_places::multiples(m, points);
+    let mut k = 0;
+    while k < 2 * g.len() {
+        s[k] ^= total(p);
+        field_places::horner_with(&t, p, 0);
+        k += 1;
+    }
+}
+
+// The sums of a^k / g(a)² over the points a, k below 2t, with zeros behind them, in blocks of 64 points.
 fn point_sums(m: u8, g: &[u16], points: &[u16]) -> [u16; 256]
     requires { ⌜ (isWidth m ≡ true) × (length (now points) ≤ 8192) × (length (now g) ≤ 128) ⌝ }
     ensures { λ r. ⌜ r ≡ padded 256 (pointSums m (now (g .entry)) (now (points .entry))) ⌝ }
@@ -46,11 +62,11 @@ fn point_sums(m: u8, g: &[u16], points: &[u16]) -> [u16; 256]
     let n = points.len();
     let mut p = weights(m, g, points);
     let mut s = [0u16; 256];
-    let mut k = 0;
-    while k < 2 * g.len() {
-        s[k] = total(&p[..n]);
-        field_places::horner_each(m, &mut p, points, 0);
-        k += 1;
+    let mut at = 0;
+    while at < n {
+        let e = bits::smaller(at + 64, n);
+        block_sums(m, g, &mut s, &mut p[at..e], &points[at..e]);
+        at = e;
     }
     s
 }

@@ -10,6 +10,7 @@ pub mod Products
 pub mod Machine
 pub mod Guards
 pub mod Places
+pub mod PointTable
 pub mod Reciprocals
 pub mod Gf
 pub mod Arrays

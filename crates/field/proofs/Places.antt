@@ -8,7 +8,7 @@ use lib.ListN.{length, getD, take, replicate, length-replicate}
 use Rattle.bits.specs.Xor.{_⊕_}
 use Rattle.bits.specs.Bits.{eachWith}
 use Rattle.bits.proofs.Lists.{cons-eq}
-use Rattle.bits.proofs.Each.{length-eachWith, eachWith-at}
+use Rattle.bits.proofs.Each.{length-eachWith, eachWith-at, eachWith-again}
 use Rattle.bits.proofs.Xor.{xor-zero}
 use Rattle.field.specs.Field.{isWidth, mul}
 use Rattle.field.specs.Poly.{hornerEach, ofEach}
@@ -36,18 +36,12 @@ module _ (h : ℕ → ℕ) where
   each-map f [] = refl
   each-map f (a ∷ s) = ap (_∷_ (f (h a) a)) (each-map f s)
 
-  -- over another list: over ones, where h is 1; followed by f with the same numbers, or with its own; at the list's places
+  -- over another list: over ones, where h is 1; followed by f with its own numbers; at the list's places
   each-ones : ((a : ℕ) → h a ≡ 1) → (n : ℕ) (s : List ℕ) → eachWith (λ x a. h a) (replicate n 1) s ≡ replicate n 1
   unfolding eachWith
   each-ones e zero s = refl
   each-ones e (suc n) [] = refl
   each-ones e (suc n) (a ∷ s) = cons-eq (e a) (each-ones e n s)
-
-  each-again : (f : ℕ → ℕ → ℕ) (d s : List ℕ) → eachWith f (eachWith (λ x a. h a) d s) s ≡ eachWith (λ x a. f (h a) a) d s
-  unfolding eachWith
-  each-again f [] s = refl
-  each-again f (x ∷ d) [] = refl
-  each-again f (x ∷ d) (a ∷ s) = ap (_∷_ (f (h a) a)) (each-again f d s)
 
   each-own : (f : ℕ → ℕ → ℕ) (d s : List ℕ) (n : ℕ) → n ≤ length s → (n < length s → length d ≤ n)
       → eachWith f (eachWith (λ x a. h a) d s) (take n (eachWith (λ x a. h a) d s)) ≡ eachWith (λ x a. f (h a) (h a)) d s
@@ -95,7 +89,7 @@ module _ (m : ℕ) (h : ℕ → ℕ) (s : List ℕ) where
   ofEach-step c =
       by-width m
       (λ w. hornerEach-width m c _ s w ∙ ap (λ (d : List ℕ). eachWith (λ x a. mul m x a ⊕ c) d s) (ofEach-width m h s w)
-      ∙ each-again h (λ x a. mul m x a ⊕ c) (replicate 8192 1) s
+      ∙ eachWith-again (λ x a. h a) (λ x a. mul m x a ⊕ c) (replicate 8192 1) s
       ∙ sym (ofEach-width m (λ a. mul m (h a) a ⊕ c) s w))
       (λ n. hornerEach-none m c _ s n ∙ ofEach-none m h s n ∙ sym (ofEach-none m _ s n))
 

@@ -1,4 +1,5 @@
 pub mod Numbers
 pub mod Field
 pub mod Poly
+pub mod PointTable
 pub mod Answers

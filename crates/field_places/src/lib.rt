@@ -1,7 +1,12 @@
 // Products and inverses in GF(2^m) at each place of a list. The loop over places vectorises.
 ghost use mathlib.Core.Path.{_≡_};
-ghost use Rattle.field.specs.Field.{inv};
+ghost use mathlib.Core.Bool.{true};
+ghost use Prim.Native.Nat.{_*_, _%_, _≤_, _<_};
+ghost use lib.ListN.{length, take};
+ghost use Rattle.bits.specs.Bits.{padded};
+ghost use Rattle.field.specs.Field.{isWidth, inv};
 ghost use Rattle.field.specs.Poly.{hornerEach, ofEach};
+ghost use Rattle.field.specs.PointTable.{multiplesOf, combination, combineEach};
 
 // One step of Horner's rule at each place, r[i] := r[i]·a[i] + c, as far as both go; nothing where m is no width.
 pub fn horner_each(m: u8, r: &mut [u16], a: &[u16], c: u16)
@@ -36,4 +41,73 @@ pub fn inverse_each(m: u8, v: &[u16]) -> [u16; 8192]
     let s = r;
     horner_each(m, &mut r, &s[..n], 0);
     r
+}
+
+// v where d's lowest digit is 1, else 0.
+fn selected(d: u16, v: u16) -> u16
+    ensures { λ r. ⌜ r ≡ d % 2 * v ⌝ }
+{
+    (d & 1) * v
+}
+
+// The first row of `multiples`, with zeros behind it: the m low digits of each of a's first 64 points.
+fn first_row(m: u8, a: &[u16]) -> [u16; 832]
+    requires { ⌜ isWidth m ≡ true ⌝ }
+    ensures { λ r. ⌜ r ≡ padded 832 (take 64 (multiplesOf m (now (a .entry)))) ⌝ }
+{
+    let n = bits::smaller(a.len(), 64);
+    let mask: u16 = (1 << m) - 1;
+    let mut t = [0u16; 832];
+    let mut i = 0;
+    while i < n {
+        t[i] = a[i] & mask;
+        i += 1;
+    }
+    t
+}
+
+// a·z^j for each j below 13 and each of the first 64 points a, a row of 64 for each j; 0 past the points, where j is no digit of
+// the field, and where m is no width.
+pub fn multiples(m: u8, a: &[u16]) -> [u16; 832]
+    ensures { λ r. ⌜ r ≡ multiplesOf m (now (a .entry)) ⌝ }
+{
+    let f = field::modulus(m);
+    if f == 0 {
+        return [0u16; 832];
+    }
+    let n = 64 * (m as usize);
+    let mut t = first_row(m, a);
+    let mut q = 64;
+    while q < n {
+        let d = t[q - 64] << 1;
+        t[q] = d ^ selected(d >> m, f);
+        q += 1;
+    }
+    t
+}
+
+// The sum of the multiples in column i of t that r's 13 low digits select. The constant 13 lets the loop over places vectorise.
+fn combined(t: &[u16; 832], i: usize, r: u16) -> u16
+    requires { ⌜ i < 64 ⌝ }
+    ensures { λ s. ⌜ s ≡ combination (now (t .entry)) i r ⌝ }
+{
+    let mut s: u16 = 0;
+    let mut j = 0;
+    while j < 13 {
+        s ^= selected(r >> j, t[64 * j + i]);
+        j += 1;
+    }
+    s
+}
+
+// One step of Horner's rule at each of at most 64 places, r[i] := r[i]·a[i] + c, by the multiples t of the points a.
+pub fn horner_with(t: &[u16; 832], r: &mut [u16], c: u16)
+    requires { ⌜ length (now r) ≤ 64 ⌝ }
+    ensures { λ _. ⌜ now (r .exit) ≡ combineEach (now (t .entry)) c (now (r .entry)) ⌝ }
+{
+    let mut i = 0;
+    while i < r.len() {
+        r[i] = combined(t, i, r[i]) ^ c;
+        i += 1;
+    }
 }

@@ -2,19 +2,13 @@
 use mathlib.Core.Path.{_≡_, refl, sym, ap, ap₂, _∙_}
 use mathlib.Core.Bool.{Bool, true, false, _&&_, and-assoc}
 use mathlib.Core.List.{List, [], _∷_, _++_}
-use Prim.Native.Nat.{ℕ, zero, suc}
-use lib.ListN.{replicate}
+use Prim.Native.Nat.{ℕ}
 use Rattle.bits.specs.Bits.{every}
 
 pub every-append : (p : ℕ → Bool) (l r : List ℕ) → every p (l ++ r) ≡ every p l && every p r
 unfolding every
 every-append p [] r = refl
 every-append p (x ∷ l) r = ap (_&&_ (p x)) (every-append p l r) ∙ sym (and-assoc (p x) (every p l) (every p r))
-
-pub every-replicate : (p : ℕ → Bool) (x n : ℕ) → p x ≡ true → every p (replicate n x) ≡ true
-unfolding every
-every-replicate p x zero e = refl
-every-replicate p x (suc n) e = ap₂ _&&_ e (every-replicate p x n e)
 
 -- two tests in one
 pub every-both : (p q r : ℕ → Bool) → ((x : ℕ) → p x && q x ≡ r x) → (l : List ℕ) → every p l && every q l ≡ every r l

@@ -51,8 +51,9 @@ fn no_root(m: u8, g: &[u16], s: &[u16]) -> bool
     requires { ⌜ (isWidth m ≡ true) × (length (now s) ≤ 8192) ⌝ }
     ensures { λ r. ⌜ r ≡ noRoot m (now (g .entry)) (now (s .entry)) ⌝ }
 {
+    let n = s.len();
     let values = poly::values(m, g, s);
-    no_zero(&values)
+    no_zero(&values[..n])
 }
 
 // The first of the numbers 4 to 7, and 0 where there is none.

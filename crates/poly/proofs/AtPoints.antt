@@ -1,20 +1,25 @@
 -- The values of a monic polynomial at each of a list of points, by Horner's rule at all points. Assumes nothing.
-use mathlib.Core.Path.{_≡_, sym, ap, _∙_}
-use mathlib.Core.List.{List, _∷_, map}
-use Prim.Native.Nat.{ℕ, suc, _-_, _≤_, _<_}
+use mathlib.Core.Path.{_≡_, sym, ap, _∙_, fun-ext}
+use mathlib.Core.Bool.{false}
+use mathlib.Core.List.{List, [], _∷_, map}
+use Prim.Native.Nat.{ℕ, suc, _+_, _-_, _≤_, _<_}
 use native.Mathlib.Nat.{le-refl}
 use native.Mathlib.Omega.{arith}
-use lib.ListN.{length, getD, take, drop, replicate, drop-of-length-le}
+use lib.ListN.{length, getD, take, drop, replicate, drop-of-length-le, length-replicate}
 use lib.Seq.{drop-cons}
+use borrow.Rule.Slice.PartMut.{midOf, putMid}
 use Rattle.bits.specs.Xor.{_⊕_}
 use Rattle.bits.specs.Bits.{eachWith}
+use Rattle.bits.proofs.Each.{length-eachWith, eachWith-nil, eachWith-take, eachWith-block, eachWith-again, eachWith-keep, eachWith-replicate}
 use Rattle.bits.proofs.Xor.{xor-comm, xor-zero}
-use Rattle.field.specs.Field.{mul}
+use Rattle.field.specs.Field.{isWidth, mul}
 use Rattle.field.specs.Poly.{value, hornerEach}
 use Rattle.field.proofs.Table.{Width}
 use Rattle.field.proofs.Laws.{mul-comm, mul-zero}
-use Rattle.field.proofs.Places.{ofEach-width, length-ofEach, ofEach-ones, take-ofEach, ofEach-same, ofEach-step}
-use Rattle.poly.specs.Polynomials.{monic, valuesAt}
+use Rattle.field.proofs.Places.{hornerEach-width, ofEach-none, ofEach-width, length-ofEach, take-ofEach}
+use Rattle.field.specs.PointTable.{multiplesOf, combineEach}
+use Rattle.field.proofs.PointTable.{combineEach-horner}
+use Rattle.poly.specs.Polynomials.{monic, valueFrom, valuesAt}
 
 module _ (m : ℕ) where
   pub values-width : Width m → (g s : List ℕ) → valuesAt m g s ≡ eachWith (λ x a. value m (monic g) a) (replicate 8192 1) s
@@ -30,25 +35,76 @@ module _ (m : ℕ) where
   unfolding valuesAt
   take-values w g s h = take-ofEach m (value m (monic g)) s w h
 
-  -- the leading coefficient alone
-  pub values-start : (g s : List ℕ) → replicate 8192 1 ≡ valuesAt m (drop (length g) g) s
-  unfolding valuesAt value monic
-  values-start g s =
-      rw (drop-of-length-le g (le-refl (length g)))
-      (ofEach-ones m (λ a. 1 ⊕ mul m a 0) s (λ a. ap (_⊕_ 1) (mul-zero m a) ∙ xor-zero 1))
+  pub values-none : isWidth m ≡ false → (g s : List ℕ) → replicate 8192 1 ≡ valuesAt m g s
+  unfolding valuesAt
+  values-none n g s = sym (ofEach-none m (value m (monic g)) s n)
 
-  -- one coefficient more
-  values-cons : (c : ℕ) (g s : List ℕ) → hornerEach m c (valuesAt m g s) s ≡ valuesAt m (c ∷ g) s
-  unfolding valuesAt value monic
-  values-cons c g s =
-      ofEach-step m (value m (monic g)) s c
-      ∙ ofEach-same m _ s _
-      (λ w a. ap (λ (y : ℕ). y ⊕ c) (mul-comm m (value m (monic g) a) a) ∙ xor-comm (mul m a (value m (monic g) a)) c)
+-- from leading coefficients r: none of g's coefficients yet; one more
+module _ (m : ℕ) (g r a : List ℕ) where
+  unfoldable pub valuesFrom : ℕ → List ℕ
+  valuesFrom k = eachWith (valueFrom m (drop k g)) r a
 
-  pub values-next : (g s : List ℕ) (k : ℕ) → 0 < k → k ≤ length g
-      → hornerEach m (getD g (k - 1) 0) (valuesAt m (drop k g) s) s ≡ valuesAt m (drop (k - 1) g) s
-  values-next g s k p h =
+  pub length-valuesFrom : (k : ℕ) → length (valuesFrom k) ≡ length r
+  unfolding valuesFrom
+  length-valuesFrom k = length-eachWith (valueFrom m (drop k g)) r a
+
+  pub from-start : r ≡ valuesFrom (length g)
+  unfolding valuesFrom valueFrom value
+  from-start =
+      sym (ap (λ (l : List ℕ). eachWith (valueFrom m l) r a) (drop-of-length-le g (le-refl (length g)))
+      ∙ eachWith-keep (valueFrom m []) (λ x y. ap (_⊕_ x) (mul-zero m y) ∙ xor-zero x) r a)
+
+  from-cons : Width m → (c : ℕ) (l : List ℕ) → hornerEach m c (eachWith (valueFrom m l) r a) a ≡ eachWith (valueFrom m (c ∷ l)) r a
+  unfolding valueFrom value
+  from-cons w c l =
+      hornerEach-width m c (eachWith (valueFrom m l) r a) a w
+      ∙ eachWith-again (valueFrom m l) (λ x y. mul m x y ⊕ c) r a
+      ∙ ap (λ (f : ℕ → ℕ → ℕ). eachWith f r a) (fun-ext λ x. fun-ext λ y.
+      ap (λ (v : ℕ). v ⊕ c) (mul-comm m (valueFrom m l x y) y) ∙ xor-comm (mul m y (valueFrom m l x y)) c)
+
+  pub from-next : Width m → (k : ℕ) → 0 < k → k ≤ length g → hornerEach m (getD g (k - 1) 0) (valuesFrom k) a ≡ valuesFrom (k - 1)
+  unfolding valuesFrom
+  from-next w k p h =
       let e : k ≡ suc (k - 1) = omega arith in
-      values-cons (getD g (k - 1) 0) (drop k g) s
-      ∙ ap (λ (l : List ℕ). valuesAt m l s)
+      from-cons w (getD g (k - 1) 0) (drop k g)
+      ∙ ap (λ (l : List ℕ). eachWith (valueFrom m l) r a)
       (ap (λ (i : ℕ). getD g (k - 1) 0 ∷ drop i g) e ∙ sym (drop-cons g (k - 1) 0 (omega arith)))
+
+  -- one step by the multiples t of the points
+  pub from-step : Width m → (t : List ℕ) → t ≡ multiplesOf m a → length r ≡ length a → length a ≤ 64 → (k : ℕ) → 0 < k → k ≤ length g
+      → combineEach t (getD g (k - 1) 0) (valuesFrom k) ≡ valuesFrom (k - 1)
+  from-step w t e l n k p h =
+      let c : ℕ = getD g (k - 1) 0 in
+      ap (λ (u : List ℕ). combineEach u c (valuesFrom k)) e
+      ∙ combineEach-horner m w a c (valuesFrom k) (omega (arith, length-valuesFrom k)) (omega (arith, length-valuesFrom k))
+      ∙ from-next w k p h
+
+-- block after block: the first `at` places
+module _ (m : ℕ) (g s : List ℕ) where
+  unfoldable pub valuesTo : ℕ → List ℕ
+  valuesTo at = eachWith (valueFrom m g) (replicate 8192 1) (take at s)
+
+  pub length-valuesTo : (at : ℕ) → length (valuesTo at) ≡ 8192
+  unfolding valuesTo
+  length-valuesTo at = length-eachWith (valueFrom m g) (replicate 8192 1) (take at s) ∙ length-replicate {A = ℕ} 8192 1
+
+  pub to-start : replicate 8192 1 ≡ valuesTo 0
+  unfolding valuesTo
+  to-start = sym (eachWith-nil (valueFrom m g) (replicate 8192 1))
+
+  pub to-next : (at e : ℕ) (r y : List ℕ) → at ≤ e → e ≤ length s → r ≡ valuesTo at
+      → y ≡ eachWith (valueFrom m g) (midOf at (e - at) r) (midOf at (e - at) s) → putMid at (e - at) r y ≡ valuesTo e
+  unfolding valuesTo
+  to-next at e r y h l er ey =
+      let k : at + (e - at) ≡ e = omega arith in
+      let f : ℕ → ℕ → ℕ = valueFrom m g in
+      ap (putMid at (e - at) r) ey
+      ∙ ap (λ (r : List ℕ). putMid at (e - at) r (eachWith f (midOf at (e - at) r) (midOf at (e - at) s))) er
+      ∙ eachWith-block f at (e - at) (replicate 8192 1) s (omega arith)
+      ∙ ap (λ (n : ℕ). eachWith f (replicate 8192 1) (take n s)) k
+
+  pub to-all : Width m → (at : ℕ) → (at < length s → 8192 ≤ at) → valuesTo at ≡ valuesAt m g s
+  unfolding valuesTo valueFrom monic
+  to-all w at h =
+      eachWith-take (valueFrom m g) (replicate 8192 1) s at (λ l. rw length-replicate (h l))
+      ∙ eachWith-replicate (valueFrom m g) 8192 1 s ∙ sym (values-width m w g s)

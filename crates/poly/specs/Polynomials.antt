@@ -25,6 +25,10 @@ same (x ∷ xs) (y ∷ ys) = let rest : Bool = same xs ys in eqb x y && rest
 unfoldable pub monic : List ℕ → List ℕ
 monic l = l ++ (1 ∷ [])
 
+-- the polynomial with the lower coefficients g and the leading coefficient x, at a
+unfoldable pub valueFrom : ℕ → List ℕ → ℕ → ℕ → ℕ
+valueFrom m g x a = value m (g ++ (x ∷ [])) a
+
 -- the monic polynomial with the lower coefficients g at each point, of at most 8192; 1 past them, and everywhere where m is no width
 unfoldable pub valuesAt : ℕ → List ℕ → List ℕ → List ℕ
 valuesAt m g points = ofEach m (value m (monic g)) points

@@ -1,7 +1,12 @@
 // The value of a polynomial at a point, and at each of a list of points.
 ghost use mathlib.Core.Path.{_≡_};
+ghost use mathlib.Core.Bool.{true};
+ghost use Prim.Native.Nat.{_≤_};
+ghost use lib.ListN.{length};
+ghost use Rattle.bits.specs.Bits.{eachWith};
+ghost use Rattle.field.specs.Field.{isWidth};
 ghost use Rattle.field.specs.Poly.{value as valueOf};
-ghost use Rattle.poly.specs.Polynomials.{valuesAt};
+ghost use Rattle.poly.specs.Polynomials.{valueFrom, valuesAt};
 
 // p(a) by Horner's rule, coefficient 0 of p first.
 pub fn value(m: u8, p: &[u16], a: u16) -> u16
@@ -16,16 +21,35 @@ pub fn value(m: u8, p: &[u16], a: u16) -> u16
     r
 }
 
-// The monic polynomial with the lower coefficients g at each point, of at most 8192, by Horner's rule at all points at once;
-// 1 past them, and everywhere where m is no width.
+// The polynomial with the lower coefficients g and the leading coefficient r[i] at the point a[i], for at most 64 points, by
+// Horner's rule with the multiples of the points.
+fn value_block(m: u8, g: &[u16], r: &mut [u16], a: &[u16])
+    requires { ⌜ (isWidth m ≡ true) × (length (now r) ≡ length (now a)) × (length (now a) ≤ 64) ⌝ }
+    ensures { λ _. ⌜ now (r .exit) ≡ eachWith (valueFrom m (now (g .entry))) (now (r .entry)) (now (a .entry)) ⌝ }
+{
+    let t = field_places::multiples(m, a);
+    let mut k = g.len();
+    while 0 < k {
+        k -= 1;
+        field_places::horner_with(&t, r, g[k]);
+    }
+}
+
+// The monic polynomial with the lower coefficients g at each point, of at most 8192, in blocks of 64 points; 1 past them, and
+// everywhere where m is no width.
 pub fn values(m: u8, g: &[u16], points: &[u16]) -> [u16; 8192]
     ensures { λ r. ⌜ r ≡ valuesAt m (now (g .entry)) (now (points .entry)) ⌝ }
 {
     let mut r = [1u16; 8192];
-    let mut k = g.len();
-    while 0 < k {
-        k -= 1;
-        field_places::horner_each(m, &mut r, points, g[k]);
+    if field::modulus(m) == 0 {
+        return r;
+    }
+    let n = bits::smaller(points.len(), 8192);
+    let mut at = 0;
+    while at < n {
+        let e = bits::smaller(at + 64, n);
+        value_block(m, g, &mut r[at..e], &points[at..e]);
+        at = e;
     }
     r
 }

@@ -1,88 +1,102 @@
--- The loop's invariant: the first k sums are written, and p has the terms of the sum k. Assumes nothing.
-use mathlib.Core.Path.{_≡_, refl, sym, ap, ap₂, _∙_}
-use mathlib.Core.List.{List, map}
-use Prim.Native.Nat.{ℕ, _-_, _*_, _≤_}
+-- The loop's invariant: the sums over the first points, up to `at`, and the weights from there on. Assumes nothing.
+use mathlib.Core.Path.{_≡_, refl, ap, _∙_}
+use Prim.Native.Nat.{ℕ, _-_, _≤_}
 use native.Mathlib.Omega.{arith}
+use mathlib.Core.List.{List}
+use lib.Seq.{take-all}
+use lib.ListN.{length, take, drop}
 use borrow.Author.Needs.{needs}
-use lib.ListN.{length, take, set, length-set}
-use lib.Seq.{take-all, length-take-le}
+use borrow.Rule.Slice.PartMut.{midOf, mid-len, same-len-mid, drop-put}
 use Rattle.bits.specs.Bits.{padded}
-use Rattle.field.proofs.Places.{length-hornerEach}
-use Rattle.poly.specs.Polynomials.{sum}
-use Rattle.key.specs.Keys.{keyOf}
-use Rattle.decoder.specs.Decoding.{squareEntry}
 use Rattle.decoding.specs.Parts.{pointSums}
-use Rattle.bits.proofs.Padded.{padded-start, padded-next}
-use Rattle.decoding.proofs.PowerSums.{weights-next, length-pointSums, pointSums-at}
+use Rattle.decoding.proofs.PowerSums.{sums-none, sums-block, weights-block, drop-on}
 use Rattle.decoding.proofs.sums.point_sums.Statement.{statement}
 use Rattle.decoding.proofs.sums.point_sums.Tie as tie
 
 abbrev Inv-loop : tie.InvT-loop
-Inv-loop m g points n p₀ s₀ k₀ p s k = (k ≤ 2 * length g) × (length p ≡ 8192) × (length s ≡ 256)
-    × (take (length points) p ≡ map (squareEntry (keyOf m points g) k) points) × (s ≡ padded 256 (take k (pointSums m g points)))
+Inv-loop m g points n p₀ s₀ at₀ p s at = (at ≤ length points) × (length p ≡ 8192) × (length s ≡ 256)
+    × (drop at p ≡ drop at p₀) × (s ≡ padded 256 (pointSums m g (take at points)))
 
 abbrev μ-loop : tie.MeasureT-loop
-μ-loop m g points n p₀ s₀ k₀ p s k = 2 * length g - k
+μ-loop m g points n p₀ s₀ at₀ p s at = length points - at
 
 weights-requires : tie.Need-weights-requires Inv-loop μ-loop
 weights-requires c κs = search needs
 
 loop-holds : tie.Need-loop-holds Inv-loop μ-loop
-loop-holds c = (omega arith, search needs, refl, c .weights .ensures, padded-start 256 (pointSums (c .before .before .before .args .m) (c .before .before .before .args .g .now) (c .before .before .before .args .points .now)))
+loop-holds c =
+    let b = c .before .before .before in (omega arith, search needs, refl, refl, sums-none (b .args .m) (b .args .g .now) (omega arith))
 
-mul-loop : tie.Need-mul-loop Inv-loop μ-loop
-mul-loop c = search needs
+add-smaller : tie.Need-add-smaller Inv-loop μ-loop
+add-smaller c = omega arith
 
-array-share-prefix-p : tie.Need-array-share-prefix-p Inv-loop μ-loop
-array-share-prefix-p c = search needs
+smaller-requires : tie.Need-smaller-requires Inv-loop μ-loop
+smaller-requires c κs = search needs
 
-slice-aggregate-total : tie.Need-slice-aggregate-total Inv-loop μ-loop
-slice-aggregate-total c =
-    let b = c .before .before .before .before .before .before in
-    sym (length-take-le (length (b .args .points .now)) (c .before .before .loop .p) (omega arith))
+slice-aggregate-block-sums : tie.Need-slice-aggregate-block-sums Inv-loop μ-loop
+slice-aggregate-block-sums c = search needs
 
-total-requires : tie.Need-total-requires Inv-loop μ-loop
-total-requires c κs = search needs
+mul-p : tie.Need-mul-p Inv-loop μ-loop
+mul-p c = omega arith
 
-mul-s : tie.Need-mul-s Inv-loop μ-loop
-mul-s c = search needs
+sub-block-sums : tie.Need-sub-block-sums Inv-loop μ-loop
+sub-block-sums c = omega arith
 
-array-write-s : tie.Need-array-write-s Inv-loop μ-loop
-array-write-s c = search needs
+part-p-start : tie.Need-part-p-start Inv-loop μ-loop
+part-p-start c = omega arith
 
-slice-aggregate-horner-each : tie.Need-slice-aggregate-horner-each Inv-loop μ-loop
-slice-aggregate-horner-each c = search needs
+part-p-end : tie.Need-part-p-end Inv-loop μ-loop
+part-p-end c = omega arith
 
-horner-each-requires : tie.Need-horner-each-requires Inv-loop μ-loop
-horner-each-requires c κs = search needs
+mul-block-sums : tie.Need-mul-block-sums Inv-loop μ-loop
+mul-block-sums c = omega arith
 
-add-k : tie.Need-add-k Inv-loop μ-loop
-add-k c = search needs
+sub-block-sums-2 : tie.Need-sub-block-sums-2 Inv-loop μ-loop
+sub-block-sums-2 c = omega arith
+
+part-block-sums-start : tie.Need-part-block-sums-start Inv-loop μ-loop
+part-block-sums-start c = omega arith
+
+part-block-sums-end : tie.Need-part-block-sums-end Inv-loop μ-loop
+part-block-sums-end c = omega arith
+
+block-sums-requires : tie.Need-block-sums-requires Inv-loop μ-loop
+block-sums-requires c κs =
+    let l = c .before .before .before .before .before .loop in
+    let b = c .before .before .before .before .before .before .before .before .before in
+    let a = b .args in
+    let e = c .before .before .before .smaller .result in
+    let w = c .before .before .before .before .before .before .weights in
+    let n : length (midOf (l .at) (e - l .at) (a .points .now)) ≡ e - l .at = mid-len (l .at) e (a .points .now) (omega arith) in
+    let v = weights-block (a .m) (a .g .now) (a .points .now) (l .at) e (l .p) (w .result) (omega arith) (omega arith) (w .ensures) (l .inv .3) in
+    (b .pre .0, omega arith, omega arith, v)
 
 loop-less : tie.Need-loop-less Inv-loop μ-loop
-loop-less c = search needs
+loop-less c = omega arith
 
 loop-again : tie.Need-loop-again Inv-loop μ-loop
 loop-again c =
-    let l = c .before .before .before .before .before .before .loop in
-    let b = c .before .before .before .before .before .before .before .before .before .before in
+    let l = c .before .before .before .before .before .before .before .before .loop in
+    let b = c .before .before .before .before .before .before .before .before .before .before .before .before in
     let a = b .args in
-    let n : length (pointSums (a .m) (a .g .now) (a .points .now)) ≡ 2 * length (a .g .now) = length-pointSums (a .m) (a .g .now) (a .points .now) in (
+    let e = c .before .before .before .before .before .before .smaller .result in
+    let w : List ℕ = c .before .before .before .before .before .before .before .before .before .weights .result in
+    let h = c .before .before .block-sums in
+    let q : List ℕ = h .last .1 .1 .1 .0 in
+    let n : length q ≡ e - l .at = h .kept .1 .1 .1 .0 ∙ mid-len (l .at) e (l .p) (omega arith) in (
       omega arith,
-      ap length (c .before .horner-each .ensures) ∙ length-hornerEach (a .m) 0 (l .p) (a .points .now) ∙ l .inv .1,
-      length-set (l .s) _ _ ∙ l .inv .2,
-      weights-next (a .m) (b .pre .0) (a .g .now) (a .points .now) (l .k) (l .p) _ (l .inv .3) (c .before .horner-each .ensures),
-      ap₂ (λ (d : List ℕ) (v : ℕ). set d (l .k) v) (l .inv .4)
-          (c .before .before .before .total .ensures ∙ ap sum (l .inv .3) ∙ sym (pointSums-at (a .m) (a .g .now) (a .points .now) (l .k) (omega arith)))
-          ∙ padded-next 256 (pointSums (a .m) (a .g .now) (a .points .now)) (l .k) (omega arith) (omega arith),
+      same-len-mid (l .at) (e - l .at) (l .p) q (h .kept .1 .1 .1 .0) ∙ l .inv .1,
+      h .kept .1 .1 .0 ∙ l .inv .2,
+      drop-put (l .at) e (l .p) q (omega arith) (omega arith) n
+          ∙ drop-on (l .at) e (l .p) w (omega arith) (l .inv .3),
+      h .ensures ∙ sums-block (a .m) (a .g .now) (omega arith) (a .points .now) (l .at) e (l .s) (omega arith) (l .inv .4),
     )
 
 returns : tie.Need-returns Inv-loop μ-loop
 returns c =
     let l = c .before .loop in
     let a = c .before .before .before .before .before .args in
-    l .inv .4
-    ∙ ap (padded 256) (take-all (l .k) (pointSums (a .m) (a .g .now) (a .points .now)) (omega (arith, length-pointSums (a .m) (a .g .now) (a .points .now))))
+    l .inv .4 ∙ ap (λ (p : List ℕ). padded 256 (pointSums (a .m) (a .g .now) p)) (take-all (l .at) (a .points .now) (omega arith))
 
 pub point-sums-spec : {M : Type 1} → statement M
 point-sums-spec =
@@ -92,15 +106,18 @@ point-sums-spec =
     μ-loop
     weights-requires
     loop-holds
-    mul-loop
-    array-share-prefix-p
-    slice-aggregate-total
-    total-requires
-    mul-s
-    array-write-s
-    slice-aggregate-horner-each
-    horner-each-requires
-    add-k
+    add-smaller
+    smaller-requires
+    slice-aggregate-block-sums
+    mul-p
+    sub-block-sums
+    part-p-start
+    part-p-end
+    mul-block-sums
+    sub-block-sums-2
+    part-block-sums-start
+    part-block-sums-end
+    block-sums-requires
     loop-less
     loop-again
     returns)
