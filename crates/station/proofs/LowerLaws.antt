@@ -32,39 +32,39 @@ use Rattle.ledger.specs.Station.{loaded, published as isPublished, isEmpty, isU
 use Rattle.ledger.specs.Calls.{Call, load, publish, open-capsule, read-word}
 use Rattle.ledger.specs.Demands.{outputOf}
 use Rattle.ledger.proofs.StepLaws.{step-free, freed}
-use Rattle.station.specs.Replies.{stateOf, byteOf, view, shapeNumber, publishedNumber, answerNumber, refusal, acceptance, moved, handed}
+use Rattle.station.specs.Replies.{stateOf, byteOf, view, loadedNumber, publishedNumber, answerNumber, refusal, acceptance, moved, handed}
 use Rattle.station.specs.declared.Station.{Station}
 use Rattle.station.proofs.ReplyLaws.{stop, lower, tally, bytes, lower-refused, lower-accepted, lower-output}
 
 -- load, on an empty station
-shape-number : (q : ℕ) (s : ℕ × ℕ × ℕ) → shapeNumber (shapeAnswer q s) ≡ q
-unfolding shapeNumber shapeAnswer
-shape-number zero s = refl
-shape-number (suc q) s = refl
+loaded-number : (q : ℕ) (s : ℕ × ℕ × ℕ) → loadedNumber (shapeAnswer q s) ≡ q
+unfolding loadedNumber shapeAnswer
+loaded-number zero s = refl
+loaded-number (suc q) s = refl
 
-shape-sizes : (q : ℕ) (s : ℕ × ℕ × ℕ) {z : Sizes} → shapeAnswer q s ≡ shapes.Sizes z → (q ≡ 0) × (z ≡ sizes s)
+loaded-sizes : (q : ℕ) (s : ℕ × ℕ × ℕ) {z : Sizes} → shapeAnswer q s ≡ shapes.Sizes z → (q ≡ 0) × (z ≡ sizes s)
 unfolding shapeAnswer
-shape-sizes zero s e = (refl, cc)
-shape-sizes (suc q) s e = let z : _≡_ {A = ℕ} 0 1 = cc in absurd (omega arith)
+loaded-sizes zero s e = (refl, cc)
+loaded-sizes (suc q) s e = let z : _≡_ {A = ℕ} 0 1 = cc in absurd (omega arith)
 
-shape-refused : (q : ℕ) (s : ℕ × ℕ × ℕ) {x : ℕ} → shapeAnswer q s ≡ shapes.Refused x → q ≡ 0 → ⊥
+loaded-refused : (q : ℕ) (s : ℕ × ℕ × ℕ) {x : ℕ} → shapeAnswer q s ≡ shapes.Refused x → q ≡ 0 → ⊥
 unfolding shapeAnswer
-shape-refused zero s e h = let z : _≡_ {A = ℕ} 0 1 = cc in omega arith
-shape-refused (suc q) s e h = omega arith
+loaded-refused zero s e h = let z : _≡_ {A = ℕ} 0 1 = cc in omega arith
+loaded-refused (suc q) s e h = omega arith
 
 module _ (s : Station) (file : List ℕ) (empty : isEmpty (stateOf (s .state)) ≡ true) (a : ShapeAnswer) (e : a ≡ loadedOf file) where
   load-passes : stop s (load file) .0 ≡ false
   unfolding stop
   load-passes = ap not empty
 
-  load-number : shapeNumber a ≡ lower s (load file)
+  load-number : loadedNumber a ≡ lower s (load file)
   unfolding lower loadedOf
-  load-number = ap shapeNumber e ∙ shape-number _ _
+  load-number = ap loadedNumber e ∙ loaded-number _ _
 
-  pub load-refused : {x : ℕ} → a ≡ shapes.Refused x → refusal s (shapeNumber a) ≡ handed s (load file) .reply
+  pub load-refused : {x : ℕ} → a ≡ shapes.Refused x → refusal s (loadedNumber a) ≡ handed s (load file) .reply
   unfolding lower loadedOf
   load-refused h =
-      lower-refused s (load file) load-passes (shapeNumber a) load-number (λ z. shape-refused _ _ (sym e ∙ h) (sym load-number ∙ z))
+      lower-refused s (load file) load-passes (loadedNumber a) load-number (λ z. loaded-refused _ _ (sym e ∙ h) (sym load-number ∙ z))
 
   -- the elements are written over zeros
   pub load-accepted : {z : Sizes} {x y : List ℕ} → a ≡ shapes.Sizes z → x ≡ over (writtenOf file .support) (replicate 8192 0)
@@ -72,7 +72,7 @@ module _ (s : Station) (file : List ℕ) (empty : isEmpty (stateOf (s .state)) �
       → acceptance (record { state = byteOf loaded; key = parts (z .m) (z .n) (z .t) x y }) 0 ≡ handed s (load file) .reply
   unfolding moved tally lower loadedOf keep sizes
   load-accepted {z} h p q =
-      let o = shape-sizes _ _ (sym e ∙ h) in
+      let o = loaded-sizes _ _ (sym e ∙ h) in
       let k = read-accepted file (o .0) in
       ap (λ (k : Kept.Key). acceptance (record { state = byteOf loaded; key = k }) 0)
       (ap₂ (λ (x y : List ℕ). parts (z .m) (z .n) (z .t) x y) (p ∙ ap (λ (r : Key). over (r .support) (replicate 8192 0)) k ∙ over-zeros 8192 _)

@@ -33,9 +33,9 @@ unfoldable pub view : Station → Definition.Station
 view s = record { state = stateOf (s .state); key = kept (s .key) }
 
 -- the number in a lower answer, and 0 where it is no refusal
-unfoldable pub shapeNumber : ShapeAnswer → ℕ
-shapeNumber (shapes.Sizes s) = 0
-shapeNumber (shapes.Refused n) = n
+unfoldable pub loadedNumber : ShapeAnswer → ℕ
+loadedNumber (shapes.Sizes s) = 0
+loadedNumber (shapes.Refused n) = n
 
 unfoldable pub publishedNumber : Published → ℕ
 publishedNumber published.Done = 0

@@ -7,7 +7,7 @@ ghost use mathlib.Core.Path.{_≡_};
 ghost use mathlib.Core.Bool.{false, not};
 ghost use Rattle.ledger.specs.Station.{isEmpty, isUnpublished};
 ghost use Rattle.ledger.specs.Calls.{load, publish, open-capsule, read-word, drop-key};
-ghost use Rattle.station.specs.Replies.{stateOf, shapeNumber, publishedNumber, answerNumber, freshStation, refusal, acceptance, handed};
+ghost use Rattle.station.specs.Replies.{stateOf, loadedNumber, publishedNumber, answerNumber, freshStation, refusal, acceptance, handed};
 
 // One slot: the state and the key, the key of zeros where it is empty. State 0 is no key, 1 a key, any other a published key.
 #[repr(C)]
@@ -39,8 +39,8 @@ fn is_published(state: u8) -> bool
 }
 
 // The number of load's refusal, and 0 where there is a shape.
-fn shape_number(answer: ShapeAnswer) -> u8
-    ensures { λ r. ⌜ r ≡ shapeNumber answer ⌝ }
+fn loaded_number(answer: ShapeAnswer) -> u8
+    ensures { λ r. ⌜ r ≡ loadedNumber answer ⌝ }
 {
     match answer {
         ShapeAnswer::Sizes(_) => 0,
@@ -126,7 +126,7 @@ impl Station {
         let mut g = [0u16; 128];
         let answer = key_file::load(file, &mut support, &mut g);
         let ShapeAnswer::Sizes(s) = answer else {
-            return self.refuse(shape_number(answer));
+            return self.refuse(loaded_number(answer));
         };
         let key = Key {
             m: s.m,
