@@ -1,6 +1,9 @@
 // Parts of the calls under C names, for the benchmark.
 ghost use mathlib.Core.Path.{_≡_};
+ghost use Prim.Native.Nat.{_<_};
+ghost use lib.ListN.{getD};
 ghost use Rattle.field.specs.Poly.{hornerEach};
+ghost use Rattle.poly.specs.Polynomials.{valuesAt};
 ghost use Rattle.euclid.specs.Euclid.{squareTest};
 ghost use Rattle.key.specs.Parts.{distinctBelow};
 ghost use Rattle.bench_calls.specs.Chain.{chain};
@@ -25,6 +28,16 @@ pub extern "C" fn bench_horner(m: u8, r: &mut [u16], a: &[u16], c: u16)
     ensures { λ _. ⌜ now (r .exit) ≡ hornerEach m c (now (r .entry)) (now (a .entry)) ⌝ }
 {
     field_places::horner_each(m, r, a, c);
+}
+
+// One of the values of a monic polynomial at each point.
+#[no_mangle]
+pub extern "C" fn bench_values(m: u8, g: &[u16], points: &[u16], i: usize) -> u16
+    requires { ⌜ i < 8192 ⌝ }
+    ensures { λ r. ⌜ r ≡ getD (valuesAt m (now (g .entry)) (now (points .entry))) i 0 ⌝ }
+{
+    let v = poly::values(m, g, points);
+    v[i]
 }
 
 // The square test.
