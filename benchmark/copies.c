@@ -57,13 +57,16 @@ int main(int count, char **words)
     size_t size = key ? fread(file, 1, sizeof file, key) : 0;
     station = shearcotter_fresh();
     COUNT("drop, refused", shearcotter_drop(station), 21);
+    COUNT("open, refused, no key", shearcotter_open(station, row, 1, out, sizeof out), 21);
     COUNT("load, refused", shearcotter_load(station, file, size - 1), 2);
     COUNT("load", shearcotter_load(station, file, size), 0);
+    COUNT("load, refused, key held", shearcotter_load(station, file, size), 22);
     COUNT("publish, refused", shearcotter_publish(station, public_key, 1, work, sizeof work), 10);
     COUNT("publish", shearcotter_publish(station, public_key, sizeof public_key, work, sizeof work), 0);
     COUNT("open, refused", shearcotter_open(station, row, SHEARCOTTER_CAPSULE_BYTES(12, 64), out, sizeof out), 13);
+    COUNT("read, refused", shearcotter_read(station, row, 1, out, sizeof out), 8);
     COUNT("read", shearcotter_read(station, row, SHEARCOTTER_PATTERN_BYTES(3488), out, sizeof out), 0);
     COUNT("drop", shearcotter_drop(station), 0);
-    puts(failed ? "copies: too many" : "copies: at most one in and one out");
+    puts(failed ? "copies: too many" : "copies: at most two in each case");
     return failed;
 }

@@ -5,7 +5,7 @@ use station::Station;
 ghost use mathlib.Core.Path.{_≡_};
 ghost use mathlib.Core.List.{[], _∷_};
 ghost use Prim.Native.Nat.{_+_, _^_, _≤_, _<_};
-ghost use lib.ListN.{length, take, drop};
+ghost use lib.ListN.{length, take, drop, replicate};
 ghost use Rattle.bits.specs.Bits.{bytesFor, unpack, over};
 ghost use Rattle.code.specs.Publish.{capsuleBits};
 ghost use Rattle.ledger.specs.Calls.{publish};
@@ -213,9 +213,10 @@ pub fn report(file: &[u8], input: &[u8], out: &mut [u8]) -> usize
     whole(&file[..f], &input[..i], out)
 }
 
-// Room for the longest text. The `ensures` gives only the length.
+// Room for the longest text: zeros.
 pub fn longest() -> [u8; 1114112]
-    ensures { λ r. ⌜ 1114112 ≡ length r ⌝ }
+    ensures zeros { λ r. ⌜ r ≡ replicate 1114112 0 ⌝ }
+    ensures size { λ r. ⌜ 1114112 ≡ length r ⌝ }
 {
     [0; 1114112]
 }

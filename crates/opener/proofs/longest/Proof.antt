@@ -1,6 +1,6 @@
 -- `opener::longest` meets its contract. Assumes nothing.
 use Prim.Native.Nat.{ℕ}
-use mathlib.Core.Path.{_≡_, sym}
+use mathlib.Core.Path.{_≡_, refl, sym}
 use lib.ListN.{length, replicate, length-replicate}
 use Rattle.opener.proofs.longest.Statement.{statement}
 use Rattle.opener.proofs.longest.Tie as tie
@@ -10,7 +10,7 @@ sized : (n : ℕ) → n ≡ length (replicate {A = ℕ} n 0)
 sized n = sym (length-replicate n 0)
 
 returns : tie.Need-returns
-returns c = sized 1114112
+returns c = (refl, sized 1114112)
 
 pub longest-spec : {M : Type 1} → statement M
 longest-spec = tie.close (tie.spec returns)
