@@ -10,8 +10,12 @@ use borrow.Author.Tests.{lt-ltb, le-ltb, ltb-true}
 use Rattle.bits.specs.Bits.{every}
 use Rattle.field.specs.Numbers.{firstOf}
 use Rattle.field.specs.Field.{isWidth, isElement}
+use Rattle.field.specs.Verdicts.{verdictOf, numberOf}
 use Rattle.field.specs.Answers.{elementsNumber, answer}
+use Rattle.field.specs.declared.Verdict.{Verdict}
+use Rattle.field.specs.declared.Verdict.the-variants as verdicts
 use Rattle.field.specs.declared.Answer.the-variants.{Value, Refused}
+use Rattle.field.proofs.Verdicts.{verdict-refused, verdict-number}
 use Rattle.field.proofs.Table.{Width, width-narrow}
 
 module _ (m : ℕ) where
@@ -67,11 +71,13 @@ module _ (m x : ℕ) (xs : List ℕ) where
       go true false r p q z = absurd (omega arith)
       go true true r p q z = (element-lt m p q, z)
 
-pub refused : (r : ℕ) {q : ℕ} (v : ℕ) → r ≡ q → (r ≡ 0 → ⊥) → Refused r ≡ answer q v
+-- a check's verdict r, of the number q, taken apart
+pub refused : (q v : ℕ) {r : Verdict} {x n : ℕ} → r ≡ verdictOf q → r ≡ verdicts.Refused x → n ≡ numberOf r → Refused n ≡ answer q v
 unfolding answer
-refused zero v e n = absurd (n refl)
-refused (suc r) v e n = ap (λ (q : ℕ). answer q v) e
+refused zero v e h k = absurd (verdict-refused 0 e h refl)
+refused (suc q) v e h k = ap Refused (k ∙ verdict-number (suc q) e)
 
-pub allowed : {r q u v : ℕ} → r ≡ q → r ≡ 0 → u ≡ v → Value u ≡ answer q v
+pub allowed : (q : ℕ) {u v : ℕ} → q ≡ 0 → u ≡ v → Value u ≡ answer q v
 unfolding answer
-allowed {v = v} e z h = ap Value h ∙ ap (λ (q : ℕ). answer q v) (sym z ∙ e)
+allowed zero z h = ap Value h
+allowed (suc q) z h = absurd (omega arith)

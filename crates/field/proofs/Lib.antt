@@ -8,6 +8,7 @@ pub mod Laws
 pub mod Numbers
 pub mod Products
 pub mod Machine
+pub mod Verdicts
 pub mod Guards
 pub mod Places
 pub mod PointTable

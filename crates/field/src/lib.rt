@@ -5,7 +5,24 @@ ghost use Prim.Native.Nat.{suc, _^_, _<_, _≤_};
 ghost use lib.Dec.{ltb};
 ghost use Rattle.bits.specs.Bits.{every};
 ghost use Rattle.field.specs.Field.{isElement, modulusOf, mulMod, productBy, mul, inv};
+ghost use Rattle.field.specs.Verdicts.{verdictOf, numberOf};
 ghost use Rattle.field.specs.Answers.{elementsNumber, addOf, multiplyOf, invertOf};
+
+// What a check answers, here and in the crates above: accepted, or the number of a refusal.
+pub enum Verdict {
+    Accepted,
+    Refused(u8),
+}
+
+// The number of a refusal, and 0 where it is accepted.
+pub fn number(v: Verdict) -> u8
+    ensures { λ r. ⌜ r ≡ numberOf v ⌝ }
+{
+    match v {
+        Verdict::Accepted => 0,
+        Verdict::Refused(n) => n,
+    }
+}
 
 // What a public call answers: the element, or the number of a refusal.
 pub enum Answer {
@@ -104,39 +121,39 @@ fn below(top: u16, s: &[u16]) -> bool
     true
 }
 
-// The number of the refusal of an element a of width m, and 0 where there is none.
-fn refusal(m: u8, a: u32) -> u8
-    ensures { λ r. ⌜ r ≡ elementsNumber m (a ∷ []) ⌝ }
+// Whether a is an element of width m: 1 or 4 on refusal.
+fn check(m: u8, a: u32) -> Verdict
+    ensures { λ r. ⌜ r ≡ verdictOf (elementsNumber m (a ∷ [])) ⌝ }
 {
     if modulus(m) == 0 {
-        return 1;
+        return Verdict::Refused(1);
     }
     let top: u16 = 1 << m;
     if top as u32 <= a {
-        return 4;
+        return Verdict::Refused(4);
     }
-    0
+    Verdict::Accepted
 }
 
 // The same for two elements.
-fn pair_refusal(m: u8, a: u32, b: u32) -> u8
-    ensures { λ r. ⌜ r ≡ elementsNumber m (a ∷ b ∷ []) ⌝ }
+fn check_pair(m: u8, a: u32, b: u32) -> Verdict
+    ensures { λ r. ⌜ r ≡ verdictOf (elementsNumber m (a ∷ b ∷ [])) ⌝ }
 {
-    let x = refusal(m, a);
-    if x != 0 {
+    let x = check(m, a);
+    let Verdict::Accepted = x else {
         return x;
-    }
-    refusal(m, b)
+    };
+    check(m, b)
 }
 
 // The sum, exclusive or, of two elements.
 pub fn add(m: u8, a: u32, b: u32) -> Answer
     ensures { λ r. ⌜ r ≡ addOf m a b ⌝ }
 {
-    let x = pair_refusal(m, a, b);
-    if x != 0 {
-        return Answer::Refused(x);
-    }
+    let x = check_pair(m, a, b);
+    let Verdict::Accepted = x else {
+        return Answer::Refused(number(x));
+    };
     Answer::Value((a as u16) ^ (b as u16))
 }
 
@@ -144,10 +161,10 @@ pub fn add(m: u8, a: u32, b: u32) -> Answer
 pub fn multiply(m: u8, a: u32, b: u32) -> Answer
     ensures { λ r. ⌜ r ≡ multiplyOf m a b ⌝ }
 {
-    let x = pair_refusal(m, a, b);
-    if x != 0 {
-        return Answer::Refused(x);
-    }
+    let x = check_pair(m, a, b);
+    let Verdict::Accepted = x else {
+        return Answer::Refused(number(x));
+    };
     Answer::Value(times(m, a as u16, b as u16))
 }
 
@@ -155,9 +172,9 @@ pub fn multiply(m: u8, a: u32, b: u32) -> Answer
 pub fn invert(m: u8, a: u32) -> Answer
     ensures { λ r. ⌜ r ≡ invertOf m a ⌝ }
 {
-    let x = refusal(m, a);
-    if x != 0 {
-        return Answer::Refused(x);
-    }
+    let x = check(m, a);
+    let Verdict::Accepted = x else {
+        return Answer::Refused(number(x));
+    };
     Answer::Value(inverse(m, a as u16))
 }

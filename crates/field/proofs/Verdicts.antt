@@ -1,0 +1,36 @@
+-- What a verdict says of the number that it was made from. Assumes nothing.
+use Prim.Native.Nat.{ℕ, zero, suc}
+use mathlib.Core.Path.{_≡_, refl, sym, ap, _∙_}
+use native.Mathlib.Omega.{arith}
+use Rattle.field.specs.Verdicts.{verdictOf, numberOf}
+use Rattle.field.specs.declared.Verdict.{Verdict}
+use Rattle.field.specs.declared.Verdict.the-variants.{Accepted, Refused}
+
+pub number-verdict : (q : ℕ) → numberOf (verdictOf q) ≡ q
+unfolding numberOf verdictOf
+number-verdict zero = refl
+number-verdict (suc q) = refl
+
+-- a refusal has a number that is not 0
+pub refused-verdict : (x : ℕ) → (x ≡ 0 → ⊥) → Refused x ≡ verdictOf x
+unfolding verdictOf
+refused-verdict zero h = absurd (h refl)
+refused-verdict (suc x) h = refl
+
+pub accepted-verdict : Accepted ≡ verdictOf 0
+unfolding verdictOf
+accepted-verdict = refl
+
+-- what a callee's verdict v, of the number q, says once it is taken apart
+pub verdict-accepted : (q : ℕ) {v : Verdict} → v ≡ verdictOf q → v ≡ Accepted → q ≡ 0
+unfolding verdictOf
+verdict-accepted zero e h = refl
+verdict-accepted (suc q) e h = let z : _≡_ {A = ℕ} 0 1 = cc in absurd (omega arith)
+
+pub verdict-refused : (q : ℕ) {v : Verdict} {x : ℕ} → v ≡ verdictOf q → v ≡ Refused x → q ≡ 0 → ⊥
+unfolding verdictOf
+verdict-refused zero e h z = let d : _≡_ {A = ℕ} 0 1 = cc in omega arith
+verdict-refused (suc q) e h z = omega arith
+
+pub verdict-number : (q : ℕ) {v : Verdict} → v ≡ verdictOf q → numberOf v ≡ q
+verdict-number q e = ap numberOf e ∙ number-verdict q
