@@ -27,6 +27,10 @@ publishChecks bad k out work =
     (ltb (length out) (publicBytes k), 10) ∷
     (ltb (length work) (workBytes k), 11) ∷ []
 
+-- how many of the workspace's first bytes are free: those it needs, once the checks have passed; else none
+unfoldable pub freeBytes : Key → List ℕ → List ℕ → ℕ
+freeBytes k out work = cond (eqb (firstOf (publishChecks (unsound k) k out work)) 0) (workBytes k) 0
+
 -- and 23
 unfoldable pub publishConditions : Bool → Key → List ℕ → List ℕ → List (Bool × ℕ)
 publishConditions bad k out work = publishChecks bad k out work ++ ((dependent k, 23) ∷ [])

@@ -7,7 +7,7 @@ use Prim.Native.Nat.{ℕ, zero, suc, _-_, _*_, _≤_, _<_}
 use native.Mathlib.Nat.{le-of-suc-le-suc}
 use native.Mathlib.Omega.{arith}
 use lib.Dec.{eqb, ltb}
-use lib.ListN.{length}
+use lib.ListN.{length, drop}
 use lib.Pow.{pow-mono}
 use borrow.Author.Tests.{eq-eqb, ne-eqb, eqb-true, not-true, not-false, lt-ltb, le-ltb, ltb-false}
 use Rattle.bits.specs.Bits.{bytesFor, over}
@@ -18,7 +18,7 @@ use Rattle.key.specs.Keys.{Key, keyNumber, unsound}
 use Rattle.key.proofs.Accepted.{accepted}
 use Rattle.key.proofs.Conditions.{first-take}
 use Rattle.code.specs.PublicKey.{Matrix, publicKey, dependent, written}
-use Rattle.code.specs.Publish.{capsuleBits, publishChecks, publishConditions, publishNumber, publishOutput}
+use Rattle.code.specs.Publish.{capsuleBits, workBytes, publishChecks, freeBytes, publishConditions, publishNumber, publishOutput}
 use Rattle.publishing.specs.declared.Published.the-variants.{Done, Refused}
 use Rattle.publishing.specs.Published.{publishedOf, sizeChecks}
 
@@ -89,10 +89,6 @@ refused (suc x) h = refl
 
 -- the number and the output of publish, where a check holds
 module _ (k : Key) (out work : List ℕ) where
-  pub checks-sizes : publishChecks (unsound k) k out work ≡ sizeChecks (unsound k) k (length out) (length work)
-  unfolding publishChecks sizeChecks
-  checks-sizes = refl
-
   pub number-refused : (firstOf (sizeChecks (unsound k) k (length out) (length work)) ≡ 0 → ⊥)
       → firstOf (sizeChecks (unsound k) k (length out) (length work)) ≡ publishNumber k out work
   unfolding sizeChecks publishNumber publishConditions publishChecks
@@ -115,6 +111,12 @@ module _ (k : Key) (out work : List ℕ) where
     pub number-done : not (dependent k) ≡ true → Done ≡ publishedOf (publishNumber k out work)
     unfolding publishedOf
     number-done h = rw (number-made, not-true (dependent k) h)
+
+    -- the bytes that are not free are as they were
+    pub free-made : (after : List ℕ) → drop (workBytes k) after ≡ drop (workBytes k) work
+        → drop (freeBytes k out work) after ≡ drop (freeBytes k out work) work
+    unfolding freeBytes publishChecks sizeChecks
+    free-made after e = rw (eq-eqb _ 0 clear) e
 
     pub output-made : over (written (publicKey k)) out ≡ publishOutput k out work
     unfolding publishOutput dependent written over

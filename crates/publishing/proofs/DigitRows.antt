@@ -4,9 +4,9 @@ use mathlib.Core.List.{List, [], _∷_, _++_, map, map-append}
 use Prim.Native.Nat.{ℕ, zero, suc, _+_, _*_, _/_, _%_, _^_, _≤_, _<_}
 use native.Mathlib.Nat.{zero-add, add-mul, mul-comm, mul-le-mul-right, le-of-eq, not-suc-le-zero, le-of-suc-le-suc}
 use native.Mathlib.Omega.{arith}
-use lib.ListN.{length, getD, take, length-map}
-use lib.Seq.{length-take-le, drop-at}
-use Rattle.bits.specs.Bits.{Row, end, from, bytesFor, putBits, unpack}
+use lib.ListN.{length, getD, take, drop, length-map}
+use lib.Seq.{length-take-le, drop-at, drop-drop, drop-set-lt}
+use Rattle.bits.specs.Bits.{Row, end, from, bytesFor, withBit, setBit, putBits, unpack}
 use Rattle.bits.proofs.Xor.{low}
 use Rattle.bits.proofs.Lists.{from-add}
 use Rattle.bits.proofs.Pack.{row-cons, bytes-enough}
@@ -40,6 +40,23 @@ pub unpack-digits : (n : ℕ) (p : List ℕ) (k : ℕ) (s : List ℕ) → n ≤ 
 unpack-digits n p k s h l =
     unpack-putBits s (subst (λ (i : ℕ). Row i (digitRow (take n p) k)) (length-take-le n p h) (row-digitRow (take n p) k))
     (omega (arith, bytes-enough n))
+
+-- bytes behind those of the bits keep their contents
+pub put-rest : (bs : List ℕ) (i : ℕ) (s : List ℕ) (k : ℕ) → i + length bs ≤ 8 * k → drop k (putBits bs i s) ≡ drop k s
+unfolding putBits setBit
+put-rest [] i s k h = refl
+put-rest (b ∷ bs) i s k h =
+    put-rest bs (suc i) (setBit s i b) k (omega arith) ∙ drop-set-lt k s (i / 8) (withBit (getD s (i / 8) 0) (i % 8) (b % 2)) (omega arith)
+
+-- what lies behind b bytes of a part from `at` on, where the part keeps it
+pub part-rest : (at b : ℕ) (w₀ w y : List ℕ) → at ≤ length w → drop at w ≡ drop at w₀ → drop b y ≡ drop b (drop at w)
+    → drop (at + b) (take at w ++ y) ≡ drop (at + b) w₀
+part-rest at b w₀ w y h rest kept =
+    sym (drop-drop b at (take at w ++ y))
+    ∙ ap (drop b) (drop-at (take at w) y at (length-take-le at w h))
+    ∙ kept
+    ∙ ap (drop b) rest
+    ∙ drop-drop b at w₀
 
 pub digitRows-none : (n : ℕ) (p w : List ℕ) → rowsOf 0 n w ≡ digitRows 0 p
 unfolding digitRows rowsOf from

@@ -4,13 +4,13 @@ mod rows;
 
 ghost use mathlib.Core.Path.{_≡_};
 ghost use mathlib.Core.Bool.{not};
-ghost use lib.ListN.{length};
+ghost use lib.ListN.{length, drop};
 ghost use Rattle.bits.specs.Bits.{over};
 ghost use Rattle.field.specs.Numbers.{firstOf};
 ghost use Rattle.key.specs.Keys.{unsound};
 ghost use Rattle.key.specs.Kept.{kept, parts};
 ghost use Rattle.code.specs.PublicKey.{publicKey, dependent, written};
-ghost use Rattle.code.specs.Publish.{publishChecks, publishNumber, publishOutput};
+ghost use Rattle.code.specs.Publish.{workBytes, freeBytes, publishNumber, publishOutput};
 ghost use Rattle.publishing.specs.Published.{publishedOf, sizeChecks};
 
 // What publish answers.
@@ -56,8 +56,10 @@ fn make<'a>(
     work: &mut [u8],
 ) -> bool
     requires { ⌜ (let k = kept (parts m n t (now support) (now g)) in firstOf (sizeChecks (unsound k) k (length (now out)) (length (now work))) ≡ 0) ⌝ }
-    ensures { λ r. ⌜ r ≡ not (dependent (kept (parts m n t (now (support .entry)) (now (g .entry))))) ⌝ }
-    ensures { λ _. ⌜ now (out .exit) ≡ over (written (publicKey (kept (parts m n t (now (support .entry)) (now (g .entry)))))) (now (out .entry)) ⌝ }
+    ensures answer { λ r. ⌜ r ≡ not (dependent (kept (parts m n t (now (support .entry)) (now (g .entry))))) ⌝ }
+    ensures output { λ _. ⌜ now (out .exit) ≡ over (written (publicKey (kept (parts m n t (now (support .entry)) (now (g .entry)))))) (now (out .entry)) ⌝ }
+    ensures rest { λ _. ⌜ (let k = kept (parts m n t (now (support .entry)) (now (g .entry))) in
+        drop (workBytes k) (now (work .exit)) ≡ drop (workBytes k) (now (work .entry))) ⌝ }
 {
     let places = n as usize;
     let errors = t as usize;
@@ -70,8 +72,8 @@ fn make<'a>(
     true
 }
 
-// The public key of a kept key, lent by its parts, from the start of out; bytes beyond keep their contents. Once the checks
-// before 23 have passed the contents of work are free.
+// The public key of a kept key, lent by its parts, from the start of out; bytes beyond keep their contents. Of work the first
+// m·t·ceil(n/8) bytes are free once the checks before 23 have passed; every other byte keeps its contents.
 pub fn publish<'a>(
     m: u8,
     n: u16,
@@ -81,10 +83,10 @@ pub fn publish<'a>(
     out: &mut [u8],
     work: &mut [u8],
 ) -> Published
-    ensures { λ r. ⌜ r ≡ publishedOf (publishNumber (kept (parts m n t (now (support .entry)) (now (g .entry)))) (now (out .entry)) (now (work .entry))) ⌝ }
-    ensures { λ _. ⌜ now (out .exit) ≡ publishOutput (kept (parts m n t (now (support .entry)) (now (g .entry)))) (now (out .entry)) (now (work .entry)) ⌝ }
-    ensures { λ _. ⌜ (let k = kept (parts m n t (now (support .entry)) (now (g .entry))) in
-        (firstOf (publishChecks (unsound k) k (now (out .entry)) (now (work .entry))) ≡ 0 → ⊥) → now (work .exit) ≡ now (work .entry)) ⌝ }
+    ensures answer { λ r. ⌜ r ≡ publishedOf (publishNumber (kept (parts m n t (now (support .entry)) (now (g .entry)))) (now (out .entry)) (now (work .entry))) ⌝ }
+    ensures output { λ _. ⌜ now (out .exit) ≡ publishOutput (kept (parts m n t (now (support .entry)) (now (g .entry)))) (now (out .entry)) (now (work .entry)) ⌝ }
+    ensures workspace { λ _. ⌜ (let f = freeBytes (kept (parts m n t (now (support .entry)) (now (g .entry)))) (now (out .entry)) (now (work .entry)) in
+        drop f (now (work .exit)) ≡ drop f (now (work .entry))) ⌝ }
 {
     let x = refusal(m, n, t, support, g, out.len(), work.len());
     if x != 0 {

@@ -2,7 +2,7 @@
 ghost use mathlib.Core.Path.{_≡_};
 ghost use mathlib.Core.Bool.{true};
 ghost use Prim.Native.Nat.{_*_, _≤_, _<_};
-ghost use lib.ListN.{length, take};
+ghost use lib.ListN.{length, take, drop};
 ghost use Rattle.bits.specs.Bits.{bytesFor, putBits};
 ghost use Rattle.field.specs.Field.{isWidth};
 ghost use Rattle.key.specs.Keys.{keyOf};
@@ -22,10 +22,11 @@ fn digit_row(row: &mut [u8], p: &[u16], n: usize, k: u8)
     }
 }
 
-// A row for each digit k below m.
+// A row for each digit k below m; what lies behind the rows stays, here and below.
 fn digit_rows(out: &mut [u8], p: &[u16], n: usize, m: u8)
     requires { ⌜ (n ≤ length (now p)) × (n ≤ 8192) × (m < 16) × (m * bytesFor n ≤ length (now out)) ⌝ }
-    ensures { λ _. ⌜ rowsOf m n (now (out .exit)) ≡ digitRows m (take n (now (p .entry))) ⌝ }
+    ensures rows { λ _. ⌜ rowsOf m n (now (out .exit)) ≡ digitRows m (take n (now (p .entry))) ⌝ }
+    ensures rest { λ _. ⌜ drop (m * bytesFor n) (now (out .exit)) ≡ drop (m * bytesFor n) (now (out .entry)) ⌝ }
 {
     let size = bits::bytes_for(n);
     let mut at = 0;
@@ -41,8 +42,10 @@ fn digit_rows(out: &mut [u8], p: &[u16], n: usize, m: u8)
 fn parity_rows(work: &mut [u8], m: u8, support: &[u16], g: &[u16])
     requires { ⌜ (isWidth m ≡ true) × (length (now support) ≤ 8192)
         × (m * length (now g) * bytesFor (length (now support)) ≤ length (now work)) ⌝ }
-    ensures { λ _. ⌜ rowsOf (m * length (now (g .entry))) (length (now (support .entry))) (now (work .exit))
+    ensures rows { λ _. ⌜ rowsOf (m * length (now (g .entry))) (length (now (support .entry))) (now (work .exit))
         ≡ parityRows (keyOf m (now (support .entry)) (now (g .entry))) ⌝ }
+    ensures rest { λ _. ⌜ drop (m * length (now (g .entry)) * bytesFor (length (now (support .entry)))) (now (work .exit))
+        ≡ drop (m * length (now (g .entry)) * bytesFor (length (now (support .entry)))) (now (work .entry)) ⌝ }
 {
     let n = support.len();
     let size = (m as usize) * bits::bytes_for(n);
@@ -68,7 +71,8 @@ pub fn key_rows<'a>(
     g: &'a [u16; 128],
 )
     requires { ⌜ (isWidth m ≡ true) × (n ≤ 8192) × (t ≤ 128) × (m * t * bytesFor n ≤ length (now work)) ⌝ }
-    ensures { λ _. ⌜ rowsOf (m * t) n (now (work .exit)) ≡ parityRows (keyOf m (take n (now (support .entry))) (take t (now (g .entry)))) ⌝ }
+    ensures rows { λ _. ⌜ rowsOf (m * t) n (now (work .exit)) ≡ parityRows (keyOf m (take n (now (support .entry))) (take t (now (g .entry)))) ⌝ }
+    ensures rest { λ _. ⌜ drop (m * t * bytesFor n) (now (work .exit)) ≡ drop (m * t * bytesFor n) (now (work .entry)) ⌝ }
 {
     let s = &support[..];
     let h = &g[..];

@@ -10,6 +10,7 @@ use Rattle.bits.specs.Bits.{bytesFor, over}
 use Rattle.key.specs.Kept.{kept, parts}
 use Rattle.key.proofs.Parts.{keyOf-kept}
 use Rattle.code.specs.Code.{parityRows}
+use Rattle.code.specs.Publish.{capsuleBits}
 use Rattle.code.specs.Lock.{rowsOf}
 use Rattle.publishing.proofs.Checks.{Sizes, sizes, checks-clear}
 use Rattle.publishing.proofs.Made.{dependent-made, nothing-written, independent-made, columns-written}
@@ -43,7 +44,7 @@ same-length : tie.Need-same-length
 same-length c = search needs
 
 returns : tie.Need-returns
-unfolding kept
+unfolding kept capsuleBits
 returns c =
     let b = c .before .before .before .before .before .before .before .before .before .before .before in
     let a = b .args in
@@ -55,9 +56,9 @@ returns c =
     let l : length w ≡ length (b .args .work .now) = q .kept .0 in
     let room : k .m * k .t * bytesFor (k .n) ≤ length w = omega (arith, f .2) in
     let rows : rowsOf (k .m * k .t) (k .n) w ≡ parityRows (kept k) =
-    q .ensures ∙ ap parityRows (keyOf-kept k (f .0)) in
+    q .ensures .0 ∙ ap parityRows (keyOf-kept k (f .0)) in
     let e = sym (c .before .before .before .eliminate .ensures .0) ∙ not-true _ (c .if1 .taken) in
-    (dependent-made (kept k) z w room rows e, nothing-written (kept k) z w room rows e (b .args .out .now))
+    (dependent-made (kept k) z w room rows e, (nothing-written (kept k) z w room rows e (b .args .out .now), c .before .before .before .eliminate .ensures .1 .1 .0 ∙ q .ensures .1))
 
 write-rows-requires : tie.Need-write-rows-requires
 unfolding kept
@@ -76,7 +77,7 @@ same-length-3 : tie.Need-same-length-3
 same-length-3 c = search needs
 
 returns-2 : tie.Need-returns-2
-unfolding kept
+unfolding kept capsuleBits
 returns-2 c =
     let b = c .before .before .before .before .before .before .before .before .before .before .before .before .before .before .before .before in
     let a = b .args in
@@ -88,12 +89,16 @@ returns-2 c =
     let l : length w ≡ length (b .args .work .now) = q .kept .0 in
     let room : k .m * k .t * bytesFor (k .n) ≤ length w = omega (arith, f .2) in
     let rows : rowsOf (k .m * k .t) (k .n) w ≡ parityRows (kept k) =
-    q .ensures ∙ ap parityRows (keyOf-kept k (f .0)) in
-    let e = sym (c .before .before .before .before .before .before .before .before .eliminate .ensures .0) ∙ not-false _ (c .before .before .before .before .before .if1 .left) in
-    let d = c .before .before .before .before .before .before .before .before .eliminate .ensures .1 .0 (not-false _ (c .before .before .before .before .before .if1 .left)) in (
+    q .ensures .0 ∙ ap parityRows (keyOf-kept k (f .0)) in
+    let el = c .before .before .before .before .before .before .before .before .eliminate in
+    let e = sym (el .ensures .0) ∙ not-false _ (c .before .before .before .before .before .if1 .left) in
+    let d = el .ensures .1 .0 (not-false _ (c .before .before .before .before .before .if1 .left)) in (
       independent-made (kept k) z w room rows e,
-      c .before .before .write-rows .ensures
-          ∙ ap (λ (t : List ℕ). over t (b .args .out .now)) (columns-written (kept k) z w room rows e (c .before .before .before .before .before .before .before .before .eliminate .last .0) d),
+      (
+        c .before .before .write-rows .ensures
+            ∙ ap (λ (t : List ℕ). over t (b .args .out .now)) (columns-written (kept k) z w room rows e (el .last .0) d),
+        el .ensures .1 .1 .0 ∙ q .ensures .1,
+      ),
     )
 
 pub make-spec : {M : Type 1} → statement M

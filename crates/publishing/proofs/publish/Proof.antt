@@ -2,10 +2,9 @@
 use mathlib.Core.Path.{refl, sym, ap, _∙_}
 use borrow.Author.Needs.{needs}
 use borrow.Author.Tests.{not-true, not-false}
-use Rattle.field.specs.Numbers.{firstOf}
 use Rattle.key.specs.Kept.{kept, parts}
 use Rattle.publishing.specs.Published.{publishedOf}
-use Rattle.publishing.proofs.Checks.{refused, checks-sizes, number-refused, output-refused, number-dependent, number-done, output-made}
+use Rattle.publishing.proofs.Checks.{refused, number-refused, output-refused, number-dependent, number-done, output-made, free-made}
 use Rattle.publishing.proofs.publish.Statement.{statement}
 use Rattle.publishing.proofs.publish.Tie as tie
 
@@ -20,7 +19,7 @@ returns c =
     let e = number-refused (kept k) (a .out .now) (a .work .now) (λ z. c .if1 .taken (r .ensures ∙ z)) in
     let x = r .ensures ∙ e in (
       refused (r .result) (c .if1 .taken) ∙ ap publishedOf x,
-      (output-refused (kept k) (a .out .now) (a .work .now) (λ z. c .if1 .taken (x ∙ z)), λ h. refl),
+      (output-refused (kept k) (a .out .now) (a .work .now) (λ z. c .if1 .taken (x ∙ z)), refl),
     )
 
 make-requires : tie.Need-make-requires
@@ -39,7 +38,7 @@ returns-2 c =
     let m = c .before .before .before .before .before .make in
     let clear = sym (c .before .before .before .before .before .before .before .before .before .refusal .ensures) ∙ c .before .before .before .before .before .before .before .before .if1 .left in (
       number-dependent (kept k) (a .out .now) (a .work .now) clear (sym (m .ensures .0) ∙ not-true _ (c .if2 .taken)),
-      (m .ensures .1 ∙ output-made (kept k) (a .out .now) (a .work .now) clear, λ h. absurd (h (ap firstOf (checks-sizes (kept k) (a .out .now) (a .work .now)) ∙ clear))),
+      (m .ensures .1 .0 ∙ output-made (kept k) (a .out .now) (a .work .now) clear, free-made (kept k) (a .out .now) (a .work .now) clear (m .last .1 .1 .1 .1 .1 .1 .0) (m .ensures .1 .1)),
     )
 
 same-length-3 : tie.Need-same-length-3
@@ -55,7 +54,7 @@ returns-3 c =
     let m = c .before .before .before .before .before .make in
     let clear = sym (c .before .before .before .before .before .before .before .before .before .refusal .ensures) ∙ c .before .before .before .before .before .before .before .before .if1 .left in (
       number-done (kept k) (a .out .now) (a .work .now) clear (sym (m .ensures .0) ∙ not-false _ (c .if2 .left)),
-      (m .ensures .1 ∙ output-made (kept k) (a .out .now) (a .work .now) clear, λ h. absurd (h (ap firstOf (checks-sizes (kept k) (a .out .now) (a .work .now)) ∙ clear))),
+      (m .ensures .1 .0 ∙ output-made (kept k) (a .out .now) (a .work .now) clear, free-made (kept k) (a .out .now) (a .work .now) clear (m .last .1 .1 .1 .1 .1 .1 .0) (m .ensures .1 .1)),
     )
 
 pub publish-spec : {M : Type 1} → statement M

@@ -3,8 +3,9 @@ use mathlib.Core.Path.{_≡_, sym, ap₂, _∙_}
 use Prim.Native.Nat.{ℕ, _*_}
 use native.Mathlib.Omega.{arith}
 use borrow.Author.Needs.{needs}
-use lib.ListN.{length}
+use lib.ListN.{length, drop}
 use lib.Seq.{length-take-le}
+use Rattle.bits.specs.Bits.{bytesFor}
 use Rattle.code.specs.Lock.{rowsOf}
 use Rattle.publishing.proofs.parity.key_rows.Statement.{statement}
 use Rattle.publishing.proofs.parity.key_rows.Tie as tie
@@ -41,7 +42,12 @@ returns c =
     let lg : length (a .g .now) ≡ 128 = search needs in
     let s = length-take-le (a .n) (a .support .now) (omega arith) in
     let g = length-take-le (a .t) (a .g .now) (omega arith) in
-    ap₂ (λ (t n : ℕ). rowsOf (a .m * t) n (c .before .before .parity-rows .last .0)) (sym g) (sym s) ∙ c .before .before .parity-rows .ensures
+    let q = c .before .before .parity-rows in (
+      ap₂ (λ (t n : ℕ). rowsOf (a .m * t) n (q .last .0)) (sym g) (sym s) ∙ q .ensures .0,
+      ap₂ (λ (t n : ℕ). drop (a .m * t * bytesFor n) (q .last .0)) (sym g) (sym s)
+          ∙ q .ensures .1
+          ∙ ap₂ (λ (t n : ℕ). drop (a .m * t * bytesFor n) (a .work .now)) g s,
+    )
 
 pub key-rows-spec : {M : Type 1} → statement M
 key-rows-spec =

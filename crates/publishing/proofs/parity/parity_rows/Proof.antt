@@ -1,11 +1,12 @@
--- The loop's invariant: the rows of the powers below s are written, and p has α^s / g(α) at the support's places. Assumes nothing.
-use mathlib.Core.Path.{_≡_, refl, sym, ap, ap₂, _∙_}
+-- The loop's invariant: the rows of the powers below s are written, what follows is as it was, and p has α^s / g(α) at
+-- the support's places. Assumes nothing.
+use mathlib.Core.Path.{_≡_, refl, sym, ap, ap₂, _∙_, subst}
 use mathlib.Core.List.{List, _++_, map}
-use Prim.Native.Nat.{ℕ, _-_, _*_, _≤_}
+use Prim.Native.Nat.{ℕ, _+_, _-_, _*_, _≤_}
 use native.Mathlib.Nat.{zero-mul, mul-comm, mul-le-mul}
 use native.Mathlib.Omega.{arith}
-use borrow.Rule.Slice.PartMut.{same-len-mid}
-use lib.ListN.{length, take, length-drop}
+use borrow.Rule.Slice.PartMut.{putMid, same-len-mid}
+use lib.ListN.{length, take, drop, length-drop}
 use lib.Seq.{length-take-le}
 use Rattle.bits.specs.Bits.{from, bytesFor}
 use Rattle.bits.proofs.Parts.{next-row, row-size, part-all}
@@ -21,7 +22,7 @@ use Rattle.code.specs.Code.{entry, parityRow}
 use Rattle.code.specs.Lock.{rowsOf}
 use Rattle.elimination.proofs.Flat.{part-back}
 use Rattle.publishing.specs.Rows.{digitRows}
-use Rattle.publishing.proofs.DigitRows.{rows-placed, group-next, group-in}
+use Rattle.publishing.proofs.DigitRows.{part-rest, rows-placed, group-next, group-in}
 use Rattle.publishing.proofs.Entries.{entries-start, entries-next, parity-none, parity-next, parity-all}
 use Rattle.publishing.proofs.parity.parity_rows.Statement.{statement}
 use Rattle.publishing.proofs.parity.parity_rows.Tie as tie
@@ -31,6 +32,7 @@ Inv-loop work₀ m support g n size p₀ at₀ s₀ work p at s =
     (s ≤ length g) × (at ≡ s * m * bytesFor (length support)) × (length work ≡ length work₀) × (length p ≡ 8192)
     × (take (length support) p ≡ map (entry (keyOf m support g) s) support)
     × (rowsOf (s * m) (length support) work ≡ map (parityRow (keyOf m support g)) (from 0 (s * m)))
+    × (drop at work ≡ drop at work₀)
 
 abbrev μ-loop : tie.MeasureT-loop
 μ-loop work₀ m support g n size p₀ at₀ s₀ work p at s = length g - s
@@ -75,6 +77,7 @@ loop-holds c =
       ap length e ∙ length-ofEach (a .m) (inv (a .m)) _,
       ap (take (length (a .support .now))) e ∙ entries-start (a .m) (b .pre .0) (a .support .now) (a .g .now) (b .pre .1),
       parity-none (a .m) (b .pre .0) (a .support .now) (a .g .now) (a .work .now),
+      refl,
     )
 
 sub-digit-rows : tie.Need-sub-digit-rows Inv-loop μ-loop
@@ -149,9 +152,14 @@ loop-again c =
       ap (take n) (h .ensures) ∙ entries-next (a .m) (b .pre .0) (a .support .now) (a .g .now) (l .s) (l .p) (l .inv .4),
       ap₂ (λ (k : ℕ) (w : List ℕ). rowsOf k n w) (sym (next-row (l .s) (a .m))) (part-back (l .at) (l .work) (q .last .0))
           ∙ rows-placed (l .s * a .m) (a .m) n (l .at) (l .work) (q .last .0) (l .inv .1) (omega arith)
-          ∙ ap₂ (λ (x y : Matrix). x ++ y) (l .inv .5) (q .ensures ∙ ap (digitRows (a .m)) (l .inv .4))
+          ∙ ap₂ (λ (x y : Matrix). x ++ y) (l .inv .5) (q .ensures .0 ∙ ap (digitRows (a .m)) (l .inv .4))
           ∙ parity-next (a .m) (b .pre .0) (a .support .now) (a .g .now) (l .s)
           ∙ ap (λ (k : ℕ). map row (from 0 k)) (next-row (l .s) (a .m)),
+      ap (λ (i : ℕ). drop (l .at + i) (putMid (l .at) (length (l .work) - l .at) (l .work) (q .last .0))) size
+          ∙ ap (drop (l .at + a .m * bytesFor n)) (part-back (l .at) (l .work) (q .last .0))
+          ∙ part-rest (l .at) (a .m * bytesFor n) (a .work .now) (l .work) (q .last .0) (omega arith) (l .inv .6)
+          (q .ensures .1 ∙ ap (drop (a .m * bytesFor n)) (part-all (l .at) (l .work)))
+          ∙ ap (λ (i : ℕ). drop (l .at + i) (a .work .now)) (sym size),
     )
 
 same-length : tie.Need-same-length Inv-loop μ-loop
@@ -163,9 +171,12 @@ returns c =
     let b = c .before .before .before .before .before .before .before .before .before in
     let a = b .args in
     let e : l .s ≡ length (a .g .now) = omega arith in
-    ap (λ (k : ℕ). rowsOf k (length (a .support .now)) (l .work)) (mul-comm (a .m) (length (a .g .now)) ∙ ap (λ (s : ℕ). s * a .m) (sym e))
-    ∙ l .inv .5
-    ∙ parity-all (a .m) (b .pre .0) (a .support .now) (a .g .now) (l .s) e
+    let f : l .s * a .m ≡ a .m * length (a .g .now) = ap (λ (s : ℕ). s * a .m) e ∙ mul-comm (length (a .g .now)) (a .m) in (
+      ap (λ (k : ℕ). rowsOf k (length (a .support .now)) (l .work)) (sym f)
+          ∙ l .inv .5
+          ∙ parity-all (a .m) (b .pre .0) (a .support .now) (a .g .now) (l .s) e,
+      subst (λ (k : ℕ). drop k (l .work) ≡ drop k (a .work .now)) (l .inv .1 ∙ ap (λ (k : ℕ). k * bytesFor (length (a .support .now))) f) (l .inv .6),
+    )
 
 pub parity-rows-spec : {M : Type 1} → statement M
 parity-rows-spec =
