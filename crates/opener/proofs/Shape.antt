@@ -1,11 +1,11 @@
 -- A key of width 4: its test, and its limits as facts. Assumes nothing.
 use mathlib.Core.Path.{_≡_, refl, ap₂}
-use mathlib.Core.Bool.{Bool, true, false, true≢false, _&&_, _||_}
+use mathlib.Core.Bool.{true, false, _&&_, _||_}
 use Prim.Native.Nat.{_*_, _≤_, _<_}
 use borrow.Author.Tests.{eqb-true, eq-eqb, ne-eqb}
 use lib.Dec.{eqb}
 use Rattle.bits.proofs.Lists.{and-left, and-right}
-use Rattle.field.specs.Field.{isWidth}
+use Rattle.field.proofs.Table.{width-smallest}
 use Rattle.key.specs.Shapes.{inLimits}
 use Rattle.key.specs.Keys.{Key, keyNumber}
 use Rattle.key.proofs.Shapes.{Limits, limits, limits-test}
@@ -39,17 +39,11 @@ module _ (k : Key) where
   unfolding isFour
   four-limits h = rw (eq-eqb (k .m) 4 h) refl
 
-neither : (a b c : Bool) → (a || b || c) ≡ true → (b || c) ≡ false → a ≡ true
-neither true b c e f = refl
-neither false true c e f = absurd (true≢false f)
-neither false false true e f = absurd (true≢false f)
-neither false false false e f = e
-
 -- a key that load accepts and that is not too large
 pub accepted-four : (k : Key) → keyNumber k ≡ 0 → (eqb (k .m) 12 || eqb (k .m) 13) ≡ false → isFour k ≡ true
-unfolding isFour isWidth
+unfolding isFour
 accepted-four k good small =
     let a : Accepted k = accepted k good in
-    let e : eqb (k .m) 4 ≡ true = neither (eqb (k .m) 4) (eqb (k .m) 12) (eqb (k .m) 13) (a .width) small in
-    let l : Limits 4 (k .n) (k .t) = rw (eqb-true (k .m) 4 e) at (a .limits) in
-    ap₂ _&&_ e (limits-test 4 (k .n) (k .t) l)
+    let e : k .m ≡ 4 = width-smallest (k .m) (a .width) small in
+    let l : Limits 4 (k .n) (k .t) = rw e at (a .limits) in
+    ap₂ _&&_ (eq-eqb (k .m) 4 e) (limits-test 4 (k .n) (k .t) l)
