@@ -11,7 +11,6 @@ use Rattle.bits.specs.Bits.{Row, from, bytesFor, bitAt, unpack, pack, ones, wei
 use Rattle.bits.proofs.Lists.{map-from}
 use Rattle.bits.proofs.Pack.{length-unpack, unpack-add, well-formed-past}
 use Rattle.field.specs.Numbers.{firstOf}
-use Rattle.key.specs.Keys as Keys
 use Rattle.key.specs.Kept.{kept}
 use Rattle.key.specs.declared.kept.Key.{Key}
 use Rattle.key.proofs.Accepted.{Accepted, accepted}
