@@ -103,10 +103,17 @@ module _ (k : Key) (word : List ℕ) where
       unfolding decoded kept
       decoded-explained h = rw (wide, le-leb (k .n) 8192 few, le-leb (k .t) 128 h)
 
-  -- at a key that load accepts it is what reading finds
+  -- a key that load accepts has at most 8192 places
+  pub few-places : keyNumber (kept k) ≡ 0 → k .n ≤ 8192
+  unfolding kept
+  few-places z =
+      let A : Accepted (kept k) = accepted (kept k) z in
+      omega (arith, A .limits .fits, pow-mono (le-of-suc-le-suc (width-narrow (k .m) (A .width))))
+
+  -- and decoding finds what reading does
   pub decoded-reading : keyNumber (kept k) ≡ 0 → decoded (kept k) (unpack (k .n) word) ≡ reading (kept k) (unpack (k .n) word)
   unfolding kept
   decoded-reading z =
       let A : Accepted (kept k) = accepted (kept k) z in
-      decoded-explained (A .width) (omega (arith, A .limits .fits, pow-mono (le-of-suc-le-suc (width-narrow (k .m) (A .width))))) (A .limits .few)
+      decoded-explained (A .width) (few-places z) (A .limits .few)
       ∙ sym (reading-explained (kept k) A (row-unpack (k .n) word))

@@ -5,7 +5,7 @@ use native.Mathlib.Omega.{arith}
 use borrow.Author.Needs.{needs}
 use Rattle.field.proofs.Verdicts.{verdict-accepted, verdict-taken}
 use Rattle.key.specs.Kept.{kept, parts}
-use Rattle.decoding.proofs.Explained.{kept-sized}
+use Rattle.decoding.proofs.Explained.{few-places}
 use Rattle.reading.proofs.Refusals.{open-clear}
 use Rattle.reading.proofs.Answered.{reading-none, reading-some, open-refusal, open-none, open-other, open-some}
 use Rattle.reading.proofs.calls.open.Statement.{statement}
@@ -31,10 +31,7 @@ returns c =
     open-refusal (not (a .published)) k (a .capsule .now) (a .out .now) (t .0) (t .1)
 
 decode-requires : tie.Need-decode-requires
-decode-requires c κs =
-    let a = c .before .before .before .before .before .args in
-    let k = parts (a .m) (a .n) (a .t) (a .support .now) (a .g .now) in
-    open-clear (not (a .published)) (kept k) (a .capsule .now) (a .out .now) (verdict-accepted _ (c .before .before .check-capsule .ensures) (c .enum-told .given .1)) .0
+decode-requires c κs = tt
 
 counted-requires : tie.Need-counted-requires
 counted-requires c κs = tt
@@ -52,8 +49,10 @@ returns-2 c =
     let t = d .before in
     let a = t .before .before .before .before .before .args in
     let k = parts (a .m) (a .n) (a .t) (a .support .now) (a .g .now) in
-    open-none (not (a .published)) k (a .capsule .now) (a .out .now) (verdict-accepted _ (t .before .before .check-capsule .ensures) (t .enum-told .given .1))
-    (reading-none k (a .capsule .now) _ (d .decode .ensures) _ (n .counted .ensures) (c .enum-told3 .given .1))
+    let clear = verdict-accepted _ (t .before .before .check-capsule .ensures) (t .enum-told .given .1) in
+    let z = open-clear (not (a .published)) (kept k) (a .capsule .now) (a .out .now) clear .0 in
+    open-none (not (a .published)) k (a .capsule .now) (a .out .now) clear
+    (reading-none k (a .capsule .now) z _ (d .decode .ensures) _ (n .counted .ensures) (c .enum-told3 .given .1))
 
 returns-3 : tie.Need-returns-3
 returns-3 c =
@@ -63,8 +62,10 @@ returns-3 c =
     let t = d .before in
     let a = t .before .before .before .before .before .args in
     let k = parts (a .m) (a .n) (a .t) (a .support .now) (a .g .now) in
-    open-other (not (a .published)) k (a .capsule .now) (a .out .now) (verdict-accepted _ (t .before .before .check-capsule .ensures) (t .enum-told .given .1))
-    (reading-some k (a .capsule .now) _ (d .decode .ensures) _ (n .counted .ensures) (v .answer .given .1))
+    let clear = verdict-accepted _ (t .before .before .check-capsule .ensures) (t .enum-told .given .1) in
+    let z = open-clear (not (a .published)) (kept k) (a .capsule .now) (a .out .now) clear .0 in
+    open-other (not (a .published)) k (a .capsule .now) (a .out .now) clear
+    (reading-some k (a .capsule .now) z _ (d .decode .ensures) _ (n .counted .ensures) (v .answer .given .1))
     (λ q. omega arith)
 
 give-requires : tie.Need-give-requires
@@ -74,7 +75,7 @@ give-requires c κs =
     let a = t .before .before .before .before .before .args in
     let k = parts (a .m) (a .n) (a .t) (a .support .now) (a .g .now) in
     let r = open-clear (not (a .published)) (kept k) (a .capsule .now) (a .out .now) (verdict-accepted _ (t .before .before .check-capsule .ensures) (t .enum-told .given .1)) in
-    (kept-sized k (r .0) .0, r .2)
+    (few-places k (a .capsule .now) (r .0), r .2)
 
 same-length : tie.Need-same-length
 same-length c = search needs
@@ -87,8 +88,10 @@ returns-4 c =
     let t = d .before in
     let a = t .before .before .before .before .before .args in
     let k = parts (a .m) (a .n) (a .t) (a .support .now) (a .g .now) in
-    let s = open-some (not (a .published)) k (a .capsule .now) (a .out .now) (verdict-accepted _ (t .before .before .check-capsule .ensures) (t .enum-told .given .1))
-    (reading-some k (a .capsule .now) _ (d .decode .ensures) _ (n .counted .ensures) (v .answer .given .1))
+    let clear = verdict-accepted _ (t .before .before .check-capsule .ensures) (t .enum-told .given .1) in
+    let z = open-clear (not (a .published)) (kept k) (a .capsule .now) (a .out .now) clear .0 in
+    let s = open-some (not (a .published)) k (a .capsule .now) (a .out .now) clear
+    (reading-some k (a .capsule .now) z _ (d .decode .ensures) _ (n .counted .ensures) (v .answer .given .1))
     (omega (arith, c .before .before .before .before .if1 .left)) in
     (s .0, c .before .before .give .ensures ∙ s .1)
 

@@ -3,7 +3,7 @@ use mathlib.Core.Path.{_∙_}
 use borrow.Author.Needs.{needs}
 use Rattle.field.proofs.Verdicts.{verdict-accepted, verdict-taken}
 use Rattle.key.specs.Kept.{kept, parts}
-use Rattle.decoding.proofs.Explained.{kept-sized}
+use Rattle.decoding.proofs.Explained.{few-places}
 use Rattle.reading.proofs.Refusals.{read-clear}
 use Rattle.reading.proofs.Answered.{reading-none, refused-none, reading-some, read-refusal, read-none, read-some}
 use Rattle.reading.proofs.calls.read.Statement.{statement}
@@ -29,10 +29,7 @@ returns c =
     read-refusal k (a .word .now) (a .out .now) (t .0) (t .1)
 
 decode-requires : tie.Need-decode-requires
-decode-requires c κs =
-    let a = c .before .before .before .before .before .args in
-    let k = parts (a .m) (a .n) (a .t) (a .support .now) (a .g .now) in
-    read-clear (kept k) (a .word .now) (a .out .now) (verdict-accepted _ (c .before .before .check-word .ensures) (c .enum-told .given .1)) .0
+decode-requires c κs = tt
 
 counted-requires : tie.Need-counted-requires
 counted-requires c κs = tt
@@ -50,9 +47,11 @@ returns-2 c =
     let t = d .before in
     let a = t .before .before .before .before .before .args in
     let k = parts (a .m) (a .n) (a .t) (a .support .now) (a .g .now) in
-    let e = reading-none k (a .word .now) _ (d .decode .ensures) _ (n .counted .ensures) (c .enum-told3 .given .1) in
-    let r = read-none k (a .word .now) (a .out .now) (verdict-accepted _ (t .before .before .check-word .ensures) (t .enum-told .given .1)) e in
-    (refused-none k (a .word .now) _ (d .decode .ensures) _ (n .counted .ensures) e ∙ r .0, r .1)
+    let clear = verdict-accepted _ (t .before .before .check-word .ensures) (t .enum-told .given .1) in
+    let z = read-clear (kept k) (a .word .now) (a .out .now) clear .0 in
+    let e = reading-none k (a .word .now) z _ (d .decode .ensures) _ (n .counted .ensures) (c .enum-told3 .given .1) in
+    let r = read-none k (a .word .now) (a .out .now) clear e in
+    (refused-none k (a .word .now) z _ (d .decode .ensures) _ (n .counted .ensures) e ∙ r .0, r .1)
 
 give-requires : tie.Need-give-requires
 unfolding kept
@@ -61,7 +60,7 @@ give-requires c κs =
     let a = t .before .before .before .before .before .args in
     let k = parts (a .m) (a .n) (a .t) (a .support .now) (a .g .now) in
     let r = read-clear (kept k) (a .word .now) (a .out .now) (verdict-accepted _ (t .before .before .check-word .ensures) (t .enum-told .given .1)) in
-    (kept-sized k (r .0) .0, r .2)
+    (few-places k (a .word .now) (r .0), r .2)
 
 same-length : tie.Need-same-length
 same-length c = search needs
@@ -74,8 +73,10 @@ returns-3 c =
     let t = d .before in
     let a = t .before .before .before .before .before .args in
     let k = parts (a .m) (a .n) (a .t) (a .support .now) (a .g .now) in
-    let s = read-some k (a .word .now) (a .out .now) (verdict-accepted _ (t .before .before .check-word .ensures) (t .enum-told .given .1))
-    (reading-some k (a .word .now) _ (d .decode .ensures) _ (n .counted .ensures) (v .answer .given .1)) in
+    let clear = verdict-accepted _ (t .before .before .check-word .ensures) (t .enum-told .given .1) in
+    let z = read-clear (kept k) (a .word .now) (a .out .now) clear .0 in
+    let s = read-some k (a .word .now) (a .out .now) clear
+    (reading-some k (a .word .now) z _ (d .decode .ensures) _ (n .counted .ensures) (v .answer .given .1)) in
     (s .0, c .before .before .give .ensures ∙ s .1)
 
 pub read-spec : {M : Type 1} → statement M
