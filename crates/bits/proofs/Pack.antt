@@ -4,7 +4,7 @@ use mathlib.Core.Logic.{_≢_}
 use mathlib.Core.Bool.{true, _&&_}
 use mathlib.Core.List.{List, [], _∷_, _++_, map}
 use Prim.Native.Nat.{ℕ, zero, suc, _+_, _-_, _*_, _/_, _%_, _^_, _≤_, _<_}
-use native.Mathlib.Nat.{zero-add, suc-add, mod-lt, zero-lt-suc, div-one, zero-div, zero-mod, pow-suc, min-le-left, le-of-suc-le-suc, not-suc-le-zero}
+use native.Mathlib.Nat.{zero-add, suc-add, mod-lt, zero-lt-suc, div-one, zero-div, zero-mod, pow-suc, min-le-left, le-refl, le-of-suc-le-suc, not-suc-le-zero}
 use native.Mathlib.Decide.{ℕ-discrete, decLt}
 use native.Mathlib.Omega.{arith}
 use borrow.Author.Tests.{eqb-true, eq-eqb, ne-eqb}
@@ -12,9 +12,9 @@ use lib.Arith.{lt-one}
 use lib.Dec.{eqb}
 use lib.Pow.{pow-pos, shr-shr, shr-lt}
 use lib.ListN.{length, getD, take, drop, set, replicate, length-take, length-set, length-replicate, drop-of-length-le, List·getD-eq-default}
-use lib.Seq.{getD-take, getD-drop, getD-set-same, getD-set-other, ext-getD}
+use lib.Seq.{take-at, getD-take, getD-drop, getD-set-same, getD-set-other, ext-getD}
 use Rattle.bits.specs.Xor.{_⊕_}
-use Rattle.bits.specs.Bits.{Bytes, Row, end, off, on, from, every, bytesFor, bitAt, unpack, number, pack, setBit, fillerClear, wellFormed, eachWith, xorRow}
+use Rattle.bits.specs.Bits.{Bytes, Row, end, off, on, from, every, bytesFor, bitAt, unpack, number, pack, setBit, fillerClear, wellFormed, eachWith, xorRow, over}
 use Rattle.bits.proofs.Xor.{Digit, xor-self}
 use Rattle.bits.proofs.Xor as xor
 use Rattle.bits.proofs.Lists.{and-left, and-right, length-map-from, map-from-at, map-from-past, map-from, map-append, from-add, every-from-at, every-from-all, every-from, take-below, drop-below}
@@ -212,6 +212,15 @@ unpack-pack {n} {e} r =
     let l : length (unpack n (pack e)) ≡ n = length-unpack n (pack e) in
     ext-getD 0 (unpack n (pack e)) e (l ∙ sym (row-length r))
     (λ i h. unpack-at n (pack e) i 0 (rw l at h) ∙ bit-pack r i)
+
+-- a packed row that is written over an output begins it, and is read back from it
+module _ {n : ℕ} {e : List ℕ} (r : Row n e) (out : List ℕ) where
+  pub take-over : take (bytesFor n) (over (pack e) out) ≡ pack e
+  unfolding over
+  take-over = take-at (pack e) (drop (length (pack e)) out) (bytesFor n) (length-pack e ∙ ap bytesFor (row-length r))
+
+  pub unpack-over : unpack n (over (pack e) out) ≡ e
+  unpack-over = sym (unpack-take n (bytesFor n) (over (pack e) out) (le-refl (bytesFor n))) ∙ ap (unpack n) take-over ∙ unpack-pack r
 
 -- the filler: the bits from n to the end of the last byte
 pub clear-at : (n : ℕ) (s : List ℕ) → fillerClear n s ≡ true → (i : ℕ) → n ≤ i → i < 8 * bytesFor n → bitAt s i ≡ 0

@@ -1,23 +1,26 @@
 -- A public key written row after row is read back, and locking under it is [I|T]·e. Assumes nothing.
 use mathlib.Core.Path.{_≡_, refl, sym, ap, ap₂, _∙_}
-use mathlib.Core.Bool.{Bool, true, false, not, _&&_}
+use mathlib.Core.Bool.{Bool, true, false, not, cond, _&&_}
 use mathlib.Core.List.{List, [], _∷_, _++_, map, flatMap}
 use mathlib.Core.Option.{some}
 use Prim.Native.Nat.{ℕ, suc, _+_, _-_, _*_, _≤_}
 use native.Mathlib.Nat.{zero-mul, suc-mul, add-comm}
+use lib.Dec.{eqb}
 use lib.ListN.{length, take, drop, length-append}
 use lib.Seq.{take-at, drop-at, drop-drop}
-use borrow.Author.Tests.{eq-eqb, le-ltb}
-use Rattle.bits.specs.Bits.{Row, from, every, bytesFor, unpack, pack, weight, fillerClear, wellFormed}
-use Rattle.bits.proofs.Pack.{row-length, length-pack, unpack-pack, well-formed-length, well-formed-clear, well-formed-pack}
+use borrow.Author.Tests.{eq-eqb, eqb-true, le-ltb, not-false}
+use Rattle.bits.specs.Bits.{Row, from, every, bytesFor, unpack, pack, weight, fillerClear, wellFormed, over}
+use Rattle.bits.proofs.Lists.{and-right}
+use Rattle.bits.proofs.Pack.{row-length, length-pack, unpack-pack, well-formed, well-formed-length, well-formed-clear, well-formed-pack}
 use Rattle.field.specs.Numbers.{firstOf}
+use Rattle.field.proofs.Numbers.{first-clear}
 use Rattle.field.specs.Field.{isWidth}
 use Rattle.key.specs.Shapes.{inLimits}
 use Rattle.key.specs.Keys.{Key, keyNumber}
 use Rattle.key.proofs.Shapes.{limits-test}
 use Rattle.key.proofs.Accepted.{accepted}
 use Rattle.code.specs.PublicKey.{Matrix, publicKey}
-use Rattle.code.specs.Lock.{locked, rowOf, rowsOf, lockNumber, lock}
+use Rattle.code.specs.Lock.{locked, rowOf, rowsOf, lockNumber, lock, lockOutput}
 use Rattle.code.proofs.Kernel.{Rows, none, row}
 use Rattle.code.proofs.PublicKey.{public-length, public-rows}
 
@@ -75,6 +78,28 @@ accepts : (a b c d e f g h : Bool) → a ≡ true → b ≡ true → c ≡ true 
     → firstOf ((not a, 1) ∷ (not b, 3) ∷ (not (c && d), 8) ∷ (not (e && f), 9) ∷ (not g, 12) ∷ (h, 10) ∷ []) ≡ 0
 unfolding firstOf
 accepts a b c d e f g h p q r s t u v x = rw (p, q, r, s, t, u, v, x)
+
+-- What an accepted lock writes, and that its pattern is well-formed and has t ones.
+module _ (m n t : ℕ) (public pattern out : List ℕ) (e : lockNumber m n t public pattern out ≡ 0) where
+  pub output-written : lockOutput m n t public pattern out ≡ over (lock m n t public pattern) out
+  unfolding lockOutput
+  output-written = ap (λ (b : Bool). cond b (over (lock m n t public pattern) out) out) (eq-eqb (lockNumber m n t public pattern out) 0 e)
+
+  pub pattern-formed : (wellFormed n pattern ≡ true) × (weight n pattern ≡ t)
+  unfolding lockNumber
+  pattern-formed =
+      let sizes = eqb (length public) (m * t * bytesFor (n - m * t)) in
+      let fillers = every (λ r. fillerClear (n - m * t) (rowOf (n - m * t) public r)) (from 0 (m * t)) in
+      let c1 = first-clear _ 0 _ e in
+      let c3 = first-clear _ 2 _ (c1 .1) in
+      let c8 = first-clear (not (sizes && eqb (length pattern) (bytesFor n))) 7 _ (c3 .1) in
+      let c9 = first-clear (not (fillers && fillerClear n pattern)) 8 _ (c8 .1) in
+      let c12 = first-clear _ 11 _ (c9 .1) in (
+        well-formed n pattern
+            (eqb-true _ _ (and-right sizes (eqb (length pattern) (bytesFor n)) (not-false _ (c8 .0))))
+            (and-right fillers (fillerClear n pattern) (not-false _ (c9 .0))),
+        eqb-true _ _ (not-false _ (c12 .0)),
+      )
 
 -- Locking under the public key of an accepted key, as publish writes it.
 module _ (k : Key) (rows : Matrix) (good : keyNumber k ≡ 0) (public : publicKey k ≡ some rows) where

@@ -1,11 +1,11 @@
 -- Document 01, 'Code and public key': locking a pattern under a shape and a public key. Assumes nothing.
 use Prim.Native.Nat.{ℕ, _-_, _*_}
-use mathlib.Core.Bool.{not, _&&_}
+use mathlib.Core.Bool.{not, cond, _&&_}
 use mathlib.Core.List.{List, [], _∷_, map, zipWith}
 use lib.Dec.{eqb, ltb}
 use lib.ListN.{length, take, drop}
 use Rattle.bits.specs.Xor.{_⊕_}
-use Rattle.bits.specs.Bits.{from, every, bytesFor, unpack, pack, weight, fillerClear, dot}
+use Rattle.bits.specs.Bits.{from, every, bytesFor, unpack, pack, weight, fillerClear, over, dot}
 use Rattle.field.specs.Numbers.{firstOf}
 use Rattle.field.specs.Field.{isWidth}
 use Rattle.key.specs.Shapes.{inLimits}
@@ -37,3 +37,7 @@ lockNumber m n t public pattern out =
 -- the capsule of a pattern
 unfoldable pub lock : ℕ → ℕ → ℕ → List ℕ → List ℕ → List ℕ
 lock m n t public pattern = pack (locked (rowsOf (m * t) (n - m * t) public) (unpack n pattern))
+
+-- the output: the capsule from its start, where nothing is refused
+unfoldable pub lockOutput : ℕ → ℕ → ℕ → List ℕ → List ℕ → List ℕ → List ℕ
+lockOutput m n t public pattern out = cond (eqb (lockNumber m n t public pattern out) 0) (over (lock m n t public pattern) out) out

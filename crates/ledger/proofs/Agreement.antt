@@ -11,7 +11,7 @@ use Rattle.key.specs.Keys.{Key, keyNumber, unsound}
 use Rattle.code.specs.PublicKey.{Matrix, publicKey, dependent}
 use Rattle.code.specs.Publish as Publish
 use Rattle.decoder.specs.Calls as Calls
-use Rattle.ledger.specs.Station.{State, loaded, published, Station, fresh, Held, isEmpty, isUnpublished, heldBy, loadConditions, publishChecks, publishConditions, openConditions, readConditions, dropConditions}
+use Rattle.ledger.specs.Station.{State, loaded, published, Station, fresh, Held, isEmpty, isUnpublished, heldBy, loadConditions, publishConditions, openConditions, readConditions, dropConditions}
 use Rattle.ledger.specs.Calls.{Call, load, publish, open-capsule, read-word, drop-key, conditionsOf, step, run, answered}
 use Rattle.ledger.specs.Ledger.{Ledger, blank, heldIn, ledgerNumber, entered, ledgerAfter, expected}
 use Rattle.ledger.specs.Demands.{keyHeld}
@@ -39,7 +39,7 @@ unfolding heldBy unsound
 sound-held s k h = ap (λ (x : ℕ). record { missing = isEmpty s; unsound = not (eqb x 0); unpublished = isUnpublished s; key = k }) h
 
 pub agree-number : {s : Station} {l : Ledger} → Agree s l → (c : Call) → callNumber s c ≡ ledgerNumber l c
-unfolding heldBy heldIn ledgerNumber conditionsOf loadConditions publishChecks publishConditions openConditions readConditions dropConditions fresh blank isEmpty isUnpublished firstOf Publish.publishChecks Publish.publishConditions Calls.openConditions Calls.readConditions unsound
+unfolding heldBy heldIn ledgerNumber conditionsOf loadConditions publishConditions openConditions readConditions dropConditions fresh blank isEmpty isUnpublished firstOf Publish.publishChecks Publish.publishConditions Calls.openConditions Calls.readConditions unsound
 agree-number nothing (load file) = refl
 agree-number nothing (publish out work) = refl
 agree-number nothing (open-capsule capsule out) = refl
@@ -58,13 +58,13 @@ public-rows k h = go (publicKey k) refl h
     go (some rows) e h = (rows, e)
 
 accepted-rows : (k : Key) (mark : Bool) (out work : List ℕ) → ledgerNumber (ledgerOf (some k) mark) (publish out work) ≡ 0 → (rows : Matrix) × (publicKey k ≡ some rows)
-unfolding ledgerNumber heldIn conditionsOf publishChecks publishConditions Publish.publishChecks Publish.publishConditions
+unfolding ledgerNumber heldIn conditionsOf publishConditions Publish.publishChecks Publish.publishConditions
 accepted-rows k mark out work h =
     public-rows k (first-clear _ 22 _ (first-clear _ 10 _ (first-clear _ 9 _ (first-clear _ 24 _ (first-clear _ 20 _ h .1) .1) .1) .1) .0)
 
 -- they go on agreeing after an accepted call
 agree-accepted : {s : Station} {l : Ledger} → Agree s l → (c : Call) → ledgerNumber l c ≡ 0 → Agree (moved s c) (entered l c)
-unfolding moved entered ledgerNumber heldIn conditionsOf loadConditions publishChecks publishConditions openConditions readConditions dropConditions firstOf fresh blank Publish.publishChecks Publish.publishConditions Calls.openConditions Calls.readConditions
+unfolding moved entered ledgerNumber heldIn conditionsOf loadConditions publishConditions openConditions readConditions dropConditions firstOf fresh blank Publish.publishChecks Publish.publishConditions Calls.openConditions Calls.readConditions
 agree-accepted nothing (load file) e = held (accepted-key file e)
 agree-accepted nothing (publish out work) e = absurd (omega arith)
 agree-accepted nothing (open-capsule capsule out) e = nothing
@@ -89,13 +89,13 @@ agree-step {s} {l} a c = go (ledgerNumber l c) refl
     go zero e = rw (step-moves s c (step-number s c ∙ agree-number a c ∙ e), next-accepted l c e) (agree-accepted a c e)
     go (suc n) e = rw (step-stays s c n (step-number s c ∙ agree-number a c ∙ e), next-refused l c n e) a
 
-pub agree-run : {s : Station} {l : Ledger} → Agree s l → (calls : List Call) → Agree (run s calls) (ledgerAfter l calls)
+pub agree-run : {s : Station} {l : Ledger} → Agree s l → (calls : List Call) → Agree (run step s calls) (ledgerAfter l calls)
 unfolding run ledgerAfter
 agree-run a [] = a
 agree-run a (c ∷ cs) = agree-run (agree-step a c) cs
 
 -- each call was refused with its number, or accepted where it has none
-pub agree-numbers : {s : Station} {l : Ledger} → Agree s l → (calls : List Call) → answered s calls ≡ expected l calls
+pub agree-numbers : {s : Station} {l : Ledger} → Agree s l → (calls : List Call) → answered step s calls ≡ expected l calls
 unfolding answered expected
 agree-numbers a [] = refl
 agree-numbers {s} {l} a (c ∷ cs) = ap₂ _∷_ (step-number s c ∙ agree-number a c) (agree-numbers (agree-step a c) cs)

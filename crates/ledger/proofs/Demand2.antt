@@ -1,16 +1,16 @@
 -- Demand 2: publish writes T, and locking and opening undo each other. Assumes nothing.
 use Prim.Native.Nat.{ℕ, _≤_}
-use mathlib.Core.Path.{_≡_, sym, ap, _∙_}
-use mathlib.Core.Bool.{Bool, true, false}
+use mathlib.Core.Path.{_≡_, refl, sym, ap, _∙_, subst}
+use mathlib.Core.Bool.{Bool, true, false, cond}
 use mathlib.Core.List.{List, [], _∷_, flatMap}
 use mathlib.Core.Option.{Option, none, some}
 use native.Mathlib.Nat.{le-of-lt}
-use lib.Dec.{ltb}
+use lib.Dec.{eqb, ltb}
 use lib.ListN.{length, take, drop}
 use lib.Seq.{take-at}
 use borrow.Author.Tests.{not-false, eqb-true, ltb-false, le-ltb}
-use Rattle.bits.specs.Bits.{Bytes, Row, bytesFor, unpack, pack, weight, wellFormed, over}
-use Rattle.bits.proofs.Pack.{row-length, row-unpack, length-pack, unpack-pack, pack-unpack, well-formed, well-formed-pack}
+use Rattle.bits.specs.Bits.{Bytes, Row, bytesFor, unpack, pack, ones, weight, wellFormed, over}
+use Rattle.bits.proofs.Pack.{row-unpack, unpack-pack, take-over, pack-unpack, well-formed, well-formed-pack}
 use Rattle.bits.proofs.Ones.{weight-pack}
 use Rattle.field.specs.Numbers.{firstOf}
 use Rattle.field.proofs.Numbers.{first-clear}
@@ -20,20 +20,37 @@ use Rattle.code.specs.PublicKey.{Matrix, publicKey, dependent, written}
 use Rattle.code.specs.Lock.{locked}
 use Rattle.code.proofs.PublicKey.{row-capsule}
 use Rattle.code.proofs.LockLaws.{public-size, lock-written, lock-accepts}
-use Rattle.code.specs.Publish.{capsuleBits, publicBytes, workBytes}
+use Rattle.code.specs.Publish.{capsuleBits, publicBytes, workBytes, publishChecks, freeBytes}
 use Rattle.code.specs.Publish as Publish
 use Rattle.decoder.specs.Calls as Calls
-use Rattle.ledger.specs.Station.{State, published, Held, isEmpty, heldBy, publishChecks, publishConditions, openConditions, Result, publishOf}
+use Rattle.ledger.specs.Station.{State, empty, loaded, published, Station, Held, isEmpty, heldBy, publishConditions, openConditions, Result, publishOf}
 use Rattle.ledger.specs.Calls.{publish, open-capsule, conditionsOf, step}
-use Rattle.ledger.specs.Demands.{at, publishResult, openResult, patternOf, capsuleOf, lockAnswer, Demand2, Locks, Decides}
-use Rattle.ledger.proofs.StepLaws.{unless-accepted, step-number, publish-station}
+use Rattle.ledger.specs.Systems.{definitions}
+use Rattle.ledger.specs.Demands.{at, keyHeld, capsuleOf, lockAnswer, Demand2, Locks, Decides}
+use Rattle.ledger.proofs.StepLaws.{outcome, freed, unless-accepted, step-number, step-free, publish-station, publish-count, open-station}
 use Rattle.ledger.proofs.Agreement.{sound-held}
-use Rattle.ledger.proofs.Demand3.{open-decides}
+use Rattle.ledger.proofs.Demand3.{differ, open-decides}
 
--- what is written begins the output
-begins : {n : ℕ} {e : List ℕ} → Row n e → (out : List ℕ) → take (bytesFor n) (over (pack e) out) ≡ pack e
-unfolding over
-begins {n} {e} r out = take-at (pack e) (drop (length (pack e)) out) (bytesFor n) (length-pack e ∙ ap bytesFor (row-length r))
+-- what publish and open hand back, and the pattern that open wrote
+abbrev publishResult : State → Key → List ℕ → List ℕ → Result
+publishResult state k out work = step (at state k) (publish out work)
+
+abbrev openResult : Key → List ℕ → List ℕ → Result
+openResult k capsule out = step (at published k) (open-capsule capsule out)
+
+abbrev patternIn : Key → List ℕ → List ℕ → List ℕ
+patternIn k capsule out = take (bytesFor (k .n)) (openResult k capsule out .output)
+
+-- a station that holds the key k is loaded or published with it
+holding : (P : Station → Type 0) (st : State) (j k : Key) → keyHeld (at st j) ≡ some k → ((state : State) → isEmpty state ≡ false → P (at state k)) → P (at st j)
+unfolding keyHeld at isEmpty
+holding P empty j k h f = differ (cc)
+holding P loaded j k h f = let q : k ≡ j = cc in subst (λ (x : Key). P (at loaded x)) q (f loaded refl)
+holding P published j k h f = let q : k ≡ j = cc in subst (λ (x : Key). P (at published x)) q (f published refl)
+
+pub at-held : (P : Station → Type 0) (s : Station) (k : Key) → keyHeld s ≡ some k → ((state : State) → isEmpty state ≡ false → P (at state k)) → P s
+unfolding at
+at-held P s k h f = holding P (s .state) (s .key) k h f
 
 -- a capsule that is opened is well-formed, and the output has room for its pattern
 pub opened : (k : Key) (capsule out : List ℕ) → step (at published k) (open-capsule capsule out) .number ≡ 0
@@ -56,6 +73,10 @@ publish-first : (a b c d : Bool) → a ≡ false → b ≡ false → c ≡ false
 unfolding firstOf
 publish-first a b c d p q r s = rw (p, q, r, s)
 
+checks-first : (b c : Bool) → b ≡ false → c ≡ false → firstOf ((false, 25) ∷ (b, 10) ∷ (c, 11) ∷ []) ≡ 0
+unfolding firstOf
+checks-first b c q r = rw (q, r)
+
 -- a key with a public key has independent columns
 independent : (k : Key) {rows : Matrix} → publicKey k ≡ some rows → dependent k ≡ false
 unfolding dependent
@@ -69,7 +90,7 @@ module _ (k : Key) (rows : Matrix) (good : keyNumber k ≡ 0) (public : publicKe
 
   publish-accepted : (state : State) (out work : List ℕ) → isEmpty state ≡ false → publicBytes k ≤ length out → workBytes k ≤ length work
       → publishResult state k out work .number ≡ 0
-  unfolding at conditionsOf publishConditions publishChecks Publish.publishChecks Publish.publishConditions
+  unfolding at conditionsOf publishConditions publishChecks Publish.publishConditions
   publish-accepted state out work h long room =
       step-number (at state k) (publish out work)
       ∙ ap (λ (x : Held). firstOf (publishConditions x out work)) (sound-held state k good)
@@ -83,13 +104,23 @@ module _ (k : Key) (rows : Matrix) (good : keyNumber k ≡ 0) (public : publicKe
       ap (λ (r : Result). r .output) (unless-accepted (at state k) out _ _ (sym (step-number (at state k) (publish out work)) ∙ e))
       ∙ ap (λ (o : Option Matrix). over (written o) out) public
 
+  publish-frees : (state : State) (out work : List ℕ) → isEmpty state ≡ false → publicBytes k ≤ length out → workBytes k ≤ length work
+      → publishResult state k out work .free ≡ workBytes k
+  unfolding at heldBy freed freeBytes publishChecks
+  publish-frees state out work h long room =
+      step-free (at state k) (publish out work)
+      ∙ ap (λ (b : Bool). cond b 0 (freeBytes k out work)) h
+      ∙ ap (λ (b : Bool). cond (eqb (firstOf (publishChecks b k out work)) 0) (workBytes k) 0) (ap (λ (x : Held). x .unsound) (sound-held state k good))
+      ∙ ap (λ (n : ℕ). cond (eqb n 0) (workBytes k) 0)
+      (checks-first (ltb (length out) (publicBytes k)) (ltb (length work) (workBytes k)) (le-ltb _ _ long) (le-ltb _ _ room))
+
   publishes : (state : State) (out work : List ℕ) → isEmpty state ≡ false → publicBytes k ≤ length out → workBytes k ≤ length work
-      → (publishResult state k out work .number ≡ 0) × (publishResult state k out work .station ≡ at published k)
-      × (publishResult state k out work .output ≡ over (flatMap pack rows) out)
+      → publishResult state k out work ≡ record { station = at published k; number = 0; output = over (flatMap pack rows) out; count = 0; free = workBytes k }
   unfolding at
   publishes state out work h long room =
       let zero = publish-accepted state out work h long room in
-      (zero, publish-station (at state k) out work zero, publish-output state out work zero)
+      outcome (publish-station (at state k) out work zero) zero (publish-output state out work zero) (publish-count (at state k) out work)
+      (publish-frees state out work h long room)
 
   -- the public key begins what publish wrote
   public-begins : (state : State) (out work : List ℕ) → publishResult state k out work .number ≡ 0
@@ -112,34 +143,38 @@ module _ (k : Key) (rows : Matrix) (good : keyNumber k ≡ 0) (public : publicKe
 
   locked-opened : (pattern out : List ℕ) → Bytes pattern → wellFormed (k .n) pattern ≡ true → weight (k .n) pattern ≡ k .t
       → bytesFor (k .n) ≤ length out
-      → (openResult k (capsuleOf k rows pattern) out .number ≡ 0) × (openResult k (capsuleOf k rows pattern) out .output ≡ over pattern out)
-  unfolding weight
+      → openResult k (capsuleOf k rows pattern) out ≡ record { station = at published k; number = 0; output = over pattern out; count = k .t; free = 0 }
+  unfolding weight freed
   locked-opened pattern out bytes formed count long =
       let e : List ℕ = unpack (k .n) pattern in
       let r : Row (k .n) e = row-unpack (k .n) pattern in
       let s : Row (capsuleBits k) (locked rows e) = capsule-row r in
-      let locks : Locks k rows (pack (locked rows e)) e = record { row = r; weight = count; same = sym (unpack-pack s) } in
-      let d = opens (pack (locked rows e)) out (well-formed-pack s) long in
+      let capsule : List ℕ = pack (locked rows e) in
+      let locks : Locks k rows capsule e = record { row = r; weight = count; same = sym (unpack-pack s) } in
+      let d = opens capsule out (well-formed-pack s) long in
       let zero = d .only (λ z. d .refuses .0 z e locks) in
       let w = d .writes zero in
-      let same : pack (w .0) ≡ pattern = ap pack (sym (w .4 e locks)) ∙ pack-unpack (k .n) pattern bytes formed in
-      rw (lock-written k rows good public pattern) (zero, w .2 ∙ ap (λ (b : List ℕ). over b out) same)
+      let same : e ≡ w .0 = w .4 e locks in
+      let wrote : pack (w .0) ≡ pattern = ap pack (sym same) ∙ pack-unpack (k .n) pattern bytes formed in
+      rw (lock-written k rows good public pattern)
+      (outcome (open-station (at published k) capsule out) zero (w .2 ∙ ap (λ (b : List ℕ). over b out) wrote) (w .3 ∙ ap ones (sym same) ∙ count)
+      (step-free (at published k) (open-capsule capsule out)))
 
   -- the pattern that open wrote, packed
   record Found (capsule out : List ℕ) : Type 0 where
     e : List ℕ
     locks : Locks k rows capsule e
-    wrote : patternOf k capsule out ≡ pack e
+    wrote : patternIn k capsule out ≡ pack e
 
   finds : (capsule out : List ℕ) → openResult k capsule out .number ≡ 0 → Found capsule out
   finds capsule out zero =
       let o = opened k capsule out zero in
       let w = opens capsule out (o .0) (o .1) .writes zero in
       let l : Locks k rows capsule (w .0) = w .1 in
-      record { e = w .0; locks = l; wrote = ap (take (bytesFor (k .n))) (w .2) ∙ begins (l .row) out }
+      record { e = w .0; locks = l; wrote = ap (take (bytesFor (k .n))) (w .2) ∙ take-over (l .row) out }
 
   opened-locks : (capsule out buffer : List ℕ) → openResult k capsule out .number ≡ 0
-      → bytesFor (capsuleBits k) ≤ length buffer → lockAnswer k rows (patternOf k capsule out) buffer ≡ 0
+      → bytesFor (capsuleBits k) ≤ length buffer → lockAnswer k rows (patternIn k capsule out) buffer ≡ 0
   opened-locks capsule out buffer zero room =
       let f = finds capsule out zero in
       let r : Row (k .n) (f .e) = f .locks .row in
@@ -147,7 +182,7 @@ module _ (k : Key) (rows : Matrix) (good : keyNumber k ≡ 0) (public : publicKe
       ∙ locks (pack (f .e)) buffer (well-formed-pack r) (weight-pack r ∙ f .locks .weight) room
 
   opened-locked : (capsule out : List ℕ) → Bytes capsule → openResult k capsule out .number ≡ 0
-      → capsuleOf k rows (patternOf k capsule out) ≡ capsule
+      → capsuleOf k rows (patternIn k capsule out) ≡ capsule
   opened-locked capsule out bytes zero =
       let f = finds capsule out zero in
       ap (λ (b : List ℕ). capsuleOf k rows b) (f .wrote)
@@ -156,13 +191,18 @@ module _ (k : Key) (rows : Matrix) (good : keyNumber k ≡ 0) (public : publicKe
       ∙ ap pack (f .locks .same)
       ∙ pack-unpack (capsuleBits k) capsule bytes (opened k capsule out zero .0)
 
-pub demand-2 : Demand2
+pub demand-2 : Demand2 definitions
+unfolding at
 demand-2 k rows good public =
     record {
-      publishes = publishes k rows good public;
-      public = public-begins k rows good public;
+      publishes = λ s out work h long room. at-held (λ (x : Station). step x (publish out work) ≡ record { station = record { state = published; key = x .key }; number = 0; output = over (flatMap pack rows) out; count = 0; free = workBytes k }) s k h
+          (λ state e. publishes k rows good public state out work e long room);
+      marks = λ s h. at-held (λ (x : Station). at published (x .key) ≡ at published k) s k h (λ state e. refl);
+      public = λ s out work h. at-held (λ (x : Station). step x (publish out work) .number ≡ 0 → take (publicBytes k) (step x (publish out work) .output) ≡ flatMap pack rows) s k h
+          (λ state e. public-begins k rows good public state out work);
       locks = locks k rows good public;
-      locked-opened = locked-opened k rows good public;
-      opened-locks = opened-locks k rows good public;
-      opened-locked = opened-locked k rows good public;
+      locked-opened = λ s pattern out p bytes formed count long.
+          rw p (locked-opened k rows good public pattern out bytes formed count long);
+      opened-locks = λ s capsule out buffer p. rw p (opened-locks k rows good public capsule out buffer);
+      opened-locked = λ s capsule out p bytes. rw p (opened-locked k rows good public capsule out bytes);
     }

@@ -20,12 +20,13 @@ use Rattle.decoder.specs.Calls as Calls
 use Rattle.ledger.specs.Station.{State, loaded, published, Station, Held, isEmpty, isUnpublished, openConditions, readConditions, Result, unless, gives, openOf, readOf}
 use Rattle.ledger.specs.Calls.{open-capsule, read-word, step}
 use Rattle.ledger.specs.Ledger.{Ledger, blank}
+use Rattle.ledger.specs.Systems.{definitions}
 use Rattle.ledger.specs.Demands.{Locks, Differs, Decides, AfterEveryList}
 use Rattle.ledger.proofs.Agreement.{stationOf, Agree, nothing, held, marked, sound-held, agree-run, agree-numbers, agree-key}
 use Rattle.ledger.proofs.Patterns.{reading-sound, reading-complete, opening-sound, opening-complete, one-reading, one-opening}
 
 -- 0 and 1 are different
-differ : {A : Type 0} → _≡_ {A = ℕ} 0 1 → A
+pub differ : {A : Type 0} → _≡_ {A = ℕ} 0 1 → A
 differ e = absurd (omega arith)
 
 -- An answer that gives what a search found, unless it found none, decides.
@@ -115,7 +116,7 @@ opening-after (held h) k e m = differ (cc)
 opening-after (marked {k = j} {rows = rows} h p) k e m =
     let q : j ≡ k = cc in subst (λ (x : Key). OpensAll (stationOf published j) x) q (rows, p, open-decides j h rows p)
 
-pub after-every-list : AfterEveryList
+pub after-every-list : AfterEveryList definitions
 after-every-list calls =
     let a = agree-run nothing calls in
     record { key = agree-key a; numbers = agree-numbers nothing calls; opening = opening-after a; reading = reading-after a }

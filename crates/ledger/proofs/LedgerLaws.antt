@@ -5,8 +5,8 @@ use mathlib.Core.Bool.{true, false}
 use mathlib.Core.List.{List, [], _∷_, _++_}
 use mathlib.Core.Option.{some}
 use Rattle.key.specs.Keys.{parse}
-use Rattle.ledger.specs.Station.{Station}
-use Rattle.ledger.specs.Calls.{Call, load, publish, open-capsule, read-word, drop-key, step, run, answered}
+use Rattle.ledger.specs.Station.{Outcome}
+use Rattle.ledger.specs.Calls.{Call, load, publish, open-capsule, read-word, drop-key, run, answered}
 use Rattle.ledger.specs.Ledger.{Ledger, blank, ledgerNumber, entered, fed, ledgerAfter, expected}
 
 -- the ledger after one call
@@ -57,15 +57,16 @@ unfolding ledgerAfter
 ledger-append l [] ds = refl
 ledger-append l (c ∷ cs) ds = ledger-append _ cs ds
 
-pub run-append : (s : Station) (cs ds : List Call) → run s (cs ++ ds) ≡ run (run s cs) ds
+pub run-append : {S C : Type 0} (call : S → C → Outcome S) (s : S) (cs ds : List C) → run call s (cs ++ ds) ≡ run call (run call s cs) ds
 unfolding run
-run-append s [] ds = refl
-run-append s (c ∷ cs) ds = run-append _ cs ds
+run-append call s [] ds = refl
+run-append call s (c ∷ cs) ds = run-append call _ cs ds
 
-pub answered-append : (s : Station) (cs ds : List Call) → answered s (cs ++ ds) ≡ answered s cs ++ answered (run s cs) ds
+pub answered-append : {S C : Type 0} (call : S → C → Outcome S) (s : S) (cs ds : List C)
+    → answered call s (cs ++ ds) ≡ answered call s cs ++ answered call (run call s cs) ds
 unfolding answered run
-answered-append s [] ds = refl
-answered-append s (c ∷ cs) ds = ap (_∷_ (step s c .number)) (answered-append (step s c .station) cs ds)
+answered-append call s [] ds = refl
+answered-append call s (c ∷ cs) ds = ap (_∷_ (call s c .number)) (answered-append call (call s c .station) cs ds)
 
 pub expected-append : (l : Ledger) (cs ds : List Call) → expected l (cs ++ ds) ≡ expected l cs ++ expected (ledgerAfter l cs) ds
 unfolding expected ledgerAfter
@@ -77,6 +78,6 @@ pub ledger-last : (l : Ledger) (cs : List Call) (c : Call) → ledgerAfter l (cs
 unfolding ledgerAfter
 ledger-last l cs c = ledger-append l cs (c ∷ [])
 
-pub run-last : (s : Station) (cs : List Call) (c : Call) → run s (cs ++ (c ∷ [])) ≡ step (run s cs) c .station
+pub run-last : {S C : Type 0} (call : S → C → Outcome S) (s : S) (cs : List C) (c : C) → run call s (cs ++ (c ∷ [])) ≡ call (run call s cs) c .station
 unfolding run
-run-last s cs c = run-append s cs (c ∷ [])
+run-last call s cs c = run-append call s cs (c ∷ [])

@@ -6,3 +6,4 @@ pub mod Agreement
 pub mod Patterns
 pub mod Demand3
 pub mod Demand2
+pub mod Simulation

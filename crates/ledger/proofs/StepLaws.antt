@@ -1,14 +1,19 @@
 -- What a call hands back: its number, and the station, output and workspace with and without a number. Assumes nothing.
 use Prim.Native.Nat.{ℕ, zero, suc}
 use mathlib.Core.Path.{_≡_, refl, sym, ap, _∙_}
-use mathlib.Core.Bool.{Bool, false}
+use mathlib.Core.Bool.{cond}
 use mathlib.Core.List.{List}
-use lib.Dec.{eqb}
 use Rattle.field.specs.Numbers.{firstOf}
 use Rattle.key.specs.Keys.{parse}
-use Rattle.ledger.specs.Station.{loaded, published, Station, fresh, heldBy, publishChecks, Result, unless, loadOf, publishOf, gives, openOf, readOf, dropOf}
+use Rattle.code.specs.Publish.{freeBytes}
+use Rattle.ledger.specs.Station.{loaded, published, Station, fresh, isEmpty, heldBy, publishConditions, Outcome, Result, unless, loadOf, publishOf, gives, openOf, readOf, dropOf}
 use Rattle.ledger.specs.Calls.{Call, load, publish, open-capsule, read-word, drop-key, conditionsOf, step}
 use Rattle.ledger.specs.Demands.{outputOf}
+
+-- what is handed back, part by part
+pub outcome : {S : Type 0} {s t : S} {n k w v f g : ℕ} {o p : List ℕ} → s ≡ t → n ≡ k → o ≡ p → w ≡ v → f ≡ g
+    → _≡_ {A = Outcome S} (record { station = s; number = n; output = o; count = w; free = f }) (record { station = t; number = k; output = p; count = v; free = g })
+outcome a b c d e = rw (a, b, c, d, e)
 
 module _ (s : Station) (out : List ℕ) (r : Result) where
   pub unless-accepted : (n : ℕ) → n ≡ 0 → unless n s out r ≡ r
@@ -24,6 +29,11 @@ module _ (s : Station) (out : List ℕ) (r : Result) where
   unless-number zero z = z
   unless-number (suc n) z = refl
 
+  unless-count : (n : ℕ) → r .count ≡ 0 → unless n s out r .count ≡ 0
+  unfolding unless
+  unless-count zero z = z
+  unless-count (suc n) z = refl
+
   pub unless-free : (n : ℕ) → unless n s out r .free ≡ r .free
   unfolding unless
   unless-free zero = refl
@@ -37,13 +47,13 @@ moved s (open-capsule capsule out) = s
 moved s (read-word word out) = s
 moved s drop-key = fresh
 
--- whether the workspace's contents are free: only publish has one, and 21, 25, 10 and 11 must have passed
-unfoldable pub freed : Station → Call → Bool
-freed s (load file) = false
-freed s (publish out work) = eqb (firstOf (publishChecks (heldBy s) out work)) 0
-freed s (open-capsule capsule out) = false
-freed s (read-word word out) = false
-freed s drop-key = false
+-- the bytes of the workspace whose contents are free: only publish has one
+unfoldable pub freed : Station → Call → ℕ
+freed s (load file) = 0
+freed s (publish out work) = cond (isEmpty (s .state)) 0 (freeBytes (s .key) out work)
+freed s (open-capsule capsule out) = 0
+freed s (read-word word out) = 0
+freed s drop-key = 0
 
 -- a call's number is the first of its conditions that holds
 abbrev pub callNumber : Station → Call → ℕ
@@ -122,3 +132,8 @@ open-station s capsule out = still s (open-capsule capsule out) refl
 pub read-station : (s : Station) (word out : List ℕ) → step s (read-word word out) .station ≡ s
 unfolding moved
 read-station s word out = still s (read-word word out) refl
+
+-- publish writes no pattern
+pub publish-count : (s : Station) (out work : List ℕ) → step s (publish out work) .count ≡ 0
+unfolding step publishOf
+publish-count s out work = unless-count s out _ (firstOf (publishConditions (heldBy s) out work)) refl

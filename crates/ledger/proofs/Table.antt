@@ -1,8 +1,8 @@
--- Tables of what is asked and its outcome, proved by computation from the definitions: document 01's rows P1 to P13, its facts
+-- Tables of what is asked and its answer, proved by computation from the definitions: document 01's rows P1 to P13, its facts
 -- by running, the orders of the numbers, and a list of calls. Assumes nothing.
 use Prim.Native.Nat.{ℕ, zero, suc}
 use mathlib.Core.Path.{_≡_, refl}
-use mathlib.Core.Bool.{Bool, true, false}
+use mathlib.Core.Bool.{true}
 use mathlib.Core.List.{List, [], _∷_, _++_, map, flatMap, zipWith}
 use mathlib.Core.Option.{some}
 use lib.ListN.{replicate}
@@ -24,11 +24,11 @@ use Rattle.code.specs.Publish.{capsuleBits}
 use Rattle.code.specs.Publish as Publish
 use Rattle.decoder.specs.Calls.{found, isNone}
 use Rattle.decoder.specs.Calls as Calls
-use Rattle.ledger.specs.Station.{State, empty, loaded, published, Station, noKey, fresh, isEmpty, isUnpublished, heldBy, loadConditions, publishChecks, publishConditions, openConditions, readConditions, dropConditions, Result, unless, loadOf, publishOf, gives, openOf, readOf, dropOf}
+use Rattle.ledger.specs.Station.{State, empty, loaded, published, Station, emptyKey, fresh, isEmpty, isUnpublished, heldBy, loadConditions, publishConditions, openConditions, readConditions, dropConditions, Result, unless, loadOf, publishOf, gives, openOf, readOf, dropOf}
 use Rattle.ledger.specs.Calls.{Call, load, publish, open-capsule, read-word, drop-key, conditionsOf, step, run}
 use Rattle.ledger.specs.Ledger.{blank, heldIn, ledgerNumber, entered, fed, ledgerAfter, expected}
 
--- what a row asks: a call after a list of calls, or on a station; whether that call frees its workspace; a lock under a
+-- what a row asks: a call after a list of calls, or on a station; how many bytes of the workspace that call frees; a lock under a
 -- shape and a public key, or under the public key of a key file; a product
 pub data Asked : Type 0 where
   after : List Call → Call → Asked
@@ -38,33 +38,33 @@ pub data Asked : Type 0 where
   locks : List ℕ → List ℕ → List ℕ → Asked
   times : ℕ → ℕ → ℕ → Asked
 
--- its outcome: accepted, with the output buffer and the number of ones; refused by a number; free or not; an element
-pub data Outcome : Type 0 where
-  accepted : List ℕ → ℕ → Outcome
-  refused : ℕ → Outcome
-  free : Bool → Outcome
-  element : ℕ → Outcome
+-- its answer: accepted, with the output buffer and the number of ones; refused by a number; free bytes; an element
+pub data Answer : Type 0 where
+  accepted : List ℕ → ℕ → Answer
+  refused : ℕ → Answer
+  free : ℕ → Answer
+  element : ℕ → Answer
 
-unfoldable pub outcome : ℕ → List ℕ → ℕ → Outcome
-outcome zero out count = accepted out count
-outcome (suc n) out count = refused (suc n)
+unfoldable pub answerBy : ℕ → List ℕ → ℕ → Answer
+answerBy zero out count = accepted out count
+answerBy (suc n) out count = refused (suc n)
 
-unfoldable pub outcomeOf : Result → Outcome
-outcomeOf r = outcome (r .number) (r .output) (r .count)
+unfoldable pub answerOf : Result → Answer
+answerOf r = answerBy (r .number) (r .output) (r .count)
 
-unfoldable pub lockOutcome : ℕ → ℕ → ℕ → List ℕ → List ℕ → List ℕ → Outcome
-lockOutcome m n t public pattern out = outcome (lockNumber m n t public pattern out) (over (lock m n t public pattern) out) 0
+unfoldable pub lockAnswer : ℕ → ℕ → ℕ → List ℕ → List ℕ → List ℕ → Answer
+lockAnswer m n t public pattern out = answerBy (lockNumber m n t public pattern out) (over (lock m n t public pattern) out) 0
 
-unfoldable pub answer : Asked → Outcome
-answer (after calls c) = outcomeOf (step (run fresh calls) c)
-answer (on s c) = outcomeOf (step s c)
+unfoldable pub answer : Asked → Answer
+answer (after calls c) = answerOf (step (run step fresh calls) c)
+answer (on s c) = answerOf (step s c)
 answer (frees s c) = free (step s c .free)
-answer (lock-shape m n t public pattern out) = lockOutcome m n t public pattern out
-answer (locks file pattern out) = let k : Key = parse file in lockOutcome (k .m) (k .n) (k .t) (written (publicKey k)) pattern out
+answer (lock-shape m n t public pattern out) = lockAnswer m n t public pattern out
+answer (locks file pattern out) = let k : Key = parse file in lockAnswer (k .m) (k .n) (k .t) (written (publicKey k)) pattern out
 answer (times m a b) = element (mul m a b)
 
--- every row of the table has its outcome
-abbrev pub Holds : List (Asked × Outcome) → Type 0
+-- every row of the table has its answer
+abbrev pub Holds : List (Asked × Answer) → Type 0
 Holds table = map (λ r. answer (r .0)) table ≡ map (λ r. r .1) table
 
 -- a buffer of n zeros
@@ -79,7 +79,7 @@ unfoldable pub file : ℕ → ℕ → List ℕ → List ℕ → List ℕ
 file n t support g = fileOf (record { m = 4; n = n; t = t; support = support; g = g })
 
 -- P1 to P13
-unfoldable pub rows : List (Asked × Outcome)
+unfoldable pub rows : List (Asked × Answer)
 rows =
     (after [] (load K1), accepted [] 0) ∷
     (after (load K1 ∷ []) (publish (zeros 4) (zeros 4)), accepted (0x03 ∷ 0x01 ∷ 0x02 ∷ 0x00 ∷ []) 0) ∷
@@ -96,7 +96,7 @@ rows =
     (times 4 8 15, element 1) ∷ []
 
 -- the facts that document 01 has by running; n 5 and 16 pass the check of the shape, and n 16 meets 7
-unfoldable pub running : List (Asked × Outcome)
+unfoldable pub running : List (Asked × Answer)
 running =
     (after (load K2 ∷ []) (read-word (0x03 ∷ 0x00 ∷ []) (zeros 2)), accepted (0x03 ∷ 0x00 ∷ []) 2) ∷
     (locks K1 (0x00 ∷ []) (zeros 1), refused 12) ∷
@@ -111,7 +111,7 @@ unfoldable pub bad : State → Station
 bad s = record { state = s; key = parse (K1-with (1 ∷ 14 ∷ 9 ∷ 13 ∷ 15 ∷ 15 ∷ [])) }
 
 -- which of two numbers comes first, in document 01's order of the calls
-unfoldable pub orders : List (Asked × Outcome)
+unfoldable pub orders : List (Asked × Answer)
 orders =
     -- load 22, 1, 2, 3, 4, 5, 6, 7
     (after (load K1 ∷ []) (load []), refused 22) ∷
@@ -159,8 +159,8 @@ orders =
     (locks K1 (0x00 ∷ []) [], refused 12) ∷
     (locks K1 (0x10 ∷ []) [], refused 10) ∷ []
 
--- What a call leaves: bytes beyond those written, the mark, and whether the contents of publish's workspace are free.
-unfoldable pub remains : List (Asked × Outcome)
+-- What a call leaves: bytes beyond those written, the mark, and how many bytes of publish's workspace are free.
+unfoldable pub remains : List (Asked × Answer)
 remains =
     (after (load K1 ∷ []) (publish (9 ∷ 9 ∷ 9 ∷ 9 ∷ 9 ∷ 9 ∷ []) (zeros 4)), accepted (0x03 ∷ 0x01 ∷ 0x02 ∷ 0x00 ∷ 9 ∷ 9 ∷ []) 0) ∷
     (after published-K1 (open-capsule (0x03 ∷ []) (9 ∷ 9 ∷ [])), accepted (0x10 ∷ 9 ∷ []) 1) ∷
@@ -168,19 +168,19 @@ remains =
     (locks K1 (0x10 ∷ []) (9 ∷ 9 ∷ []), accepted (0x03 ∷ 9 ∷ []) 0) ∷
     (after (published-K1 ++ (drop-key ∷ [])) (read-word (0x24 ∷ []) (zeros 1)), refused 21) ∷
     (after (published-K1 ++ (drop-key ∷ load K1 ∷ [])) (open-capsule (0x03 ∷ []) (zeros 1)), refused 24) ∷
-    (frees fresh (publish (zeros 4) (zeros 4)), free false) ∷
-    (frees (bad loaded) (publish (zeros 4) (zeros 4)), free false) ∷
-    (frees (run fresh (load K1 ∷ [])) (publish (zeros 3) (zeros 4)), free false) ∷
-    (frees (run fresh (load K1 ∷ [])) (publish (zeros 4) (zeros 3)), free false) ∷
-    (frees (run fresh (load K1 ∷ [])) (publish (zeros 4) (zeros 4)), free true) ∷
-    (frees (run fresh (load K3 ∷ [])) (publish (zeros 4) (zeros 4)), free true) ∷ []
+    (frees fresh (publish (zeros 4) (zeros 4)), free 0) ∷
+    (frees (bad loaded) (publish (zeros 4) (zeros 4)), free 0) ∷
+    (frees (run step fresh (load K1 ∷ [])) (publish (zeros 3) (zeros 4)), free 0) ∷
+    (frees (run step fresh (load K1 ∷ [])) (publish (zeros 4) (zeros 3)), free 0) ∷
+    (frees (run step fresh (load K1 ∷ [])) (publish (zeros 4) (zeros 6)), free 4) ∷
+    (frees (run step fresh (load K3 ∷ [])) (publish (zeros 4) (zeros 4)), free 4) ∷ []
 
--- A list of calls with each call's outcome; its first key has the element 0.
-unfoldable pub outcomes : Station → List Call → List Outcome
-outcomes s [] = []
-outcomes s (c ∷ cs) = outcomeOf (step s c) ∷ outcomes (step s c .station) cs
+-- A list of calls with each call's answer; its first key has the element 0.
+unfoldable pub answers : Station → List Call → List Answer
+answers s [] = []
+answers s (c ∷ cs) = answerOf (step s c) ∷ answers (step s c .station) cs
 
-unfoldable pub story : List (Call × Outcome)
+unfoldable pub story : List (Call × Answer)
 story =
     (publish (zeros 3) (zeros 10), refused 21) ∷
     (drop-key, refused 21) ∷
@@ -206,16 +206,16 @@ story =
 unfoldable pub calls : List Call
 calls = map (λ r. r .0) story
 
--- the outcomes, the ledger's numbers and its end
+-- the answers, the ledger's numbers and its end
 abbrev pub Story : Type 0
 Story =
-    (outcomes fresh calls ≡ map (λ r. r .1) story) ×
+    (answers fresh calls ≡ map (λ r. r .1) story) ×
     (expected blank calls ≡ 21 ∷ 21 ∷ 21 ∷ 21 ∷ 0 ∷ 10 ∷ 11 ∷ 0 ∷ 0 ∷ 10 ∷ 0 ∷ 14 ∷ 0 ∷ 13 ∷ 0 ∷ 0 ∷ 24 ∷ 24 ∷ 24 ∷ 0 ∷ []) ×
     (ledgerAfter blank calls ≡ record { key = some (parse K1); mark = true })
 
 -- one computation for all tables
 tables-hold : Holds rows × Holds running × Holds orders × Holds remains × Story
-unfolding _⊕_ from every bytesFor bitAt unpack number pack ones weight fillerClear eachWith xorRow dot firstOf isWidth isElement modulusOf polyMul reduced mulMod mul power lastBelow inv value sum same monic product someBelow someList hasSquare inLimits pair elements parse twoBytes fileOf distinct goppaAt conditions fileConditions keyNumber K1 K2 K1-with K3 entry inCode parityRow parityRows withRow findPivot clear withPivot columns echelon publicKey dependent written locked rowOf rowsOf lockNumber lock orElse firstRow corrects reading filled exactly opening unsound noKey fresh isEmpty isUnpublished heldBy capsuleBits found isNone loadConditions Publish.publishChecks Publish.publishConditions Calls.openConditions Calls.readConditions publishChecks publishConditions openConditions readConditions dropConditions over unless loadOf publishOf gives openOf readOf dropOf conditionsOf step run blank heldIn ledgerNumber entered fed ledgerAfter expected outcome outcomeOf lockOutcome answer zeros file published-K1 rows running bad orders remains outcomes story calls flatMap zipWith
+unfolding _⊕_ from every bytesFor bitAt unpack number pack ones weight fillerClear eachWith xorRow dot firstOf isWidth isElement modulusOf polyMul reduced mulMod mul power lastBelow inv value sum same monic product someBelow someList hasSquare inLimits pair elements parse twoBytes fileOf distinct goppaAt conditions fileConditions keyNumber K1 K2 K1-with K3 entry inCode parityRow parityRows withRow findPivot clear withPivot columns echelon publicKey dependent written locked rowOf rowsOf lockNumber lock orElse firstRow corrects reading filled exactly opening unsound emptyKey fresh isEmpty isUnpublished heldBy capsuleBits found isNone loadConditions Publish.publishChecks Publish.publishConditions Calls.openConditions Calls.readConditions Publish.freeBytes publishConditions openConditions readConditions dropConditions over unless loadOf publishOf gives openOf readOf dropOf conditionsOf step run blank heldIn ledgerNumber entered fed ledgerAfter expected answerBy answerOf lockAnswer answer zeros file published-K1 rows running bad orders remains answers story calls flatMap zipWith
 tables-hold = (refl, refl, refl, refl, (refl, refl, refl))
 
 pub rows-hold : Holds rows

@@ -1,8 +1,9 @@
--- Lists of calls: each gets the station that the one before handed back, after a refusal too. Assumes nothing.
+-- The five calls, and lists of calls: each gets the station that the one before handed back, after a refusal too.
+-- Assumes nothing.
 use Prim.Native.Nat.{ℕ}
 use mathlib.Core.Bool.{Bool}
 use mathlib.Core.List.{List, [], _∷_}
-use Rattle.ledger.specs.Station.{Station, Held, loadConditions, publishConditions, openConditions, readConditions, dropConditions, Result, loadOf, publishOf, openOf, readOf, dropOf}
+use Rattle.ledger.specs.Station.{Station, Held, loadConditions, publishConditions, openConditions, readConditions, dropConditions, Outcome, Result, loadOf, publishOf, openOf, readOf, dropOf}
 
 -- a call with its arguments, buffers with their contents included: file; output, workspace; capsule, output; word, output
 pub data Call : Type 0 where
@@ -28,12 +29,12 @@ step s (open-capsule capsule out) = openOf s capsule out
 step s (read-word word out) = readOf s word out
 step s drop-key = dropOf s
 
--- the station after a list of calls
-unfoldable pub run : Station → List Call → Station
-run s [] = s
-run s (c ∷ cs) = run (step s c .station) cs
+-- Lists of calls, whatever a call and a station are: the station after the list,
+unfoldable pub run : {S C : Type 0} → (S → C → Outcome S) → S → List C → S
+run call s [] = s
+run call s (c ∷ cs) = run call (call s c .station) cs
 
--- the number that each call was answered with
-unfoldable pub answered : Station → List Call → List ℕ
-answered s [] = []
-answered s (c ∷ cs) = step s c .number ∷ answered (step s c .station) cs
+-- and the number that each call was answered with
+unfoldable pub answered : {S C : Type 0} → (S → C → Outcome S) → S → List C → List ℕ
+answered call s [] = []
+answered call s (c ∷ cs) = call s c .number ∷ answered call (call s c .station) cs

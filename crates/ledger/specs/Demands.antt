@@ -1,9 +1,9 @@
--- The three demands as statements about the definitions: for every station, call, pattern, code word and list of calls.
--- Assumes nothing.
+-- The three demands, as statements about a system of calls: for every station, call, pattern, code word and list of calls.
+-- The definitions are such a system, and the code's calls are (`code` of crate station). Assumes nothing.
 use Prim.Native.Nat.{ℕ, suc, _≤_}
 use mathlib.Core.Path.{_≡_}
-use mathlib.Core.Logic.{_↔_}
-use mathlib.Core.Bool.{true, false}
+use mathlib.Core.Logic.{_↔_, _⊎_}
+use mathlib.Core.Bool.{true}
 use mathlib.Core.List.{List, [], flatMap}
 use mathlib.Core.Option.{Option, none, some}
 use lib.ListN.{length, take}
@@ -14,9 +14,10 @@ use Rattle.code.specs.Code.{inCode}
 use Rattle.code.specs.PublicKey.{Matrix, publicKey}
 use Rattle.code.specs.Lock.{locked, lockNumber, lock}
 use Rattle.code.specs.Publish.{capsuleBits, publicBytes, workBytes}
-use Rattle.ledger.specs.Station.{State, empty, loaded, published, Station, fresh, isEmpty, heldBy, Result}
-use Rattle.ledger.specs.Calls.{Call, load, publish, open-capsule, read-word, drop-key, conditionsOf, step, run, answered}
+use Rattle.ledger.specs.Station.{State, empty, loaded, published, Station, heldBy, Outcome}
+use Rattle.ledger.specs.Calls.{Call, load, publish, open-capsule, read-word, drop-key, conditionsOf, run, answered}
 use Rattle.ledger.specs.Ledger.{Ledger, blank, ledgerAfter, expected}
+use Rattle.ledger.specs.Systems.{System}
 
 -- the buffer that a call writes to
 unfoldable pub outputOf : Call → List ℕ
@@ -26,32 +27,13 @@ outputOf (open-capsule capsule out) = out
 outputOf (read-word word out) = out
 outputOf drop-key = []
 
--- Demand 1: a number only where its condition is the first that holds, and then nothing changes, the workspace under 23
--- aside; none where none holds.
-pub record Refuses (s : Station) (c : Call) : Type 0 where
-  pub number : (n : ℕ) → step s c .number ≡ suc n → First (conditionsOf (heldBy s) c) (suc n)
-  pub accepts : step s c .number ≡ 0 → Clear (conditionsOf (heldBy s) c)
-  pub station : (n : ℕ) → step s c .number ≡ suc n → step s c .station ≡ s
-  pub output : (n : ℕ) → step s c .number ≡ suc n → step s c .output ≡ outputOf c
-  pub work : (n : ℕ) → step s c .number ≡ suc n → (suc n ≡ 23 → ⊥) → step s c .free ≡ false
-
--- for every station and call
-abbrev pub Demand1 : Type 0
-Demand1 = (s : Station) (c : Call) → Refuses s c
+-- the key that a station holds, or none
+unfoldable pub keyHeld : Station → Option Key
+keyHeld s = elim (s .state) [ empty ↦ none | loaded ↦ some (s .key) | published ↦ some (s .key) ]
 
 -- a station in a state with a key
 unfoldable pub at : State → Key → Station
 at state k = record { state = state; key = k }
-
--- what publish and open hand back, and the pattern that open wrote
-abbrev pub publishResult : State → Key → List ℕ → List ℕ → Result
-publishResult state k out work = step (at state k) (publish out work)
-
-abbrev pub openResult : Key → List ℕ → List ℕ → Result
-openResult k capsule out = step (at published k) (open-capsule capsule out)
-
-abbrev pub patternOf : Key → List ℕ → List ℕ → List ℕ
-patternOf k capsule out = take (bytesFor (k .n)) (openResult k capsule out .output)
 
 -- lock under a key's shape and public key: the capsule, and the number with a buffer for it
 abbrev pub capsuleOf : Key → Matrix → List ℕ → List ℕ
@@ -59,29 +41,6 @@ capsuleOf k rows pattern = lock (k .m) (k .n) (k .t) (flatMap pack rows) pattern
 
 abbrev pub lockAnswer : Key → Matrix → List ℕ → List ℕ → ℕ
 lockAnswer k rows pattern buffer = lockNumber (k .m) (k .n) (k .t) (flatMap pack rows) pattern buffer
-
--- Demand 2, under an accepted key and its public key T: publish with room writes T, loaded or published; lock then open gives
--- the pattern back, and open then lock the capsule, byte for byte; lock accepts each such pattern.
-pub record RoundTrips (k : Key) (rows : Matrix) : Type 0 where
-  pub publishes : (state : State) (out work : List ℕ) → isEmpty state ≡ false → publicBytes k ≤ length out → workBytes k ≤ length work
-      → (publishResult state k out work .number ≡ 0) × (publishResult state k out work .station ≡ at published k)
-      × (publishResult state k out work .output ≡ over (flatMap pack rows) out)
-  -- the bytes that publish wrote are the public key that lock takes
-  pub public : (state : State) (out work : List ℕ) → publishResult state k out work .number ≡ 0
-      → take (publicBytes k) (publishResult state k out work .output) ≡ flatMap pack rows
-  pub locks : (pattern buffer : List ℕ) → wellFormed (k .n) pattern ≡ true → weight (k .n) pattern ≡ k .t
-      → bytesFor (capsuleBits k) ≤ length buffer → lockAnswer k rows pattern buffer ≡ 0
-  pub locked-opened : (pattern out : List ℕ) → Bytes pattern → wellFormed (k .n) pattern ≡ true → weight (k .n) pattern ≡ k .t
-      → bytesFor (k .n) ≤ length out
-      → (openResult k (capsuleOf k rows pattern) out .number ≡ 0) × (openResult k (capsuleOf k rows pattern) out .output ≡ over pattern out)
-  pub opened-locks : (capsule out buffer : List ℕ) → openResult k capsule out .number ≡ 0
-      → bytesFor (capsuleBits k) ≤ length buffer → lockAnswer k rows (patternOf k capsule out) buffer ≡ 0
-  pub opened-locked : (capsule out : List ℕ) → Bytes capsule → openResult k capsule out .number ≡ 0
-      → capsuleOf k rows (patternOf k capsule out) ≡ capsule
-
--- for every key that load accepts and that has a public key
-abbrev pub Demand2 : Type 0
-Demand2 = (k : Key) (rows : Matrix) → keyNumber k ≡ 0 → publicKey k ≡ some rows → RoundTrips k rows
 
 -- the pattern e has exactly t ones and locks to the capsule
 pub record Locks (k : Key) (rows : Matrix) (capsule e : List ℕ) : Type 0 where
@@ -96,26 +55,75 @@ pub record Differs (k : Key) (word e : List ℕ) : Type 0 where
   pub code : inCode k (xorRow (unpack (k .n) word) e) ≡ true
 
 -- refused with this number exactly when no pattern is P; else the only such pattern is written, and its ones are counted
-pub record Decides (P : List ℕ → Type 0) (refusal : ℕ) (out : List ℕ) (r : Result) : Type 0 where
+pub record Decides {S : Type 0} (P : List ℕ → Type 0) (refusal : ℕ) (out : List ℕ) (r : Outcome S) : Type 0 where
   pub refuses : (r .number ≡ refusal) ↔ ((e : List ℕ) → P e → ⊥)
   pub only : (r .number ≡ refusal → ⊥) → r .number ≡ 0
   pub writes : r .number ≡ 0 → (e : List ℕ) × P e × (r .output ≡ over (pack e) out) × (r .count ≡ ones e) × ((d : List ℕ) → P d → d ≡ e)
 
--- the key that a station holds, or none
-unfoldable pub keyHeld : Station → Option Key
-keyHeld s = elim (s .state) [ empty ↦ none | loaded ↦ some (s .key) | published ↦ some (s .key) ]
+module _ (sys : System) where
+  -- Demand 1: a number only where its condition is the first that holds, and then nothing changes, the workspace under 23
+  -- aside; none where none holds. No byte of the workspace is free, or the first m·t × ceil(n/8).
+  pub record Refuses (s : sys .Stations) (c : Call) : Type 0 where
+    pub number : (n : ℕ) → sys .call s c .number ≡ suc n → First (conditionsOf (heldBy (sys .view s)) c) (suc n)
+    pub accepts : sys .call s c .number ≡ 0 → Clear (conditionsOf (heldBy (sys .view s)) c)
+    pub station : (n : ℕ) → sys .call s c .number ≡ suc n → sys .call s c .station ≡ s
+    pub ones : (n : ℕ) → sys .call s c .number ≡ suc n → sys .call s c .count ≡ 0
+    pub output : (n : ℕ) → sys .call s c .number ≡ suc n → sys .call s c .output ≡ outputOf c
+    pub work : (n : ℕ) → sys .call s c .number ≡ suc n → (suc n ≡ 23 → ⊥) → sys .call s c .free ≡ 0
+    pub workspace : (sys .call s c .free ≡ 0) ⊎ (sys .call s c .free ≡ workBytes (sys .view s .key))
 
--- Demand 3, after one list of calls: the key, each call's number, and any open or read made next.
-pub record After (calls : List Call) (s : Station) (l : Ledger) : Type 0 where
-  pub key : keyHeld s ≡ l .key
-  pub numbers : answered fresh calls ≡ expected blank calls
-  pub opening : (k : Key) → l .key ≡ some k → l .mark ≡ true → (rows : Matrix) × (publicKey k ≡ some rows) × ((capsule out : List ℕ)
-      → wellFormed (capsuleBits k) capsule ≡ true → bytesFor (k .n) ≤ length out
-      → Decides (Locks k rows capsule) 13 out (step s (open-capsule capsule out)))
-  pub reading : (k : Key) (word out : List ℕ) → l .key ≡ some k
-      → wellFormed (k .n) word ≡ true → bytesFor (k .n) ≤ length out
-      → Decides (Differs k word) 14 out (step s (read-word word out))
+  -- for every station and call
+  abbrev pub Demand1 : Type 0
+  Demand1 = (s : sys .Stations) (c : Call) → Refuses s c
 
--- Demand 3: one claim about every list of calls from a fresh station.
-abbrev pub AfterEveryList : Type 0
-AfterEveryList = (calls : List Call) → After calls (run fresh calls) (ledgerAfter blank calls)
+  -- the pattern that open wrote
+  abbrev pub patternOf : Key → sys .Stations → List ℕ → List ℕ → List ℕ
+  patternOf k s capsule out = take (bytesFor (k .n)) (sys .call s (open-capsule capsule out) .output)
+
+  -- Demand 2, for stations with an accepted key and its public key T: publish with room writes T, loaded or published, and marks
+  -- the station; where it is published, lock then open gives the pattern back, and open then lock the capsule, byte for byte.
+  pub record RoundTrips (k : Key) (rows : Matrix) : Type 0 where
+    pub publishes : (s : sys .Stations) (out work : List ℕ) → keyHeld (sys .view s) ≡ some k → publicBytes k ≤ length out → workBytes k ≤ length work
+        → sys .call s (publish out work) ≡ record { station = sys .marked s; number = 0; output = over (flatMap pack rows) out; count = 0; free = workBytes k }
+    pub marks : (s : sys .Stations) → keyHeld (sys .view s) ≡ some k → sys .view (sys .marked s) ≡ at published k
+    -- the bytes that publish wrote are the public key that lock takes
+    pub public : (s : sys .Stations) (out work : List ℕ) → keyHeld (sys .view s) ≡ some k → sys .call s (publish out work) .number ≡ 0
+        → take (publicBytes k) (sys .call s (publish out work) .output) ≡ flatMap pack rows
+    -- lock accepts each pattern of t ones, and open gives it back with that number of ones
+    pub locks : (pattern buffer : List ℕ) → wellFormed (k .n) pattern ≡ true → weight (k .n) pattern ≡ k .t
+        → bytesFor (capsuleBits k) ≤ length buffer → lockAnswer k rows pattern buffer ≡ 0
+    pub locked-opened : (s : sys .Stations) (pattern out : List ℕ) → sys .view s ≡ at published k
+        → Bytes pattern → wellFormed (k .n) pattern ≡ true → weight (k .n) pattern ≡ k .t → bytesFor (k .n) ≤ length out
+        → sys .call s (open-capsule (capsuleOf k rows pattern) out) ≡ record { station = s; number = 0; output = over pattern out; count = k .t; free = 0 }
+    -- lock accepts each pattern that open wrote, and gives the capsule back
+    pub opened-locks : (s : sys .Stations) (capsule out buffer : List ℕ) → sys .view s ≡ at published k
+        → sys .call s (open-capsule capsule out) .number ≡ 0 → bytesFor (capsuleBits k) ≤ length buffer
+        → lockAnswer k rows (patternOf k s capsule out) buffer ≡ 0
+    pub opened-locked : (s : sys .Stations) (capsule out : List ℕ) → sys .view s ≡ at published k
+        → Bytes capsule → sys .call s (open-capsule capsule out) .number ≡ 0
+        → capsuleOf k rows (patternOf k s capsule out) ≡ capsule
+
+  -- for every key that load accepts and that has a public key
+  abbrev pub Demand2 : Type 0
+  Demand2 = (k : Key) (rows : Matrix) → keyNumber k ≡ 0 → publicKey k ≡ some rows → RoundTrips k rows
+
+  -- Demand 3, after one list of calls: the key, each call's number, and any open or read made next.
+  pub record After (calls : List Call) (s : sys .Stations) (l : Ledger) : Type 0 where
+    pub key : keyHeld (sys .view s) ≡ l .key
+    pub numbers : answered (sys .call) (sys .fresh) calls ≡ expected blank calls
+    pub opening : (k : Key) → l .key ≡ some k → l .mark ≡ true → (rows : Matrix) × (publicKey k ≡ some rows) × ((capsule out : List ℕ)
+        → wellFormed (capsuleBits k) capsule ≡ true → bytesFor (k .n) ≤ length out
+        → Decides (Locks k rows capsule) 13 out (sys .call s (open-capsule capsule out)))
+    pub reading : (k : Key) (word out : List ℕ) → l .key ≡ some k
+        → wellFormed (k .n) word ≡ true → bytesFor (k .n) ≤ length out
+        → Decides (Differs k word) 14 out (sys .call s (read-word word out))
+
+  -- Demand 3: one claim about every list of calls from a fresh station.
+  abbrev pub AfterEveryList : Type 0
+  AfterEveryList = (calls : List Call) → After calls (run (sys .call) (sys .fresh) calls) (ledgerAfter blank calls)
+
+  -- all three
+  pub record Demands : Type 0 where
+    pub demand-1 : Demand1
+    pub demand-2 : Demand2
+    pub after-every-list : AfterEveryList

@@ -5,7 +5,7 @@ use mathlib.Core.List.{List, [], _∷_}
 use mathlib.Core.Option.{Option, none, some}
 use Rattle.field.specs.Numbers.{firstOf}
 use Rattle.key.specs.Keys.{Key, parse}
-use Rattle.ledger.specs.Station.{Held, noKey}
+use Rattle.ledger.specs.Station.{Held, emptyKey}
 use Rattle.ledger.specs.Calls.{Call, load, publish, open-capsule, read-word, drop-key, conditionsOf}
 
 -- a key or none, and a mark for published
@@ -20,7 +20,7 @@ blank = record { key = none; mark = false }
 -- 21 holds without a key, 22 with one, 24 without the mark, 25 never
 unfoldable pub heldIn : Ledger → Held
 heldIn l = elim (l .key) [
-  | none ↦ record { missing = true; unsound = false; unpublished = not (l .mark); key = noKey }
+  | none ↦ record { missing = true; unsound = false; unpublished = not (l .mark); key = emptyKey }
   | some k ↦ record { missing = false; unsound = false; unpublished = not (l .mark); key = k }
 ]
 

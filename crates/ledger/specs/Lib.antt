@@ -1,4 +1,5 @@
 pub mod Station
 pub mod Calls
 pub mod Ledger
+pub mod Systems
 pub mod Demands

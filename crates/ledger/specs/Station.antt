@@ -1,14 +1,13 @@
 -- Document 01, 'Station': the conditions of the five calls, and what each hands back, on every station, argument and buffer.
 -- Assumes nothing.
 use Prim.Native.Nat.{ℕ, zero, suc}
-use mathlib.Core.Bool.{Bool, true, false, not}
+use mathlib.Core.Bool.{Bool, true, false, not, cond}
 use mathlib.Core.List.{List, [], _∷_}
-use lib.Dec.{eqb}
 use Rattle.bits.specs.Bits.{unpack, pack, ones, over}
 use Rattle.field.specs.Numbers.{firstOf}
 use Rattle.key.specs.Keys.{Key, parse, fileConditions, unsound}
 use Rattle.code.specs.PublicKey.{publicKey, written}
-use Rattle.code.specs.Publish.{capsuleBits}
+use Rattle.code.specs.Publish.{capsuleBits, freeBytes}
 use Rattle.code.specs.Publish as Publish
 use Rattle.decoder.specs.Reading.{reading, opening}
 use Rattle.decoder.specs.Calls.{found}
@@ -24,12 +23,12 @@ pub record Station : Type 0 where
   pub key : Key
 
 -- the key of no size
-unfoldable pub noKey : Key
-noKey = record { m = 0; n = 0; t = 0; support = []; g = [] }
+unfoldable pub emptyKey : Key
+emptyKey = record { m = 0; n = 0; t = 0; support = []; g = [] }
 
 -- a fresh station is empty
 unfoldable pub fresh : Station
-fresh = record { state = empty; key = noKey }
+fresh = record { state = empty; key = emptyKey }
 
 -- What the numbers look at besides a call's arguments: whether 21, 25 and 24 hold, and the key.
 pub record Held : Type 0 where
@@ -60,10 +59,6 @@ heldBy s =
 unfoldable pub loadConditions : Held → List ℕ → List (Bool × ℕ)
 loadConditions h file = (not (h .missing), 22) ∷ fileConditions file
 
--- 21, 25, 10, 11: once they have passed, the workspace's contents are free
-unfoldable pub publishChecks : Held → List ℕ → List ℕ → List (Bool × ℕ)
-publishChecks h out work = (h .missing, 21) ∷ Publish.publishChecks (h .unsound) (h .key) out work
-
 -- 21, 25, 10, 11, 23
 unfoldable pub publishConditions : Held → List ℕ → List ℕ → List (Bool × ℕ)
 publishConditions h out work = (h .missing, 21) ∷ Publish.publishConditions (h .unsound) (h .key) out work
@@ -80,14 +75,17 @@ readConditions h word out = (h .missing, 21) ∷ Calls.readConditions (h .unsoun
 unfoldable pub dropConditions : Held → List (Bool × ℕ)
 dropConditions h = (h .missing, 21) ∷ []
 
--- What a call hands back: the station, its number (0: accepted), the output buffer, the number of ones, and whether
--- the contents of publish's workspace are free; else it is unchanged.
-pub record Result : Type 0 where
-  pub station : Station
+-- What a call hands back: the new station, its number (0: accepted), the output buffer, the number of ones, and how many of the
+-- first bytes of publish's workspace have free contents; all bytes behind them are unchanged.
+pub record Outcome (S : Type 0) : Type 0 where
+  pub station : S
   pub number : ℕ
   pub output : List ℕ
   pub count : ℕ
-  pub free : Bool
+  pub free : ℕ
+
+abbrev pub Result : Type 0
+Result = Outcome Station
 
 -- a refusal returns its number and changes nothing
 unfoldable pub unless : ℕ → Station → List ℕ → Result → Result
@@ -98,9 +96,9 @@ unless (suc n) s out r = record { station = s; number = suc n; output = out; cou
 unfoldable pub loadOf : Station → List ℕ → Result
 loadOf s file =
     unless (firstOf (loadConditions (heldBy s) file)) s []
-    (record { station = record { state = loaded; key = parse file }; number = 0; output = []; count = 0; free = false })
+    (record { station = record { state = loaded; key = parse file }; number = 0; output = []; count = 0; free = 0 })
 
--- publish: T is written, and the key is published
+-- publish: T is written, and the key is published; the workspace is free once 21, 25, 10 and 11 have passed
 unfoldable pub publishOf : Station → List ℕ → List ℕ → Result
 publishOf s out work =
     unless (firstOf (publishConditions (heldBy s) out work)) s out
@@ -109,12 +107,12 @@ publishOf s out work =
       number = 0;
       output = over (written (publicKey (s .key))) out;
       count = 0;
-      free = eqb (firstOf (publishChecks (heldBy s) out work)) 0;
+      free = cond (isEmpty (s .state)) 0 (freeBytes (s .key) out work);
     })
 
 -- the pattern e written, and the ones counted in it
 unfoldable pub gives : Station → List ℕ → List ℕ → Result
-gives s e out = record { station = s; number = 0; output = over (pack e) out; count = ones e; free = false }
+gives s e out = record { station = s; number = 0; output = over (pack e) out; count = ones e; free = 0 }
 
 -- open: the pattern for a capsule
 unfoldable pub openOf : Station → List ℕ → List ℕ → Result
@@ -132,4 +130,4 @@ readOf s word out =
 unfoldable pub dropOf : Station → Result
 dropOf s =
     unless (firstOf (dropConditions (heldBy s))) s []
-    (record { station = fresh; number = 0; output = []; count = 0; free = false })
+    (record { station = fresh; number = 0; output = []; count = 0; free = 0 })

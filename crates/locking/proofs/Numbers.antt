@@ -14,9 +14,9 @@ use Rattle.field.proofs.Numbers.{first-clear}
 use Rattle.key.specs.Shapes.{inLimits}
 use Rattle.key.proofs.Shapes.{limits}
 use Rattle.key.proofs.Conditions.{limits-fit}
-use Rattle.code.specs.Lock.{rowOf, lockNumber}
+use Rattle.code.specs.Lock.{rowOf, lockNumber, lockOutput}
 use Rattle.code.specs.Lock as Lock
-use Rattle.locking.specs.Locking.{lockedOf, lockOutput}
+use Rattle.locking.specs.Locking.{lockedOf}
 use Rattle.locking.specs.declared.Locked.the-variants.{Done, Refused}
 
 -- the bytes of the public key
@@ -119,10 +119,6 @@ module _ (m n t : ℕ) (public pattern out : List ℕ) where
   pub output-kept : (x : ℕ) → x ≡ lockNumber m n t public pattern out → (x ≡ 0 → ⊥) → out ≡ lockOutput m n t public pattern out
   unfolding lockOutput
   output-kept x e z = ap (λ (b : Bool). cond b (over (Lock.lock m n t public pattern) out) out) (sym (ne-eqb (lockNumber m n t public pattern out) 0 (λ q. z (e ∙ q))))
-
-  pub output-written : lockNumber m n t public pattern out ≡ 0 → lockOutput m n t public pattern out ≡ over (Lock.lock m n t public pattern) out
-  unfolding lockOutput
-  output-written e = ap (λ (b : Bool). cond b (over (Lock.lock m n t public pattern) out) out) (eq-eqb (lockNumber m n t public pattern out) 0 e)
 
 pub refused : (x y : ℕ) → x ≡ y → (x ≡ 0 → ⊥) → Refused x ≡ lockedOf y
 unfolding lockedOf

@@ -68,11 +68,3 @@ lock-bits m n t public pattern h =
     (ap₂ (λ (i : ℕ) (x : List ℕ). zipWith (λ b row. b ⊕ dot row (drop i x)) (take i x) rows) size split
     ∙ ap₂ (λ (x y : List ℕ). zipWith (λ b row. b ⊕ dot row y) x rows) (take-at (unpack k pattern) _ k long) (drop-at (unpack k pattern) _ k long)
     ∙ zip-map (λ b row. b ⊕ dot row (map (bitAt pattern) (from k w))) (bitAt pattern) (λ r. unpack w (rowOf w public r)) (from 0 k))
-
--- a packed row is read back from the bytes that begin with it
-pub read-back : {n : ℕ} {e : List ℕ} (rest : List ℕ) → Row n e → map (bitAt (over (pack e) rest)) (from 0 n) ≡ e
-unfolding over unpack
-read-back {n} {e} rest r =
-    let long : length (pack e) ≡ bytesFor n = length-pack e ∙ ap bytesFor (row-length r) in
-    sym (unpack-take n (bytesFor n) (pack e ++ drop (length (pack e)) rest) (le-refl (bytesFor n)))
-    ∙ ap (unpack n) (take-at (pack e) _ (bytesFor n) long) ∙ unpack-pack r

@@ -4,8 +4,8 @@ ghost use mathlib.Core.List.{map};
 ghost use Prim.Native.Nat.{_*_, _≤_, _<_};
 ghost use lib.ListN.{length, drop, replicate};
 ghost use Rattle.bits.specs.Bits.{from, every, bytesFor, bitAt, pack, fillerClear, over, rowProduct};
-ghost use Rattle.code.specs.Lock.{rowOf, lockNumber};
-ghost use Rattle.locking.specs.Locking.{lockedOf, lockOutput, capsuleBit};
+ghost use Rattle.code.specs.Lock.{rowOf, lockNumber, lockOutput};
+ghost use Rattle.locking.specs.Locking.{lockedOf, capsuleBit};
 
 // What the call answers: the capsule is written, or the number of a refusal.
 pub enum Locked {

@@ -9,9 +9,8 @@ use native.Mathlib.Decide.{decLt}
 use native.Mathlib.Omega.{arith}
 use lib.Dec.{eqb}
 use lib.ListN.{length, drop, length-append, length-drop}
-use lib.Seq.{take-append-seam}
-use Rattle.bits.specs.Bits.{Row, end, off, on, bytesFor, unpack, pack, ones, over}
-use Rattle.bits.proofs.Pack.{row-length, unpack-take, unpack-pack, length-pack}
+use Rattle.bits.specs.Bits.{Row, end, off, on, bytesFor, unpack, ones}
+use Rattle.bits.proofs.Pack.{unpack-over}
 use Rattle.field.specs.Numbers.{firstOf}
 use Rattle.field.proofs.Numbers.{first-clear}
 use Rattle.key.specs.Keys.{Key}
@@ -56,14 +55,6 @@ record Pattern (k : Key) (e : List ℕ) : Type 0 where
   bits : Row (k .n) e
   few : ones e ≤ k .t
 
-written-bits : {n : ℕ} {e : List ℕ} (out : List ℕ) → Row n e → unpack n (over (pack e) out) ≡ e
-unfolding over
-written-bits {n} {e} out r =
-    let l : bytesFor n ≤ length (pack e) = omega (arith, length-pack e, ap bytesFor (row-length r)) in
-    sym (unpack-take n (length (pack e)) (pack e ++ drop (length (pack e)) out) l)
-    ∙ ap (unpack n) (take-append-seam (pack e) (drop (length (pack e)) out))
-    ∙ unpack-pack r
-
 found-some : (k : Key) (w : List ℕ) (o : Option (List ℕ)) → exactly (k .t) (reading k w) ≡ o → isNone o ≡ false → Pattern k (found o)
 unfolding found isNone
 found-some k w none h i = absurd (true≢false i)
@@ -94,7 +85,7 @@ module _ (s : Station) (capsule out : List ℕ) where
       let o = opening (s .key) (unpack (capsuleBits (s .key)) capsule) in
       let p = found-some (s .key) _ o refl (open-some z) in
       subst (Pattern (s .key))
-      (sym (ap (λ (r : Result). unpack (s .key .n) (r .output)) (unless-accepted s out _ _ z) ∙ written-bits out (p .bits)))
+      (sym (ap (λ (r : Result). unpack (s .key .n) (r .output)) (unless-accepted s out _ _ z) ∙ unpack-over (p .bits) out))
       p
 
 -- a blank and two digits for each one

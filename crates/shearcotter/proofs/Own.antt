@@ -2,13 +2,12 @@
 use Prim.Native.Nat.{ℕ, zero, suc}
 use mathlib.Core.Path.{_≡_, refl, sym, ap, _∙_}
 use mathlib.Core.List.{List}
-use native.Mathlib.Omega.{arith}
 use Rattle.key.specs.declared.kept.Key.{Key}
 use Rattle.ledger.specs.Calls.{Call, publish, step}
 use Rattle.station.specs.Replies.{view, refusal, acceptance, moved, replyOf, handed}
 use Rattle.station.specs.declared.Station.{Station}
 use Rattle.station.specs.declared.Reply.{Reply}
-use Rattle.station.proofs.Demand1.{refused-reply}
+use Rattle.station.proofs.StepView.{refused-reply}
 
 -- a reply with another station
 abbrev pub with : Station → Reply → Reply

@@ -8,12 +8,11 @@ use boundary::locked_number;
 use station::Reply;
 use station::Station;
 ghost use mathlib.Core.Path.{_≡_};
-ghost use mathlib.Core.Bool.{false};
+ghost use lib.ListN.{drop};
 ghost use Rattle.field.specs.Answers.{addOf, multiplyOf, invertOf};
 ghost use Rattle.register.specs.Registered.{registeredOf};
 ghost use Rattle.key.specs.Answers.{shapeOf};
-ghost use Rattle.code.specs.Lock.{lockNumber};
-ghost use Rattle.locking.specs.Locking.{lockOutput};
+ghost use Rattle.code.specs.Lock.{lockNumber, lockOutput};
 ghost use Rattle.ledger.specs.Calls.{load, publish, open-capsule, read-word, drop-key};
 ghost use Rattle.station.specs.Replies.{freshStation, handed};
 ghost use Rattle.boundary.specs.Boundary.{asElement, asShape};
@@ -98,13 +97,14 @@ pub extern "C" fn shearcotter_load(own: Station, file: &[u8]) -> Reply
     loaded
 }
 
-// T is written from the output's start, made in work; 21, 25, 10, 11 or 23 on refusal.
+// T is written from the output's start, made in the first m·t × ceil(n/8) bytes of work; 21, 25, 10, 11 or 23 on refusal. All
+// other bytes of work keep their contents, and these too under 21, 25, 10 and 11.
 #[no_mangle]
 pub extern "C" fn shearcotter_publish(own: Station, out: &mut [u8], work: &mut [u8]) -> Reply
     ensures reply { λ r. ⌜ r ≡ handed own (publish (now (out .entry)) (now (work .entry))) .reply ⌝ }
     ensures output { λ _. ⌜ now (out .exit) ≡ handed own (publish (now (out .entry)) (now (work .entry))) .output ⌝ }
-    ensures workspace { λ _. ⌜ (handed own (publish (now (out .entry)) (now (work .entry))) .free ≡ false
-        → now (work .exit) ≡ now (work .entry)) ⌝ }
+    ensures workspace { λ _. ⌜ (let f = handed own (publish (now (out .entry)) (now (work .entry))) .free in
+        drop f (now (work .exit)) ≡ drop f (now (work .entry))) ⌝ }
 {
     let published = own.publish(out, work);
     let next = published.station;

@@ -2,7 +2,5 @@ pub mod States
 pub mod ReplyLaws
 pub mod LowerLaws
 pub mod StepView
-pub mod Demand3
-pub mod Demand1
-pub mod Demand2
+pub mod Demands
 pub mod Table

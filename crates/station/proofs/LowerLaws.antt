@@ -1,15 +1,13 @@
 -- What each call hands back once its state lets it through, from the lower call's answer. Assumes nothing.
 use Prim.Native.Nat.{ℕ, zero, suc}
-use mathlib.Core.Path.{_≡_, refl, sym, ap, ap₂, _∙_}
-use mathlib.Core.Bool.{Bool, true, false, true≢false, not, cond}
+use mathlib.Core.Path.{_≡_, refl, sym, ap, ap₂, _∙_, subst}
+use mathlib.Core.Bool.{Bool, true, false, not, cond}
 use mathlib.Core.List.{List}
 use native.Mathlib.Omega.{arith}
-use borrow.Author.Tests.{eq-eqb}
-use lib.ListN.{replicate}
+use lib.ListN.{drop, replicate}
 use Rattle.bits.specs.Bits.{over, padded}
 use Rattle.bits.proofs.Padded.{over-zeros}
-use Rattle.field.specs.Numbers.{firstOf}
-use Rattle.key.specs.Keys.{Key, parse, unsound}
+use Rattle.key.specs.Keys.{Key, parse}
 use Rattle.key.specs.Kept.{kept, keep, parts}
 use Rattle.key.specs.Answers.{sizes, shapeAnswer}
 use Rattle.key.specs.declared.kept.Key as Kept
@@ -18,8 +16,7 @@ use Rattle.key.specs.declared.shape.ShapeAnswer.{ShapeAnswer}
 use Rattle.key.specs.declared.shape.ShapeAnswer.the-variants as shapes
 use Rattle.key_file.specs.Loaded.{loadedOf, writtenOf}
 use Rattle.key_file.proofs.Files.{read-accepted}
-use Rattle.code.specs.Publish.{publishNumber, publishOutput}
-use Rattle.code.specs.Publish as Publish
+use Rattle.code.specs.Publish.{freeBytes, publishNumber, publishOutput}
 use Rattle.decoder.specs.Calls.{openOutput, readOutput, patternOutput}
 use Rattle.publishing.specs.Published.{publishedOf}
 use Rattle.publishing.specs.declared.Published.{Published}
@@ -28,7 +25,7 @@ use Rattle.reading.specs.Answers.{answerOf}
 use Rattle.reading.specs.Answers as Answers
 use Rattle.reading.specs.declared.calls.Answer.{Answer}
 use Rattle.reading.specs.declared.calls.Answer.the-variants as answers
-use Rattle.ledger.specs.Station.{loaded, published as isPublished, isEmpty, isUnpublished, heldBy, publishChecks, openOf, readOf}
+use Rattle.ledger.specs.Station.{loaded, published as isPublished, isEmpty, isUnpublished, openOf, readOf}
 use Rattle.ledger.specs.Calls.{Call, load, publish, open-capsule, read-word}
 use Rattle.ledger.specs.Demands.{outputOf}
 use Rattle.ledger.proofs.StepLaws.{step-free, freed}
@@ -119,13 +116,12 @@ module _ (s : Station) (out work : List ℕ) (keyed : isEmpty (stateOf (s .state
   unfolding publishOutput lower bytes view outputOf
   publish-output = lower-output s (publish out work) publish-passes
 
-  pub publish-work : handed s (publish out work) .free ≡ false
-      → firstOf (Publish.publishChecks (unsound (kept (s .key))) (kept (s .key)) out work) ≡ 0 → ⊥
-  unfolding handed freed publishChecks heldBy view firstOf
-  publish-work f z =
-      true≢false
-      (sym (eq-eqb _ 0 (ap (λ (b : Bool). cond b 21 (firstOf (Publish.publishChecks (unsound (kept (s .key))) (kept (s .key)) out work))) keyed ∙ z))
-      ∙ sym (step-free (view s) (publish out work)) ∙ f)
+  pub publish-work : (before after : List ℕ) → (let f = freeBytes (kept (s .key)) out work in drop f after ≡ drop f before)
+      → (let f = handed s (publish out work) .free in drop f after ≡ drop f before)
+  unfolding handed freed view
+  publish-work before after =
+      subst (λ (f : ℕ). drop f after ≡ drop f before)
+      (sym (step-free (view s) (publish out work) ∙ ap (λ (b : Bool). cond b 0 (freeBytes (kept (s .key)) out work)) keyed))
 
 -- open and read, with a key
 answer-number : (q w : ℕ) → answerNumber (answerOf q w) ≡ q

@@ -14,7 +14,7 @@ use Rattle.code.specs.PublicKey.{publicKey, written}
 use Rattle.code.specs.Publish.{capsuleBits, publishNumber}
 use Rattle.decoder.specs.Reading.{reading, opening}
 use Rattle.decoder.specs.Calls.{found, openNumber, readNumber}
-use Rattle.ledger.specs.Station.{isEmpty, isUnpublished, heldBy, loadConditions, publishChecks, publishConditions, openConditions, readConditions, dropConditions, Result, loadOf, publishOf, gives, openOf, readOf, dropOf}
+use Rattle.ledger.specs.Station.{isEmpty, isUnpublished, heldBy, loadConditions, publishConditions, openConditions, readConditions, dropConditions, Result, loadOf, publishOf, gives, openOf, readOf, dropOf}
 use Rattle.ledger.specs.Station as Definition
 use Rattle.ledger.specs.Calls.{Call, load, publish, open-capsule, read-word, drop-key, conditionsOf, step}
 use Rattle.ledger.specs.Demands.{outputOf}
@@ -56,7 +56,7 @@ lower s (read-word word out) = readNumber (kept (s .key)) word out
 lower s drop-key = 0
 
 number-cond : (s : Station) (c : Call) → callNumber (view s) c ≡ cond (stop s c .0) (stop s c .1) (lower s c)
-unfolding stop lower view heldBy firstOf conditionsOf loadConditions publishChecks publishConditions openConditions readConditions dropConditions publishNumber openNumber readNumber
+unfolding stop lower view heldBy firstOf conditionsOf loadConditions publishConditions openConditions readConditions dropConditions publishNumber openNumber readNumber
 number-cond s (load file) = refl
 number-cond s (publish out work) = refl
 number-cond s (open-capsule capsule out) = refl

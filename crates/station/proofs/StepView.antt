@@ -1,21 +1,21 @@
--- What a call hands back is what the definitions say of the station's view; so after every list of calls. Assumes nothing.
+-- What a call hands back is what the definitions say of the station's view. Assumes nothing.
 use Prim.Native.Nat.{ℕ, zero, suc}
-use mathlib.Core.Path.{_≡_, refl, sym, ap, ap₂, _∙_}
-use mathlib.Core.Bool.{Bool}
-use mathlib.Core.List.{List, [], _∷_}
+use mathlib.Core.Path.{_≡_, refl, sym, ap, _∙_}
+use native.Mathlib.Omega.{arith}
+use mathlib.Core.List.{List}
 use Rattle.key.specs.Keys.{Key, parse}
 use Rattle.key.specs.Kept.{kept, keep, noKey}
 use Rattle.key.proofs.Parse.{length-elements}
 use Rattle.key.proofs.Filled.{kept-keep}
-use Rattle.ledger.specs.Station.{loaded, fresh, Result}
-use Rattle.ledger.specs.Station as Definition
+use Rattle.ledger.specs.Station.{loaded, emptyKey, fresh, Result}
 use Rattle.ledger.specs.Calls.{Call, load, publish, open-capsule, read-word, drop-key, step}
-use Rattle.ledger.specs.Calls as Calls
+use Rattle.ledger.proofs.StepLaws.{outcome}
 use Rattle.ledger.proofs.StepLaws as Step
-use Rattle.station.specs.Replies.{stateOf, byteOf, view, freshStation, refusal, acceptance, moved, replyOf, handed, run, answered}
-use Rattle.station.specs.Demands.{viewed}
+use Rattle.ledger.proofs.Simulation.{seen, Simulates}
+use Rattle.station.specs.Replies.{stateOf, byteOf, view, freshStation, refusal, acceptance, moved, replyOf, handed, outcomeOf, code}
 use Rattle.station.specs.declared.Station.{Station}
 use Rattle.station.specs.declared.Reply.{Reply}
+use Rattle.station.proofs.ReplyLaws.{reply-refused, reply-accepted}
 
 -- the key that is kept of a file is the file's
 pub kept-parse : (file : List ℕ) → kept (keep (parse file)) ≡ parse file
@@ -24,7 +24,7 @@ kept-parse file = kept-keep (parse file) (length-elements file _ _) (length-elem
 
 -- the fresh station
 pub view-fresh : view freshStation ≡ fresh
-unfolding view stateOf byteOf freshStation kept noKey fresh Definition.noKey
+unfolding view stateOf byteOf freshStation kept noKey fresh emptyKey
 view-fresh = refl
 
 -- the station after an accepted call
@@ -51,24 +51,38 @@ same s c = go (step (view s) c .number) refl
     go (suc n) e =
         record { station = sym (Step.step-stays (view s) c n (sym e)); number = e; count = sym (Step.step-count (view s) c n (sym e)) }
 
-result : {s t : Definition.Station} {n k w v : ℕ} (out : List ℕ) (free : Bool) → s ≡ t → n ≡ k → w ≡ v
-    → _≡_ {A = Result} (record { station = s; number = n; output = out; count = w; free = free }) (record { station = t; number = k; output = out; count = v; free = free })
-result out free p q r = rw (p, q, r)
+-- a refusal's reply is the station as it was, the number, and no ones
+pub refused-reply : (s : Station) (c : Call) (n : ℕ) → handed s c .reply .refused ≡ suc n → handed s c .reply ≡ refusal s (suc n)
+refused-reply s c n e =
+    sym (reply-refused s c (suc n) (sym e ∙ same s c .number ∙ Step.step-number (view s) c) (λ z. omega arith))
 
--- each of the five calls, on every station
-pub reply-step : (s : Station) (c : Call) → viewed (handed s c) ≡ step (view s) c
-unfolding viewed handed
-reply-step s c = let e = same s c in result (step (view s) c .output) (step (view s) c .free) (e .station) (e .number) (e .count)
+-- an accepted call's station
+accepted-station : (s : Station) (c : Call) → handed s c .reply .refused ≡ 0 → handed s c .reply .station ≡ moved s c
+unfolding acceptance
+accepted-station s c e =
+    ap (λ (r : Reply). r .station)
+    (sym (reply-accepted s c (sym (Step.step-number (view s) c) ∙ sym (same s c .number) ∙ e) refl))
 
--- every list of calls
-pub view-run : (s : Station) (calls : List Call) → view (run s calls) ≡ Calls.run (view s) calls
-unfolding run Calls.run
-view-run s [] = refl
-view-run s (c ∷ cs) = view-run (handed s c .reply .station) cs ∙ ap (λ (t : Definition.Station). Calls.run t cs) (same s c .station)
+open-left : (s : Station) (capsule out : List ℕ) → handed s (open-capsule capsule out) .reply .station ≡ s
+unfolding moved refusal
+open-left s capsule out = go (handed s c .reply .refused) refl
+  where
+    c : Call
+    c = open-capsule capsule out
 
-pub view-answered : (s : Station) (calls : List Call) → answered s calls ≡ Calls.answered (view s) calls
-unfolding answered Calls.answered
-view-answered s [] = refl
-view-answered s (c ∷ cs) =
-    ap₂ _∷_ (same s c .number)
-    (view-answered (handed s c .reply .station) cs ∙ ap (λ (t : Definition.Station). Calls.answered t cs) (same s c .station))
+    go : (n : ℕ) → handed s c .reply .refused ≡ n → handed s c .reply .station ≡ s
+    go zero e = accepted-station s c e
+    go (suc n) e = ap (λ (r : Reply). r .station) (refused-reply s c n e)
+
+-- so the code's calls are the definitions' calls
+pub code-simulates : Simulates code
+unfolding seen outcomeOf handed view stateOf byteOf moved refusal
+code-simulates =
+    record {
+      fresh = view-fresh;
+      marked = λ s. refl;
+      steps = λ s c. let e = same s c in outcome (e .station) (e .number) refl (e .count) refl;
+      stays = λ s c n e. ap (λ (r : Reply). r .station) (refused-reply s c n e);
+      marks = λ s out work e. accepted-station s (publish out work) e;
+      opens = open-left;
+    }

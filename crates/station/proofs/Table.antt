@@ -13,30 +13,29 @@ use Rattle.key.specs.Bench.{K1-with}
 use Rattle.key.proofs.Filled.{kept-keep}
 use Rattle.ledger.specs.Station.{empty, loaded, published, Result}
 use Rattle.ledger.specs.Station as Definition
-use Rattle.ledger.specs.Calls.{step}
-use Rattle.ledger.proofs.Table.{Asked, after, on, frees, lock-shape, locks, times, Outcome, free, outcomeOf, rows, running, orders, bad}
+use Rattle.ledger.specs.Calls.{step, run}
+use Rattle.ledger.proofs.Table.{Asked, after, on, frees, lock-shape, locks, times, Answer, free, answerOf, rows, running, orders, bad}
 use Rattle.ledger.proofs.Table as Definitions
-use Rattle.station.specs.Replies.{stateOf, byteOf, view, freshStation, handed, run}
-use Rattle.station.specs.Demands.{viewed}
+use Rattle.ledger.proofs.Simulation.{seen, run-fresh}
+use Rattle.station.specs.Replies.{stateOf, byteOf, view, freshStation, handed, outcomeOf, code}
 use Rattle.station.specs.declared.Station.{Station}
-use Rattle.station.proofs.StepView.{reply-step}
-use Rattle.station.proofs.Demand3.{run-fresh}
+use Rattle.station.proofs.StepView.{code-simulates}
 
 -- the code's station for one of the definitions
 unfoldable pub stored : Definition.Station → Station
 stored s = record { state = byteOf (s .state); key = keep (s .key) }
 
 -- what a row asks, of the code's calls; locking and products are no calls of the station
-unfoldable pub answer : Asked → Outcome
-answer (after calls c) = outcomeOf (viewed (handed (run freshStation calls) c))
-answer (on s c) = outcomeOf (viewed (handed (stored s) c))
+unfoldable pub answer : Asked → Answer
+answer (after calls c) = answerOf (seen code (outcomeOf (handed (run (code .call) freshStation calls) c)))
+answer (on s c) = answerOf (seen code (outcomeOf (handed (stored s) c)))
 answer (frees s c) = free (handed (stored s) c .free)
 answer (lock-shape m n t public pattern out) = Definitions.answer (lock-shape m n t public pattern out)
 answer (locks file pattern out) = Definitions.answer (locks file pattern out)
 answer (times m a b) = Definitions.answer (times m a b)
 
--- every row of the table has its outcome
-abbrev pub Holds : List (Asked × Outcome) → Type 0
+-- every row of the table has its answer
+abbrev pub Holds : List (Asked × Answer) → Type 0
 Holds table = map (λ r. answer (r .0)) table ≡ map (λ r. r .1) table
 
 -- the key's lists have the lengths n and t, so that it can be kept
@@ -51,7 +50,7 @@ fits (lock-shape m n t public pattern out) = true
 fits (locks file pattern out) = true
 fits (times m a b) = true
 
-unfoldable allFit : List (Asked × Outcome) → Bool
+unfoldable allFit : List (Asked × Answer) → Bool
 allFit [] = true
 allFit (r ∷ rs) = fits (r .0) && allFit rs
 
@@ -70,18 +69,18 @@ view-stored s h =
     ap₂ (λ (t : Definition.State) (j : Key). record { state = t; key = j }) (state-for (s .state)) (kept-keep k (eqb-true _ _ a) (eqb-true _ _ b))
 
 same-answer : (a : Asked) → fits a ≡ true → answer a ≡ Definitions.answer a
-unfolding answer fits Definitions.answer viewed
+unfolding answer fits Definitions.answer seen outcomeOf
 same-answer (after calls c) h =
-    ap outcomeOf (reply-step (run freshStation calls) c ∙ ap (λ (s : Definition.Station). step s c) (run-fresh calls))
-same-answer (on s c) h = ap outcomeOf (reply-step (stored s) c ∙ ap (λ (t : Definition.Station). step t c) (view-stored s h))
+    ap answerOf (code-simulates .steps (run (code .call) freshStation calls) c ∙ ap (λ (s : Definition.Station). step s c) (run-fresh code code-simulates calls))
+same-answer (on s c) h = ap answerOf (code-simulates .steps (stored s) c ∙ ap (λ (t : Definition.Station). step t c) (view-stored s h))
 same-answer (frees s c) h =
-    ap (λ (r : Result). free (r .free)) (reply-step (stored s) c ∙ ap (λ (t : Definition.Station). step t c) (view-stored s h))
+    ap (λ (r : Result). free (r .free)) (code-simulates .steps (stored s) c ∙ ap (λ (t : Definition.Station). step t c) (view-stored s h))
 same-answer (lock-shape m n t public pattern out) h = refl
 same-answer (locks file pattern out) h = refl
 same-answer (times m a b) h = refl
 
--- a table of rows that fit has the same outcomes
-same-answers : (table : List (Asked × Outcome)) → allFit table ≡ true → map (λ r. answer (r .0)) table ≡ map (λ r. Definitions.answer (r .0)) table
+-- a table of rows that fit has the same answers
+same-answers : (table : List (Asked × Answer)) → allFit table ≡ true → map (λ r. answer (r .0)) table ≡ map (λ r. Definitions.answer (r .0)) table
 unfolding allFit
 same-answers [] h = refl
 same-answers (r ∷ rs) h =

@@ -1,8 +1,7 @@
 -- What the five calls hand back: the numbers, ones and bytes of the station's definitions, and the new station with its arrays.
 -- Assumes nothing.
 use Prim.Native.Nat.{ℕ, zero, suc}
-use mathlib.Core.Bool.{Bool}
-use mathlib.Core.List.{List, [], _∷_}
+use mathlib.Core.List.{List}
 use Rattle.key.specs.Keys.{parse}
 use Rattle.key.specs.Kept.{kept, keep, noKey}
 use Rattle.key.specs.declared.shape.ShapeAnswer.{ShapeAnswer}
@@ -11,8 +10,10 @@ use Rattle.publishing.specs.declared.Published.{Published}
 use Rattle.publishing.specs.declared.Published.the-variants as published
 use Rattle.reading.specs.declared.calls.Answer.{Answer}
 use Rattle.reading.specs.declared.calls.Answer.the-variants as answers
+use Rattle.ledger.specs.Station.{Outcome}
 use Rattle.ledger.specs.Station as Definition
 use Rattle.ledger.specs.Calls.{Call, load, publish, open-capsule, read-word, drop-key, step}
+use Rattle.ledger.specs.Systems.{System}
 use Rattle.station.specs.declared.Station.{Station}
 use Rattle.station.specs.declared.Reply.{Reply}
 
@@ -68,11 +69,11 @@ unfoldable pub replyOf : ℕ → Station → Station → ℕ → Reply
 replyOf zero s next w = acceptance next w
 replyOf (suc n) s next w = refusal s (suc n)
 
--- What a call leaves: its reply, the output buffer, and whether the contents of publish's workspace are free; else it is unchanged.
+-- What a call leaves: its reply, the output buffer, and how many of the first bytes of publish's workspace have free contents.
 pub record Handed : Type 0 where
   pub reply : Reply
   pub output : List ℕ
-  pub free : Bool
+  pub free : ℕ
 
 -- a call on a station
 unfoldable pub handed : Station → Call → Handed
@@ -80,12 +81,17 @@ handed s c =
     let r : Definition.Result = step (view s) c in
     record { reply = replyOf (r .number) s (moved s c) (r .count); output = r .output; free = r .free }
 
--- the station after a list of calls
-unfoldable pub run : Station → List Call → Station
-run s [] = s
-run s (c ∷ cs) = run (handed s c .reply .station) cs
+-- The code's calls as a system: its stations are the structs with their arrays. The demands are about it.
+unfoldable pub outcomeOf : Handed → Outcome Station
+outcomeOf h =
+    record { station = h .reply .station; number = h .reply .refused; output = h .output; count = h .reply .ones; free = h .free }
 
--- the number that each call was answered with
-unfoldable pub answered : Station → List Call → List ℕ
-answered s [] = []
-answered s (c ∷ cs) = handed s c .reply .refused ∷ answered (handed s c .reply .station) cs
+abbrev pub code : System
+code =
+    record {
+      Stations = Station;
+      fresh = freshStation;
+      view = view;
+      marked = λ s. record { state = byteOf Definition.published; key = s .key };
+      call = λ s c. outcomeOf (handed s c);
+    }

@@ -4,7 +4,8 @@ use key::shape::ShapeAnswer;
 use publishing::Published;
 use reading::Answer;
 ghost use mathlib.Core.Path.{_≡_};
-ghost use mathlib.Core.Bool.{false, not};
+ghost use mathlib.Core.Bool.{not};
+ghost use lib.ListN.{drop};
 ghost use Rattle.ledger.specs.Station.{isEmpty, isUnpublished};
 ghost use Rattle.ledger.specs.Calls.{load, publish, open-capsule, read-word, drop-key};
 ghost use Rattle.station.specs.Replies.{stateOf, loadedNumber, publishedNumber, answerNumber, freshStation, refusal, acceptance, handed};
@@ -145,12 +146,13 @@ impl Station {
         }
     }
 
-    // T is written from the output's start, made in work; 21, 25, 10, 11 or 23 on refusal.
+    // T is written from the output's start, made in the first m·t × ceil(n/8) bytes of work; 21, 25, 10, 11 or 23 on refusal. All
+    // other bytes of work keep their contents, and these too under 21, 25, 10 and 11.
     pub fn publish(self, out: &mut [u8], work: &mut [u8]) -> Reply
         ensures reply { λ r. ⌜ r ≡ handed self (publish (now (out .entry)) (now (work .entry))) .reply ⌝ }
         ensures output { λ _. ⌜ now (out .exit) ≡ handed self (publish (now (out .entry)) (now (work .entry))) .output ⌝ }
-        ensures workspace { λ _. ⌜ (handed self (publish (now (out .entry)) (now (work .entry))) .free ≡ false
-            → now (work .exit) ≡ now (work .entry)) ⌝ }
+        ensures workspace { λ _. ⌜ (let f = handed self (publish (now (out .entry)) (now (work .entry))) .free in
+            drop f (now (work .exit)) ≡ drop f (now (work .entry))) ⌝ }
     {
         let state = self.state;
         if is_empty(state) {

@@ -5,12 +5,14 @@ use Prim.Native.Nat.{ℕ, _-_, _*_, _≤_}
 use native.Mathlib.Omega.{arith}
 use borrow.Author.Needs.{needs}
 use lib.ListN.{replicate}
-use Rattle.bits.specs.Bits.{from, bitAt, pack, over}
+use Rattle.bits.specs.Bits.{from, bitAt, unpack, pack, over}
+use Rattle.bits.proofs.Pack.{unpack-over}
 use Rattle.bits.proofs.PutBits.{written-row}
 use Rattle.code.specs.Lock.{lockNumber}
 use Rattle.locking.specs.Locking.{capsuleBit}
-use Rattle.locking.proofs.Numbers.{lock-fits, output-kept, output-written, refused, done}
-use Rattle.locking.proofs.Rows.{row-capsule, lock-bits, read-back}
+use Rattle.code.proofs.LockLaws.{output-written}
+use Rattle.locking.proofs.Numbers.{lock-fits, output-kept, refused, done}
+use Rattle.locking.proofs.Rows.{row-capsule, lock-bits}
 use Rattle.locking.proofs.lock.Statement.{statement}
 use Rattle.locking.proofs.lock.Tie as tie
 
@@ -65,6 +67,7 @@ same-length-2 : tie.Need-same-length-2
 same-length-2 c = search needs
 
 returns-2 : tie.Need-returns-2
+unfolding unpack
 returns-2 c =
     let a = c .before .before .before .before .before .before .before .before .before .before .before .before .args in
     let zero : c .before .before .before .before .before .before .before .refusal .result ≡ 0 = omega arith in
@@ -77,7 +80,7 @@ returns-2 c =
           ∙ written-row _ 0 (a .m * a .t) (a .out .now) (f .room)
           ∙ ap (λ (l : List ℕ). over (pack l) (a .out .now))
           (ap (λ (s : List ℕ). map (bitAt s) (from 0 (a .m * a .t))) (c .before .before .before .before .before .capsule-of .ensures)
-          ∙ read-back (replicate 1024 0) (row-capsule (a .n - a .m * a .t) (a .m * a .t) (a .public .now) (a .pattern .now)))
+          ∙ unpack-over (row-capsule (a .n - a .m * a .t) (a .m * a .t) (a .public .now) (a .pattern .now)) (replicate 1024 0))
           ∙ ap (λ (l : List ℕ). over l (a .out .now)) (sym (lock-bits (a .m) (a .n) (a .t) (a .public .now) (a .pattern .now) small))
           ∙ sym (output-written (a .m) (a .n) (a .t) (a .public .now) (a .pattern .now) (a .out .now) number),
     )

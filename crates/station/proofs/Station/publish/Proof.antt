@@ -21,7 +21,7 @@ returns c =
     let i = c .before .before in
     let a = i .before .before .before .args in
     let t = stopped (a .t1) (publish (a .out .now) (a .work .now)) (sym (i .is-empty .ensures) ∙ c .before .if1 .taken) in
-    (c .refuse .ensures ∙ t .0, (t .1, λ f. refl))
+    (c .refuse .ensures ∙ t .0, (t .1, refl))
 
 publish-requires : tie.Need-publish-requires
 publish-requires c κs = tt
@@ -53,7 +53,7 @@ returns-2 c =
       c .refuse2 .ensures
           ∙ ap (refusal (a .t1)) (c .before .published-number .ensures)
           ∙ publish-refused (a .t1) (a .out .now) (a .work .now) k _ (p .publish .ensures .0) (c .before .before .enum-told2 .given .1),
-      (p .publish .ensures .1 .0 ∙ publish-output (a .t1) (a .out .now) (a .work .now) k, λ f. p .publish .ensures .1 .1 (publish-work (a .t1) (a .out .now) (a .work .now) k f)),
+      (p .publish .ensures .1 .0 ∙ publish-output (a .t1) (a .out .now) (a .work .now) k, publish-work (a .t1) (a .out .now) (a .work .now) k _ _ (p .publish .ensures .1 .1)),
     )
 
 same-length-3 : tie.Need-same-length-3
@@ -70,7 +70,7 @@ returns-3 c =
     let a = l .before .before .before .before .args in
     let k = sym (l .before .is-empty .ensures) ∙ l .if1 .left in (
       publish-done (a .t1) (a .out .now) (a .work .now) k _ (p .publish .ensures .0) (c .before .enum-told .given .1),
-      (p .publish .ensures .1 .0 ∙ publish-output (a .t1) (a .out .now) (a .work .now) k, λ f. p .publish .ensures .1 .1 (publish-work (a .t1) (a .out .now) (a .work .now) k f)),
+      (p .publish .ensures .1 .0 ∙ publish-output (a .t1) (a .out .now) (a .work .now) k, publish-work (a .t1) (a .out .now) (a .work .now) k _ _ (p .publish .ensures .1 .1)),
     )
 
 pub publish-spec : {M : Type 1} → statement M
