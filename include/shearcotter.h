@@ -6,7 +6,7 @@
  * - A refusal writes nothing (but publish's workspace under 23) and hands the caller's station back unchanged.
  * - Refusals are listed in the order in which they are looked for: the first whose condition holds is answered.
  * - Nothing is allocated or kept between calls, so calls may run at once in several threads.
- * - Stack, argument and reply included, in KiB: open and read 170, publish 165, load 101, drop 49, fresh 36, the others 4.
+ * - Stack: enum shearcotter_stack_kib.
  */
 #ifndef SHEARCOTTER_H
 #define SHEARCOTTER_H
@@ -23,6 +23,19 @@ enum shearcotter_limit {
     SHEARCOTTER_MOST_ERRORS = 128,   /* t */
     SHEARCOTTER_LONGEST = 256,       /* elements in the list for a register */
     SHEARCOTTER_COEFFICIENTS = 257   /* of a register's connection polynomial */
+};
+
+/* KiB of stack that a call takes, its argument and reply in the caller included: as measured at (13, 8192, 128), rounded up; the
+ * calls of the field and shape_at take less than one. */
+enum shearcotter_stack_kib {
+    SHEARCOTTER_STACK_FRESH = 57,
+    SHEARCOTTER_STACK_LOAD = 140,
+    SHEARCOTTER_STACK_PUBLISH = 171,
+    SHEARCOTTER_STACK_LOCK = 8,
+    SHEARCOTTER_STACK_OPEN = 192,
+    SHEARCOTTER_STACK_READ = 192,
+    SHEARCOTTER_STACK_DROP = 70,
+    SHEARCOTTER_STACK_REGISTER = 41
 };
 
 /* Byte lengths for the shape (m, n, t), with m*t < n. */
@@ -134,8 +147,8 @@ shearcotter_station shearcotter_fresh(void);
  * Afterwards loaded. Refused: 22, 1, 2, 3, 4, 5, 6, 7. */
 shearcotter_reply shearcotter_load(shearcotter_station station, const uint8_t *file, size_t file_length);
 
-/* Writes the public key, row after row, worked out in `work`, whose contents are free once 21, 25, 10, 11 are passed.
- * Afterwards published. Refused: 21, 25, 10, 11, 23. */
+/* Writes the public key, row after row, worked out in the first SHEARCOTTER_WORK_BYTES of `work`: their contents are free once 21,
+ * 25, 10, 11 are passed; every other byte of it stays. Afterwards published. Refused: 21, 25, 10, 11, 23. */
 shearcotter_reply shearcotter_publish(shearcotter_station station, uint8_t *out, size_t out_length, uint8_t *work,
                                       size_t work_length);
 

@@ -2,6 +2,7 @@
 use super::places::located;
 use super::sums::same;
 use super::sums::word_sums;
+use key::kept::Key;
 ghost use mathlib.Core.Path.{_≡_};
 ghost use mathlib.Core.Bool.{true};
 ghost use mathlib.Core.Option.{none};
@@ -57,8 +58,8 @@ pub fn decode<'a>(
     m: u8,
     n: u16,
     t: u16,
-    support: &'a [u16; 8192],
-    g: &'a [u16; 128],
+    support: &'a [u16; Key::MOST_PLACES],
+    g: &'a [u16; Key::MOST_ERRORS],
     word: &[u8],
 ) -> Found
     ensures { λ r. ⌜ r ≡ foundOf (decoded (kept (parts m n t (now (support .entry)) (now (g .entry)))) (unpack n (now (word .entry)))) ⌝ }

@@ -11,11 +11,11 @@ ghost use Rattle.decoder.specs.Decoding.{backward as backwardOf, places};
 ghost use Rattle.decoding.specs.Parts.{mark as markOf, packed};
 
 // The coefficients c_l, .., c_1, with zeros behind them.
-fn backward(c: [u16; 257], l: usize) -> [u16; 256]
+fn backward(c: [u16; Registered::COEFFICIENTS], l: usize) -> [u16; Registered::LONGEST]
     requires { ⌜ l ≤ 256 ⌝ }
     ensures { λ r. ⌜ r ≡ padded 256 (backwardOf c l) ⌝ }
 {
-    let mut q = [0u16; 256];
+    let mut q = [0u16; Registered::LONGEST];
     let mut i = 0;
     while i < l {
         let j = l - i;

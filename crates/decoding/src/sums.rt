@@ -1,5 +1,6 @@
 // The 2t sums of a word.
 use super::points::chosen;
+use register::Registered;
 ghost use mathlib.Core.Path.{_≡_};
 ghost use mathlib.Core.Bool.{true};
 ghost use mathlib.Core.List.{map};
@@ -55,13 +56,13 @@ fn block_sums(m: u8, g: &[u16], s: &mut [u16], p: &mut [u16], points: &[u16])
 }
 
 // The sums of a^k / g(a)² over the points a, k below 2t, with zeros behind them, in blocks of 64 points.
-fn point_sums(m: u8, g: &[u16], points: &[u16]) -> [u16; 256]
+fn point_sums(m: u8, g: &[u16], points: &[u16]) -> [u16; Registered::LONGEST]
     requires { ⌜ (isWidth m ≡ true) × (length (now points) ≤ 8192) × (length (now g) ≤ 128) ⌝ }
     ensures { λ r. ⌜ r ≡ padded 256 (pointSums m (now (g .entry)) (now (points .entry))) ⌝ }
 {
     let n = points.len();
     let mut p = weights(m, g, points);
-    let mut s = [0u16; 256];
+    let mut s = [0u16; Registered::LONGEST];
     let mut at = 0;
     while at < n {
         let e = bits::smaller(at + 64, n);
@@ -72,7 +73,7 @@ fn point_sums(m: u8, g: &[u16], points: &[u16]) -> [u16; 256]
 }
 
 // The 2t sums of a word, with zeros behind them.
-pub fn word_sums(m: u8, support: &[u16], g: &[u16], word: &[u8]) -> [u16; 256]
+pub fn word_sums(m: u8, support: &[u16], g: &[u16], word: &[u8]) -> [u16; Registered::LONGEST]
     requires { ⌜ (isWidth m ≡ true) × (length (now support) ≤ 8192) × (length (now g) ≤ 128) ⌝ }
     ensures { λ r. ⌜ r ≡ padded 256 (squareSums (keyOf m (now (support .entry)) (now (g .entry))) (unpack (length (now (support .entry))) (now (word .entry)))) ⌝ }
 {

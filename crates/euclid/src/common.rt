@@ -19,13 +19,18 @@ ghost use Rattle.euclid.specs.Euclid.{
 // A polynomial: the first length coefficients of c, of which the last is not 0; the others are 0.
 pub struct Divisor {
     pub length: usize,
-    pub c: [u16; 129],
+    pub c: [u16; Divisor::COEFFICIENTS],
+}
+
+impl Divisor {
+    // The most coefficients.
+    pub const COEFFICIENTS: usize = 129;
 }
 
 // Two polynomials a and b, whose coefficients from da and from db on are 0.
 struct Pair {
-    a: [u16; 129],
-    b: [u16; 129],
+    a: [u16; Divisor::COEFFICIENTS],
+    b: [u16; Divisor::COEFFICIENTS],
     da: usize,
     db: usize,
 }
@@ -37,7 +42,7 @@ pub fn common_divisor(m: u8, a: &[u16], b: &[u16]) -> Divisor
 {
     let none = Divisor {
         length: 0,
-        c: [0u16; 129],
+        c: [0u16; Divisor::COEFFICIENTS],
     };
     if !accepted(m, a) {
         return none;
@@ -57,7 +62,7 @@ fn accepted(m: u8, p: &[u16]) -> bool
     if field::modulus(m) == 0 {
         return false;
     }
-    if 129 < p.len() {
+    if Divisor::COEFFICIENTS < p.len() {
         return false;
     }
     field::elements(m, p)
@@ -78,11 +83,11 @@ fn size(p: &[u16]) -> usize
 }
 
 // The coefficients of p, with zeros behind them.
-pub(crate) fn load(p: &[u16]) -> [u16; 129]
+pub(crate) fn load(p: &[u16]) -> [u16; Divisor::COEFFICIENTS]
     requires { ⌜ length (now p) ≤ 129 ⌝ }
     ensures { λ r. ⌜ r ≡ padded 129 (now (p .entry)) ⌝ }
 {
-    let mut a = [0u16; 129];
+    let mut a = [0u16; Divisor::COEFFICIENTS];
     let mut i = 0;
     while i < p.len() {
         a[i] = p[i];
@@ -105,18 +110,23 @@ fn start(a: &[u16], b: &[u16]) -> Pair
 }
 
 // c·b.
-fn multiple(m: u8, c: u16, b: [u16; 129]) -> [u16; 129]
+fn multiple(m: u8, c: u16, b: [u16; Divisor::COEFFICIENTS]) -> [u16; Divisor::COEFFICIENTS]
     requires { ⌜ isWidth m ≡ true ⌝ }
     ensures { λ r. ⌜ r ≡ map (mul m c) b ⌝ }
 {
     let mut r = b;
-    let s = [c; 129];
+    let s = [c; Divisor::COEFFICIENTS];
     field_places::horner_each(m, &mut r, &s, 0);
     r
 }
 
 // a + x^y·b, of which the coefficients from n on are a's.
-fn add_shifted(y: usize, n: usize, a: [u16; 129], b: [u16; 129]) -> [u16; 129]
+fn add_shifted(
+    y: usize,
+    n: usize,
+    a: [u16; Divisor::COEFFICIENTS],
+    b: [u16; Divisor::COEFFICIENTS],
+) -> [u16; Divisor::COEFFICIENTS]
     requires { ⌜ (y ≤ n) × (n ≤ 129) ⌝ }
     ensures { λ r. ⌜ r ≡ added y n a b ⌝ }
 {

@@ -1,4 +1,5 @@
 // Whether a square of a polynomial of degree 1 or more divides a monic polynomial: Euclid's algorithm on g and g'.
+use super::common::Divisor;
 use super::common::common_divisor;
 use super::common::load;
 use super::derivative;
@@ -10,7 +11,7 @@ ghost use Rattle.poly.specs.Polynomials.{monic as monicOf};
 ghost use Rattle.euclid.specs.Euclid.{squareTest};
 
 // g with its leading 1, and zeros behind it.
-fn monic(g: &[u16]) -> [u16; 129]
+fn monic(g: &[u16]) -> [u16; Divisor::COEFFICIENTS]
     requires { ⌜ length (now g) ≤ 128 ⌝ }
     ensures { λ r. ⌜ r ≡ padded 129 (monicOf (now (g .entry))) ⌝ }
 {
@@ -25,7 +26,7 @@ fn monic(g: &[u16]) -> [u16; 129]
 pub fn has_square(m: u8, g: &[u16]) -> bool
     ensures { λ r. ⌜ r ≡ squareTest m (now (g .entry)) ⌝ }
 {
-    if 128 < g.len() {
+    if Divisor::COEFFICIENTS <= g.len() {
         return false;
     }
     let a = monic(g);

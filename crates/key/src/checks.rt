@@ -1,4 +1,5 @@
 // The check of a kept key.
+use super::kept::Key;
 use super::shape::in_limits;
 use field::Verdict;
 ghost use mathlib.Core.Path.{_≡_};
@@ -82,7 +83,13 @@ fn faults(m: u8, s: &[u16], g: &[u16]) -> Verdict
 }
 
 // Whether a kept key, lent by its parts, is one that load accepts: 1, 2, 3, 4, 5, 6 or 7 on refusal.
-pub fn check<'a>(m: u8, n: u16, t: u16, support: &'a [u16; 8192], g: &'a [u16; 128]) -> Verdict
+pub fn check<'a>(
+    m: u8,
+    n: u16,
+    t: u16,
+    support: &'a [u16; Key::MOST_PLACES],
+    g: &'a [u16; Key::MOST_ERRORS],
+) -> Verdict
     ensures { λ r. ⌜ r ≡ verdictOf (keyNumber (kept (parts m n t (now (support .entry)) (now (g .entry))))) ⌝ }
 {
     let s = &support[..];

@@ -8,13 +8,16 @@ pub struct Key {
     pub m: u8,
     pub n: u16,
     pub t: u16,
-    pub support: [u16; 8192],
-    pub g: [u16; 128],
+    pub support: [u16; Key::MOST_PLACES],
+    pub g: [u16; Key::MOST_ERRORS],
 }
 
 impl Key {
+    // The limit on n.
+    pub const MOST_PLACES: usize = 8192;
+
     // The limit on t.
-    pub const MOST_ERRORS: u16 = 128;
+    pub const MOST_ERRORS: usize = 128;
 }
 
 // The key of zeros.
@@ -25,7 +28,7 @@ pub fn none() -> Key
         m: 0,
         n: 0,
         t: 0,
-        support: [0; 8192],
-        g: [0; 128],
+        support: [0; Key::MOST_PLACES],
+        g: [0; Key::MOST_ERRORS],
     }
 }

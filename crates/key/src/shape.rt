@@ -65,7 +65,7 @@ pub fn in_limits(m: u8, n: u16, t: u16) -> bool
     if t < 1 {
         return false;
     }
-    if Key::MOST_ERRORS < t {
+    if Key::MOST_ERRORS < t as usize {
         return false;
     }
     if (n as u32) <= (m as u32) * (t as u32) {

@@ -1,6 +1,7 @@
 // Key files (document 01, 'Keys').
 use field::Verdict;
 use key::checks::check;
+use key::kept::Key;
 use key::shape::ShapeAnswer;
 use key::shape::Sizes;
 use key::shape::in_limits;
@@ -75,7 +76,11 @@ fn fill(out: &mut [u16], file: &[u8], at: usize, n: usize)
 }
 
 // The file's elements from the start of the arrays, for a right header.
-fn fill_key<'a, 'b>(file: &[u8], support: &'a mut [u16; 8192], g: &'b mut [u16; 128]) -> Sizes
+fn fill_key<'a, 'b>(
+    file: &[u8],
+    support: &'a mut [u16; Key::MOST_PLACES],
+    g: &'b mut [u16; Key::MOST_ERRORS],
+) -> Sizes
     requires { ⌜ firstOf (take 3 (fileConditions (now file))) ≡ 0 ⌝ }
     ensures { λ r. ⌜ r ≡ sizesOf (parse (now (file .entry))) ⌝ }
     ensures { λ _. ⌜ now (support .exit) ≡ over (parse (now (file .entry)) .support) (now (support .entry)) ⌝ }
@@ -96,15 +101,19 @@ fn check_file(file: &[u8]) -> Verdict
     let Verdict::Accepted = x else {
         return x;
     };
-    let mut support = [0u16; 8192];
-    let mut g = [0u16; 128];
+    let mut support = [0u16; Key::MOST_PLACES];
+    let mut g = [0u16; Key::MOST_ERRORS];
     let z = fill_key(file, &mut support, &mut g);
     check(z.m, z.n, z.t, &support, &g)
 }
 
 // The shape of a file's key, whose elements are written from the start of the arrays; 1, 2, 3, 4, 5, 6 or 7 on refusal,
 // which writes nothing.
-pub fn load<'a, 'b>(file: &[u8], support: &'a mut [u16; 8192], g: &'b mut [u16; 128]) -> ShapeAnswer
+pub fn load<'a, 'b>(
+    file: &[u8],
+    support: &'a mut [u16; Key::MOST_PLACES],
+    g: &'b mut [u16; Key::MOST_ERRORS],
+) -> ShapeAnswer
     ensures answer { λ r. ⌜ r ≡ loadedOf (now (file .entry)) ⌝ }
     ensures support { λ _. ⌜ now (support .exit) ≡ over (writtenOf (now (file .entry)) .support) (now (support .entry)) ⌝ }
     ensures g { λ _. ⌜ now (g .exit) ≡ over (writtenOf (now (file .entry)) .g) (now (g .entry)) ⌝ }

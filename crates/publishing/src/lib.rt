@@ -3,6 +3,7 @@ mod parity;
 mod rows;
 
 use field::Verdict;
+use key::kept::Key;
 ghost use mathlib.Core.Path.{_≡_};
 ghost use mathlib.Core.Bool.{cond};
 ghost use lib.ListN.{length, drop};
@@ -20,8 +21,8 @@ fn check<'a>(
     m: u8,
     n: u16,
     t: u16,
-    support: &'a [u16; 8192],
-    g: &'a [u16; 128],
+    support: &'a [u16; Key::MOST_PLACES],
+    g: &'a [u16; Key::MOST_ERRORS],
     out: usize,
     work: usize,
 ) -> Verdict
@@ -46,8 +47,8 @@ fn make<'a>(
     m: u8,
     n: u16,
     t: u16,
-    support: &'a [u16; 8192],
-    g: &'a [u16; 128],
+    support: &'a [u16; Key::MOST_PLACES],
+    g: &'a [u16; Key::MOST_ERRORS],
     out: &mut [u8],
     work: &mut [u8],
 ) -> Verdict
@@ -74,8 +75,8 @@ pub fn publish<'a>(
     m: u8,
     n: u16,
     t: u16,
-    support: &'a [u16; 8192],
-    g: &'a [u16; 128],
+    support: &'a [u16; Key::MOST_PLACES],
+    g: &'a [u16; Key::MOST_ERRORS],
     out: &mut [u8],
     work: &mut [u8],
 ) -> Verdict

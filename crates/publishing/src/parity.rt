@@ -1,4 +1,5 @@
 // Rows of H in a lent workspace.
+use key::kept::Key;
 ghost use mathlib.Core.Path.{_≡_};
 ghost use mathlib.Core.Bool.{true};
 ghost use Prim.Native.Nat.{_*_, _≤_, _<_};
@@ -67,8 +68,8 @@ pub fn key_rows<'a>(
     m: u8,
     n: usize,
     t: usize,
-    support: &'a [u16; 8192],
-    g: &'a [u16; 128],
+    support: &'a [u16; Key::MOST_PLACES],
+    g: &'a [u16; Key::MOST_ERRORS],
 )
     requires { ⌜ (isWidth m ≡ true) × (n ≤ 8192) × (t ≤ 128) × (m * t * bytesFor n ≤ length (now work)) ⌝ }
     ensures rows { λ _. ⌜ rowsOf (m * t) n (now (work .exit)) ≡ parityRows (keyOf m (take n (now (support .entry))) (take t (now (g .entry)))) ⌝ }

@@ -3,6 +3,7 @@ use decoding::Found;
 use decoding::decode;
 use field::Verdict;
 use key::checks::check;
+use key::kept::Key;
 ghost use mathlib.Core.Path.{_≡_};
 ghost use mathlib.Core.Bool.{not};
 ghost use Prim.Native.Nat.{_≤_};
@@ -41,8 +42,8 @@ fn check_word<'a>(
     m: u8,
     n: u16,
     t: u16,
-    support: &'a [u16; 8192],
-    g: &'a [u16; 128],
+    support: &'a [u16; Key::MOST_PLACES],
+    g: &'a [u16; Key::MOST_ERRORS],
     word: &[u8],
     len: usize,
 ) -> Verdict
@@ -60,8 +61,8 @@ fn check_capsule<'a>(
     m: u8,
     n: u16,
     t: u16,
-    support: &'a [u16; 8192],
-    g: &'a [u16; 128],
+    support: &'a [u16; Key::MOST_PLACES],
+    g: &'a [u16; Key::MOST_ERRORS],
     published: bool,
     capsule: &[u8],
     len: usize,
@@ -116,8 +117,8 @@ pub fn read<'a>(
     m: u8,
     n: u16,
     t: u16,
-    support: &'a [u16; 8192],
-    g: &'a [u16; 128],
+    support: &'a [u16; Key::MOST_PLACES],
+    g: &'a [u16; Key::MOST_ERRORS],
     word: &[u8],
     out: &mut [u8],
 ) -> Answer
@@ -142,8 +143,8 @@ pub fn open<'a>(
     m: u8,
     n: u16,
     t: u16,
-    support: &'a [u16; 8192],
-    g: &'a [u16; 128],
+    support: &'a [u16; Key::MOST_PLACES],
+    g: &'a [u16; Key::MOST_ERRORS],
     published: bool,
     capsule: &[u8],
     out: &mut [u8],

@@ -27,14 +27,14 @@ ghost use Rattle.register.specs.Registered.{figure, registeredOf};
 pub struct Registered {
     pub refused: u8,
     pub length: usize,
-    pub c: [u16; 257],
+    pub c: [u16; Registered::COEFFICIENTS],
 }
 
 // Figure 1's C(x), l, B(x), d_m and y.
 struct State {
-    c: [u16; 257],
+    c: [u16; Registered::COEFFICIENTS],
     l: usize,
-    b: [u16; 257],
+    b: [u16; Registered::COEFFICIENTS],
     d: u16,
     y: usize,
 }
@@ -128,7 +128,7 @@ fn discrepancy(m: u8, s: &[u16], r: State, n: usize) -> u16
 }
 
 // s_{n-i} at the places i from 1 to l.
-fn earlier(s: &[u16], n: usize, l: usize) -> [u16; 257]
+fn earlier(s: &[u16], n: usize, l: usize) -> [u16; Registered::COEFFICIENTS]
     requires { ⌜ (l ≤ n) × (n < length (now s)) × (n < 256) ⌝ }
     ensures { λ w. ⌜ Earlier (now (s .entry)) n (l + 1) w ⌝ }
 {
@@ -142,7 +142,7 @@ fn earlier(s: &[u16], n: usize, l: usize) -> [u16; 257]
 }
 
 // x + the sum of p's places 1 to l.
-fn total(x: u16, p: [u16; 257], l: usize) -> u16
+fn total(x: u16, p: [u16; Registered::COEFFICIENTS], l: usize) -> u16
     requires { ⌜ l ≤ 256 ⌝ }
     ensures { λ d. ⌜ d ≡ x ⊕ sum (map (λ i. getD p i 0) (from 1 l)) ⌝ }
 {
@@ -193,7 +193,7 @@ fn turn(m: u8, d: u16, n: usize, r: State) -> State
 }
 
 // Lines 7 and 11: C(x) - d·d_m^(-1)·x^y·B(x), the multiple of B(x) over all places at once.
-fn corrected(m: u8, r: State, d: u16) -> [u16; 257]
+fn corrected(m: u8, r: State, d: u16) -> [u16; Registered::COEFFICIENTS]
     requires { ⌜ (isWidth m ≡ true) × (r .y ≤ 256) ⌝ }
     ensures { λ c. ⌜ c ≡ correctedOf m (figure r) d ⌝ }
 {
@@ -206,7 +206,11 @@ fn corrected(m: u8, r: State, d: u16) -> [u16; 257]
 }
 
 // c + x^y·p, as far as c goes.
-fn added(c: [u16; 257], p: [u16; 257], y: usize) -> [u16; 257]
+fn added(
+    c: [u16; Registered::COEFFICIENTS],
+    p: [u16; Registered::COEFFICIENTS],
+    y: usize,
+) -> [u16; Registered::COEFFICIENTS]
     requires { ⌜ y ≤ 256 ⌝ }
     ensures { λ r. ⌜ r ≡ xorRow c (replicate y 0 ++ p) ⌝ }
 {

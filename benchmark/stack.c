@@ -1,0 +1,95 @@
+/* The stack that each call takes at (13, 8192, 128), its caller's argument and reply included: a thread's stack is filled with a
+   mark, the thread makes one call, and the lowest byte that lost its mark is looked for. What a thread without a call takes is
+   left out. Fails where a call takes more KiB than the header says. */
+#include <pthread.h>
+#include <stdio.h>
+#include <stdlib.h>
+#include <string.h>
+
+#include "shearcotter.h"
+
+enum { SIZE = 1 << 20, MARK = 0xA5, M = 13, N = 8192, T = 128 };
+
+static uint8_t file[1 << 15], public_key[1 << 21], work[1 << 21], pattern[N / 8], capsule[M * T / 8], out[N / 8];
+static uint16_t list[SHEARCOTTER_LONGEST];
+static size_t size;
+static shearcotter_station station;
+static volatile int refused;
+
+static void *nothing(void *none) { return none; }
+
+static void *fresh(void *none) { station = shearcotter_fresh(); return none; }
+
+#define CALL(name, call) \
+    static void *name(void *none) \
+    { \
+        shearcotter_reply reply = call; \
+        station = reply.station; \
+        refused = reply.refused; \
+        return none; \
+    }
+
+CALL(load, shearcotter_load(station, file, size))
+CALL(publish, shearcotter_publish(station, public_key, sizeof public_key, work, sizeof work))
+CALL(open_capsule, shearcotter_open(station, capsule, sizeof capsule, out, sizeof out))
+CALL(read_word, shearcotter_read(station, pattern, sizeof pattern, out, sizeof out))
+CALL(drop, shearcotter_drop(station))
+
+static void *lock(void *none)
+{
+    refused = shearcotter_lock(M, N, T, public_key, SHEARCOTTER_PUBLIC_BYTES(M, N, T), pattern, sizeof pattern, capsule,
+                               sizeof capsule);
+    return none;
+}
+
+static void *shortest_register(void *none)
+{
+    shearcotter_register found = shearcotter_shortest_register(M, list, SHEARCOTTER_LONGEST);
+    refused = found.refused;
+    return none;
+}
+
+/* The bytes of stack that a thread takes. */
+static size_t taken(void *(*call)(void *))
+{
+    unsigned char *stack = aligned_alloc(4096, SIZE);
+    pthread_attr_t attributes;
+    pthread_t thread;
+    size_t low = 0;
+    memset(stack, MARK, SIZE);
+    if (pthread_attr_init(&attributes) || pthread_attr_setstack(&attributes, stack, SIZE) ||
+        pthread_create(&thread, &attributes, call, NULL) || pthread_join(thread, NULL))
+        exit(2);
+    while (low < SIZE && stack[low] == MARK)
+        low++;
+    free(stack);
+    return SIZE - low;
+}
+
+static int failed;
+
+static void measure(const char *name, void *(*call)(void *), size_t stated)
+{
+    size_t kib = (taken(call) - taken(nothing) + 1023) / 1024;
+    printf("%-9s %4zu KiB, stated %zu\n", name, kib, stated);
+    failed |= refused != 0 || kib > stated;
+}
+
+int main(int count, char **words)
+{
+    FILE *key = count == 2 ? fopen(words[1], "rb") : NULL;
+    size = key ? fread(file, 1, sizeof file, key) : 0;
+    memset(pattern, 0xFF, T / 8);
+    for (int i = 0; i < SHEARCOTTER_LONGEST; i++)
+        list[i] = (uint16_t)(i * i % (1 << M));
+    measure("fresh", fresh, SHEARCOTTER_STACK_FRESH);
+    measure("load", load, SHEARCOTTER_STACK_LOAD);
+    measure("publish", publish, SHEARCOTTER_STACK_PUBLISH);
+    measure("lock", lock, SHEARCOTTER_STACK_LOCK);
+    measure("open", open_capsule, SHEARCOTTER_STACK_OPEN);
+    measure("read", read_word, SHEARCOTTER_STACK_READ);
+    measure("drop", drop, SHEARCOTTER_STACK_DROP);
+    measure("register", shortest_register, SHEARCOTTER_STACK_REGISTER);
+    puts(failed ? "stack: a call takes more than the header says, or was refused" : "stack: no call takes more than the header says");
+    return failed;
+}
