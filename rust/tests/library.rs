@@ -4,7 +4,7 @@ use std::mem::size_of;
 
 use shearcotter::{field, lock_into, raw, register, Refusal, Shape, Station};
 
-use crate::bench_keys::K1;
+use crate::bench_keys::{K1, K3};
 
 #[test]
 fn refusals_have_their_numbers_and_words() {
@@ -59,12 +59,17 @@ fn sizes_of_the_structs() {
 fn lent_buffers() {
     let mut station = Station::fresh();
     station.load(&K1).expect("load accepts");
-    let (mut out, mut work) = ([7; 6], [7; 4]);
+    let (mut out, mut work) = ([7; 6], [7; 6]);
     assert_eq!(station.publish_into(&mut out[..3], &mut work), Err(Refusal::OutputShort));
     assert_eq!(station.publish_into(&mut out, &mut work[..3]), Err(Refusal::WorkspaceShort));
-    assert_eq!((out, work), ([7; 6], [7; 4]));
+    assert_eq!((out, work), ([7; 6], [7; 6]));
     assert_eq!(station.publish_into(&mut out, &mut work), Ok(()));
-    assert_eq!(out, [3, 1, 2, 0, 7, 7]);
+    assert_eq!((out, &work[4..]), ([3, 1, 2, 0, 7, 7], &[7; 2][..]));
+    let mut dependent = Station::fresh();
+    dependent.load(&K3).expect("load accepts");
+    let (mut none, mut work) = ([7; 6], [7; 6]);
+    assert_eq!(dependent.publish_into(&mut none, &mut work), Err(Refusal::Dependent));
+    assert_eq!((none, &work[4..]), ([7; 6], &[7; 2][..]));
     let mut pattern = [7; 2];
     assert_eq!(station.open_into(&[3], &mut pattern[..0]), Err(Refusal::OutputShort));
     assert_eq!(station.read_into(&[0x24], &mut pattern[..0]), Err(Refusal::OutputShort));

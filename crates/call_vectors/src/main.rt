@@ -6,12 +6,12 @@ use key::kept::Key;
 use libc::STDOUT_FILENO;
 use station::Reply;
 use station::Station;
+use vectors::line::Bytes;
 use vectors::line::FILLER;
 use vectors::line::bytes_of;
 use vectors::line::end;
 use vectors::line::holds;
 use vectors::line::letter;
-use vectors::line::no_bytes;
 use vectors::line::number_of;
 use vectors::line::output;
 use vectors::line::refused;
@@ -69,16 +69,33 @@ fn loads(station: Station, line: &[u8]) -> Outcome {
     outcome_of(station.load(&file[..n]), line, 3, true)
 }
 
-// The workspace keeps its filler unless elimination ran: T is written, or the number is 23.
+// The bytes of the workspace that are free: those it needs at m = 4, m·t·ceil(n/8), once the checks before 23 have passed.
+fn free_bytes(key: Key, number: u8) -> usize {
+    if number != 0 && number != 23 {
+        return 0;
+    }
+    let rows = 4 * ((key.t % 4) as usize);
+    if key.n <= 8 { rows } else { 2 * rows }
+}
+
+// The bytes of the workspace that are not free keep their filler.
 fn publishes(station: Station, line: &[u8]) -> Outcome {
+    let key = station.key;
     let mut out = [FILLER; 64];
     let mut work = [FILLER; 64];
     let n = size(&out, count(line, 1));
     let w = size(&work, count(line, 2));
     let r = station.publish(&mut out[..n], &mut work[..w]);
-    let x = r.refused;
-    let kept = x == 0 || x == 23 || holds(&work, no_bytes());
-    outcome_of(r, line, 4, kept && holds(&out, output(line, 4)))
+    let free = Bytes {
+        bytes: work,
+        count: free_bytes(key, r.refused),
+    };
+    outcome_of(
+        r,
+        line,
+        4,
+        holds(&work, free) && holds(&out, output(line, 4)),
+    )
 }
 
 fn opens(station: Station, line: &[u8]) -> Outcome {

@@ -79,15 +79,15 @@ module _ (p : ℕ → Bool) where
       )))
 
 -- the places are n bits
-pub row-places : (k : Key) → Accepted k → (r : Register) → Row (k .n) (places k r)
+pub row-places : (k : Key) → length (k .support) ≡ k .n → (r : Register) → Row (k .n) (places k r)
 unfolding places
-row-places k A r =
-    subst (λ (i : ℕ). Row i (places k r)) (A .support-length)
+row-places k size r =
+    subst (λ (i : ℕ). Row i (places k r)) size
     (row-marks (λ a. eqb (value (k .m) (monic (reversed r)) a) 0) (k .support))
 
-pub row-located : (k : Key) → Accepted k → (w : List ℕ) → Row (k .n) (located k w)
+pub row-located : (k : Key) → length (k .support) ≡ k .n → (w : List ℕ) → Row (k .n) (located k w)
 unfolding located
-row-located k A w = row-places k A (register (k .m) (squareSums k w))
+row-located k size w = row-places k size (register (k .m) (squareSums k w))
 
 module _ (k : Key) (A : Accepted k) where
   -- the reversed polynomial for the sums of a pattern with at most t ones is 0 exactly at the pattern's points
@@ -150,7 +150,7 @@ reading-explained k A {w} r = go (reading k w) refl
     go none h =
         h ∙ sym (explained-none k w (λ few e.
         reading-complete k w h (located k w)
-        record { bits = row-located k A w; few = few; code = code-same k A r (row-located k A w) .1 e }))
+        record { bits = row-located k (A .support-length) w; few = few; code = code-same k A r (row-located k (A .support-length) w) .1 e }))
     go (some e) h =
         let c : Corrects k w e = reading-sound k w e h in
         let l : located k w ≡ e = located-corrects k A r c in

@@ -19,22 +19,18 @@ use Rattle.field.specs.Poly.{value}
 use Rattle.field.proofs.Table.{Width}
 use Rattle.field.proofs.Laws.{mul-zero}
 use Rattle.field.proofs.Gf.{val, val-inj, val-zero, val-xor, val-mul, plus, times, zero-elem, gf}
-use Rattle.field.proofs.Arrays.{Elements, map-elements, value-lt, poly}
+use Rattle.field.proofs.Arrays.{Elements, map-elements, value-nil, value-cons, value-lt, poly}
 use Rattle.poly.specs.Polynomials.{monic}
 use Rattle.poly.specs.Register.{Register}
 use Rattle.poly.proofs.Product.{monic-elements}
-use Rattle.decoder.specs.Decoding.{reversed}
+use Rattle.decoder.specs.Decoding.{backward, reversed}
 
 pub length-reversed : (r : Register) → length (reversed r) ≡ r .l
-unfolding reversed
+unfolding reversed backward
 length-reversed r = length-map-from _ 0 (r .l)
 
--- c_l, .., c_1
-abbrev backward : List ℕ → ℕ → List ℕ
-backward c l = map (λ i. getD c (l - i) 0) (from 0 l)
-
 backward-suc : (c : List ℕ) (l : ℕ) → backward c (suc l) ≡ getD c (suc l) 0 ∷ backward c l
-unfolding from
+unfolding backward from
 backward-suc c l =
     cons-eq (ap (λ (i : ℕ). getD c i 0) (sub-zero (suc l)))
     (map-from _ _ 1 0 l (λ i h. let e : suc l - (1 + i) ≡ l - (0 + i) = omega arith in ap (λ (j : ℕ). getD c j 0) e))
@@ -42,10 +38,13 @@ backward-suc c l =
 module _ (m : ℕ) (W : Width m) where
   -- Horner's rule from c_0 = 1 up to c_l
   backward-value : (c : List ℕ) → getD c 0 0 ≡ 1 → (l a : ℕ) → val m (value m (backward c l ++ (1 ∷ [])) a) ≡ Locator.reversed (gf m W) l (poly m c) (val m a)
-  unfolding from value
-  backward-value c h zero a = ap (val m) (ap (λ (x : ℕ). 1 ⊕ x) (mul-zero m a) ∙ xor-zero 1 ∙ sym h) ∙ sym (mul-pow-zero (gf m W) (poly m c) (val m a))
+  unfolding backward from
+  backward-value c h zero a =
+      ap (val m) (value-cons m 1 [] a ∙ ap (λ (v : ℕ). 1 ⊕ mul m a v) (value-nil m a) ∙ ap (λ (x : ℕ). 1 ⊕ x) (mul-zero m a) ∙ xor-zero 1 ∙ sym h)
+      ∙ sym (mul-pow-zero (gf m W) (poly m c) (val m a))
   backward-value c h (suc l) a =
       ap (λ (x : List ℕ). val m (value m (x ++ (1 ∷ [])) a)) (backward-suc c l)
+      ∙ ap (val m) (value-cons m (getD c (suc l) 0) (backward c l ++ (1 ∷ [])) a)
       ∙ val-xor m (getD c (suc l) 0) (mul m a (value m (backward c l ++ (1 ∷ [])) a))
       ∙ ap (plus m (val m (getD c (suc l) 0))) (val-mul m a (value m (backward c l ++ (1 ∷ [])) a) ∙ ap (times m (val m a)) (backward-value c h l a))
       ∙ sym (mul-pow (gf m W) (poly m c) (val m a) l)
@@ -56,7 +55,7 @@ module _ (m : ℕ) (W : Width m) where
     reversed-value = backward-value (r .c) lead (r .l) a
 
     reversed-lt : Elements m (r .c) → value m (monic (reversed r)) a < 2 ^ m
-    unfolding reversed
+    unfolding reversed backward
     reversed-lt e = value-lt m (monic (reversed r)) (monic-elements m W (reversed r) (map-elements m _ (λ i. e (r .l - i)) (from 0 (r .l)))) a
 
     -- it is 0 at a where the value in the field is

@@ -4,7 +4,7 @@ use mathlib.Core.Path.{_≡_, sym, ap, ap₂, _∙_}
 use mathlib.Core.Logic.{_↔_}
 use mathlib.Core.Bool.{true}
 use mathlib.Core.List.{List, map}
-use Prim.Native.Nat.{ℕ, _+_, _*_, _^_, _<_}
+use Prim.Native.Nat.{ℕ, _+_, _*_, _^_, _≤_, _<_}
 use native.Mathlib.Nat.{zero-add}
 use native.Mathlib.Omega.{arith}
 use lib.ListN.{length, getD}
@@ -18,9 +18,10 @@ use Rattle.bits.proofs.Rows.{row-xorRow}
 use Rattle.bits.proofs.Product.{dot-xorRow}
 use Rattle.algebra.proofs.Points.{pow, powerSum}
 use Rattle.field.specs.Field.{isElement, mul, power, inv}
+use Rattle.field.proofs.Table.{Width}
 use Rattle.field.proofs.Laws.{mul-lt}
 use Rattle.field.proofs.Gf.{val, val-inj, val-zero, val-mul, val-power, times, laws}
-use Rattle.field.proofs.Arrays.{Elements, map-elements}
+use Rattle.field.proofs.Arrays.{Elements, elements-every, map-elements}
 use Rattle.poly.specs.Register.{registerNumber}
 use Rattle.poly.proofs.Answers.{number-none}
 use Rattle.key.specs.Keys.{Key, goppaAt}
@@ -55,12 +56,10 @@ module _ (k : Key) {n : ℕ} {c : List ℕ} (r : Row n c) where
   squareSums-elements = map-elements (k .m) (squareSum k c) squareSum-lt (from 0 (2 * k .t))
 
   pub squareSums-every : every (isElement (k .m)) (squareSums k c) ≡ true
-  unfolding isElement
-  squareSums-every = every-all (isElement (k .m)) (squareSums k c) 0 (λ i h. lt-ltb _ _ (squareSums-elements i))
+  squareSums-every = elements-every (k .m) (squareSums k c) squareSums-elements
 
-  pub squareSums-number : Accepted k → registerNumber (k .m) (squareSums k c) ≡ 0
-  squareSums-number A =
-      number-none (k .m) (squareSums k c) (A .width) (omega (arith, length-squareSums k c, A .limits .few)) squareSums-every
+  pub squareSums-number : Width (k .m) → k .t ≤ 128 → registerNumber (k .m) (squareSums k c) ≡ 0
+  squareSums-number w few = number-none (k .m) (squareSums k c) w (omega (arith, length-squareSums k c, few)) squareSums-every
 
 module _ (k : Key) (A : Accepted k) where
   square-weight : (s a : ℕ) → val (k .m) (squareEntry k s a) ≡ times (k .m) (squareInverse k A (val (k .m) a)) (pow (laws (k .m) (A .width)) (val (k .m) a) s)

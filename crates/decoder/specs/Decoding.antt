@@ -28,9 +28,13 @@ squareEntry k s a = mul (k .m) (power (k .m) a s) (mul (k .m) (inv (k .m) (goppa
 unfoldable pub squareSums : Key → List ℕ → List ℕ
 squareSums k c = map (λ s. dot c (map (squareEntry k s) (k .support))) (from 0 (2 * k .t))
 
--- x^l·C(1/x) by its coefficients below the leading 1: c_l, .., c_1
+-- c_l, .., c_1
+unfoldable pub backward : List ℕ → ℕ → List ℕ
+backward c l = map (λ i. getD c (l - i) 0) (from 0 l)
+
+-- x^l·C(1/x) by its coefficients below the leading 1
 unfoldable pub reversed : Register → List ℕ
-reversed r = map (λ i. getD (r .c) (r .l - i) 0) (from 0 (r .l))
+reversed r = backward (r .c) (r .l)
 
 -- a one at each place of the support where x^l·C(1/x) is 0
 unfoldable pub places : Key → Register → List ℕ

@@ -17,8 +17,8 @@ use Rattle.poly.proofs.Answers.{accepted}
 use Rattle.poly.proofs.AtPoints.{take-values}
 use Rattle.poly.proofs.RegisterLaws.{register-length}
 use Rattle.key.specs.Keys.{keyOf}
-use Rattle.decoder.specs.Decoding.{reversed, places}
-use Rattle.decoding.specs.Parts.{backward, mark, packed}
+use Rattle.decoder.specs.Decoding.{backward, reversed, places}
+use Rattle.decoding.specs.Parts.{mark, packed}
 use Rattle.bits.proofs.Padded.{take-padded}
 
 module _ (c : List ℕ) (l : ℕ) where

@@ -19,7 +19,7 @@ use Rattle.bits.proofs.Padded.{length-padded, padded-at}
 use Rattle.field.specs.Field.{mul, power, inv}
 use Rattle.field.specs.Poly.{value, hornerEach, ofEach}
 use Rattle.field.proofs.Table.{Width}
-use Rattle.field.proofs.Laws.{mul-comm, mul-assoc, mul-lt, one-mul, power-suc}
+use Rattle.field.proofs.Laws.{mul-comm, mul-assoc, mul-lt, one-mul, power-zero, power-suc}
 use Rattle.field.proofs.Places.{hornerEach-width, each-map, take-ofEach, ofEach-square}
 use Rattle.field.specs.PointTable.{multiplesOf, combineEach}
 use Rattle.field.proofs.PointTable.{combineEach-horner}
@@ -35,7 +35,7 @@ module _ (m : ℕ) (w : Width m) (g s : List ℕ) where
   -- a^0 / g(a)² at each point, by g's values v and their inverses h
   pub weights-start : length s ≤ 8192 → (v h p : List ℕ) → v ≡ valuesAt m g s → h ≡ ofEach m (inv m) (take (length s) v)
       → p ≡ hornerEach m 0 h (take (length s) h) → take (length s) p ≡ map (squareEntry (keyOf m s g) 0) s
-  unfolding squareEntry goppaAt keyOf power
+  unfolding squareEntry goppaAt keyOf
   weights-start l v h p ev eh ep =
       let u : List ℕ = map (value m (monic g)) s in
       let sq : ℕ → ℕ = λ x. mul m (inv m x) (inv m x) in
@@ -47,7 +47,9 @@ module _ (m : ℕ) (w : Width m) (g s : List ℕ) where
       ∙ ap (λ (n : ℕ). take n (ofEach m sq u)) (sym e)
       ∙ take-ofEach m sq u w (omega arith)
       ∙ map-map sq (value m (monic g)) s
-      ∙ ap (λ f. map f s) (fun-ext λ a. sym (one-mul m w (mul-lt m (inv m (value m (monic g) a)) (inv m (value m (monic g) a)))))
+      ∙ ap (λ f. map f s) (fun-ext λ a.
+      let y : ℕ = sq (value m (monic g) a) in
+      sym (ap (λ (x : ℕ). mul m x y) (power-zero m a) ∙ one-mul m w (mul-lt m (inv m (value m (monic g) a)) (inv m (value m (monic g) a)))))
 
   entry-next : (k a : ℕ) → mul m (squareEntry (keyOf m s g) k a) a ⊕ 0 ≡ squareEntry (keyOf m s g) (k + 1) a
   unfolding squareEntry keyOf

@@ -7,8 +7,8 @@ ghost use lib.ListN.{length};
 ghost use Rattle.bits.specs.Bits.{padded};
 ghost use Rattle.poly.specs.Register.{register, registerNumber};
 ghost use Rattle.key.specs.Keys.{keyOf};
-ghost use Rattle.decoder.specs.Decoding.{places};
-ghost use Rattle.decoding.specs.Parts.{backward as backwardOf, mark as markOf, packed};
+ghost use Rattle.decoder.specs.Decoding.{backward as backwardOf, places};
+ghost use Rattle.decoding.specs.Parts.{mark as markOf, packed};
 
 // The coefficients c_l, .., c_1, with zeros behind them.
 fn backward(c: [u16; 257], l: usize) -> [u16; 256]

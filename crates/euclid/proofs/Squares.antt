@@ -25,7 +25,7 @@ use Rattle.field.specs.Field.{isElement}
 use Rattle.field.proofs.Table.{Width, by-width}
 use Rattle.field.proofs.Laws.{one-lt}
 use Rattle.field.proofs.Gf.{val, val-zero, one-not-zero, gf}
-use Rattle.field.proofs.Arrays.{Elements, poly, every-elements}
+use Rattle.field.proofs.Arrays.{Elements, poly, every-elements, elements-every}
 use Rattle.poly.specs.Polynomials.{monic, hasSquare}
 use Rattle.poly.proofs.Product.{length-monic, monic-elements, poly-monic}
 use Rattle.poly.proofs.SquareSearch.{hasSquare-separable, separable-hasSquare}
@@ -159,10 +159,6 @@ module _ (m : ℕ) (W : Width m) (g : List ℕ) (d : Divisor) (t : Greatest m W 
       found : 2 ≤ d .length → (b : Bool) → hasSquare m g ≡ b → hasSquare m g ≡ true
       found l true f = f
       found l false f = absurd (not-separable l (hasSquare-separable m W g e f))
-
-elements-every : (m : ℕ) (l : List ℕ) → Elements m l → every (isElement m) l ≡ true
-unfolding isElement
-elements-every m l e = every-all (isElement m) l 0 (λ i h. lt-ltb _ _ (e i))
 
 -- the leading 1 and the zeros behind it are elements
 whole-every : (m : ℕ) → Width m → (g : List ℕ) → every (isElement m) (whole g) ≡ every (isElement m) g

@@ -9,10 +9,11 @@ use native.Mathlib.Decide.{decLt}
 use lib.ListN.{length, getD, set, replicate, List·getD-eq-default}
 use lib.Seq.{ext-getD, getD-set-same, getD-set-other}
 use lib.Pow.{pow-pos}
-use borrow.Author.Tests.{ltb-true}
+use borrow.Author.Tests.{ltb-true, lt-ltb}
+use Rattle.bits.specs.Xor.{_⊕_}
 use Rattle.bits.specs.Bits.{every, xorRow}
 use Rattle.bits.proofs.Xor.{xor-lt}
-use Rattle.bits.proofs.Lists.{every-at}
+use Rattle.bits.proofs.Lists.{every-at, every-all}
 use Rattle.bits.proofs.Rows.{getD-xorRow}
 use Rattle.algebra.proofs.Ring.{zero-add}
 use Rattle.algebra.proofs.Points.{All, Distinct}
@@ -37,11 +38,24 @@ every-elements m xs e k = elim (decLt k (length xs)) [
   | no h ↦ rw (List·getD-eq-default xs 0 {n = k} (omega arith)) (pow-pos m)
 ]
 
+pub elements-every : (m : ℕ) (xs : List ℕ) → Elements m xs → every (isElement m) xs ≡ true
+unfolding isElement
+elements-every m xs e = every-all (isElement m) xs 0 (λ i h. lt-ltb _ _ (e i))
+
 -- what a map makes are elements
 pub map-elements : (m : ℕ) (f : ℕ → ℕ) → ((x : ℕ) → f x < 2 ^ m) → (xs : List ℕ) → Elements m (map f xs)
 map-elements m f h [] k = pow-pos m
 map-elements m f h (x ∷ xs) zero = h x
 map-elements m f h (x ∷ xs) (suc k) = map-elements m f h xs k
+
+-- Horner's rule from the lowest coefficient
+pub value-nil : (m a : ℕ) → value m [] a ≡ 0
+unfolding value
+value-nil m a = refl
+
+pub value-cons : (m x : ℕ) (xs : List ℕ) (a : ℕ) → value m (x ∷ xs) a ≡ x ⊕ mul m a (value m xs a)
+unfolding value
+value-cons m x xs a = refl
 
 -- a value is an element
 pub value-lt : (m : ℕ) (xs : List ℕ) → Elements m xs → (a : ℕ) → value m xs a < 2 ^ m

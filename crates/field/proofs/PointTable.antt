@@ -41,6 +41,10 @@ digitSum-same (suc k) u v r e =
     ap₂ _⊕_ (digitSum-same k u v r (λ j l. e j (omega arith))) (ap (_*_ (r / 2 ^ k % 2)) (e k (omega arith)))
 
 -- one digit more
+pub digitSum-none : (v : ℕ → ℕ) (r : ℕ) → 0 ≡ digitSum 0 v r
+unfolding digitSum
+digitSum-none v r = refl
+
 pub digitSum-next : (v : ℕ → ℕ) (k r : ℕ) → digitSum k v r ⊕ r / 2 ^ k % 2 * v k ≡ digitSum (k + 1) v r
 unfolding digitSum
 digitSum-next v k r = ap (λ (n : ℕ). digitSum n v r) (sym (add-one k))
@@ -207,9 +211,14 @@ module _ (t : List ℕ) (c : ℕ) (r : List ℕ) where
       ap (λ (j : ℕ). set (combinedTo i) i (step (getD (combinedTo i) i 0) j)) (sym (from-at 0 64 i 0 h ∙ zero-add i))
       ∙ eachWith-suc step r (from 0 64) i (omega (arith, length-from 0 64)) k ∙ ap combinedTo (sym (add-one i))
 
-  pub combined-all : (i : ℕ) → length r ≤ i → combinedTo i ≡ combineEach t c r
+  pub combined-all : (i : ℕ) → (i < 64 → length r ≤ i) → combinedTo i ≡ combineEach t c r
   unfolding combinedTo combineEach
-  combined-all i h = eachWith-take step r (from 0 64) i (λ l. h)
+  combined-all i h = eachWith-take step r (from 0 64) i (λ l. h (omega (arith, l, length-from 0 64)))
+
+-- the sum over 13 digits
+pub combination-digits : (t : List ℕ) (i r : ℕ) → digitSum 13 (λ j. getD t (64 * j + i) 0) r ≡ combination t i r
+unfolding combination
+combination-digits t i r = refl
 
 -- the product with a point as a sum of its multiples
 module _ (m : ℕ) (w : Width m) (a : List ℕ) where

@@ -1,7 +1,7 @@
 -- The table of moduli, by one computed test of its 14 entries: at a width the modulus has degree m and passes the test of
 -- `Inverses`; elsewhere it is 0. Assumes nothing.
 use mathlib.Core.Path.{_≡_, refl, sym, _∙_}
-use mathlib.Core.Bool.{Bool, true, false, true≢false, cond, _&&_}
+use mathlib.Core.Bool.{Bool, true, false, true≢false, cond, _&&_, _||_}
 use mathlib.Core.List.{List, [], _∷_}
 use Prim.Native.Nat.{ℕ, suc, _≤_, _<_, _^_}
 use native.Mathlib.Omega.{arith}
@@ -93,6 +93,27 @@ module _ (m : ℕ) (w : Width m) where
       go : (b : Bool) → ltb m 14 ≡ b → m < 14
       go true e = ltb-true m 14 e
       go false e = absurd (true≢false (sym w ∙ no-width m (ltb-false m 14 e)))
+
+-- the three widths
+pub width-4 : Width 4
+unfolding isWidth
+width-4 = refl
+
+pub width-12 : Width 12
+unfolding isWidth
+width-12 = refl
+
+pub width-13 : Width 13
+unfolding isWidth
+width-13 = refl
+
+pub width-smallest : (m : ℕ) → Width m → (eqb m 12 || eqb m 13) ≡ false → m ≡ 4
+unfolding isWidth
+width-smallest m w e = eqb-true m 4 (go (eqb m 4) w)
+  where
+    go : (a : Bool) → (a || eqb m 12 || eqb m 13) ≡ true → a ≡ true
+    go true h = refl
+    go false h = absurd (true≢false (sym h ∙ e))
 
 -- m is a width, or it is not
 pub by-width : {P : Type 0} (m : ℕ) → (Width m → P) → (isWidth m ≡ false → P) → P

@@ -21,6 +21,15 @@ pub accepted-verdict : Accepted ≡ verdictOf 0
 unfolding verdictOf
 accepted-verdict = refl
 
+-- a check's answer, by the number q of its first condition that holds
+pub refuses : {x q : ℕ} → suc x ≡ q → Refused (suc x) ≡ verdictOf q
+unfolding verdictOf
+refuses e = ap verdictOf e
+
+pub accepts : {q : ℕ} → 0 ≡ q → Accepted ≡ verdictOf q
+unfolding verdictOf
+accepts e = ap verdictOf e
+
 -- what a callee's verdict v, of the number q, says once it is taken apart
 pub verdict-accepted : (q : ℕ) {v : Verdict} → v ≡ verdictOf q → v ≡ Accepted → q ≡ 0
 unfolding verdictOf
@@ -34,3 +43,7 @@ verdict-refused (suc q) e h z = omega arith
 
 pub verdict-number : (q : ℕ) {v : Verdict} → v ≡ verdictOf q → numberOf v ≡ q
 verdict-number q e = ap numberOf e ∙ number-verdict q
+
+-- the number n of a refusal is q, and not 0
+pub verdict-taken : (q : ℕ) {v : Verdict} {x n : ℕ} → v ≡ verdictOf q → v ≡ Refused x → n ≡ numberOf v → (n ≡ q) × (n ≡ 0 → ⊥)
+verdict-taken q e h k = let t = k ∙ verdict-number q e in (t, λ z. verdict-refused q e h (sym t ∙ z))

@@ -100,13 +100,13 @@ fn combined(t: &[u16; 832], i: usize, r: u16) -> u16
     s
 }
 
-// One step of Horner's rule at each of at most 64 places, r[i] := r[i]·a[i] + c, by the multiples t of the points a.
+// One step of Horner's rule at each of the first 64 places, r[i] := r[i]·a[i] + c, by the multiples t of the points a.
 pub fn horner_with(t: &[u16; 832], r: &mut [u16], c: u16)
-    requires { ⌜ length (now r) ≤ 64 ⌝ }
     ensures { λ _. ⌜ now (r .exit) ≡ combineEach (now (t .entry)) c (now (r .entry)) ⌝ }
 {
+    let n = bits::smaller(r.len(), 64);
     let mut i = 0;
-    while i < r.len() {
+    while i < n {
         r[i] = combined(t, i, r[i]) ^ c;
         i += 1;
     }

@@ -105,7 +105,7 @@ module _ (k : Key) where
   unfolding wrongLength
   right-length n t = rw (take-right (k .n) (k .support) n, take-right (k .t) (k .g) t)
 
-  pub kept-faults-number : {r : ℕ} → Width (k .m) → wrongLength k ≡ false → inLimits (k .m) (k .n) (k .t) ≡ true
-      → r ≡ firstOf (faults (k .m) (take (k .n) (k .support)) (take (k .t) (k .g))) → r ≡ keyNumber (kept k)
+  pub kept-faults-number : Width (k .m) → wrongLength k ≡ false → inLimits (k .m) (k .n) (k .t) ≡ true
+      → firstOf (faults (k .m) (take (k .n) (k .support)) (take (k .t) (k .g))) ≡ keyNumber (kept k)
   unfolding kept
-  kept-faults-number w l e q = q ∙ number-faults (wrongLength k) (kept k) w l e ∙ kept-number
+  kept-faults-number w l e = number-faults (wrongLength k) (kept k) w l e ∙ kept-number

@@ -8,12 +8,13 @@ use native.Mathlib.Omega.{arith}
 use lib.Dec.{ltb}
 use lib.ListN.{getD}
 use lib.Pow.{pow-mono}
-use borrow.Author.Tests.{lt-ltb, ltb-true, not-true, not-false}
+use borrow.Author.Tests.{lt-ltb, not-true, not-false}
 use Rattle.bits.specs.Bits.{every}
-use Rattle.bits.proofs.Lists.{every-at, every-all}
+use Rattle.bits.proofs.Lists.{every-all}
 use Rattle.field.specs.Numbers.{firstOf}
 use Rattle.field.specs.Field.{isElement}
 use Rattle.field.proofs.Table.{Width, width-narrow}
+use Rattle.field.proofs.Arrays.{every-elements}
 use Rattle.poly.specs.Polynomials.{hasSquare}
 use Rattle.key.specs.Keys.{distinct}
 use Rattle.key.specs.Parts.{distinctBelow, noRoot, faults}
@@ -28,14 +29,14 @@ passed {r} e h = sym e ∙ not-false r h
 
 -- elements have 13 digits, so they are distinct where the table says so
 pub distinct-elements : (m : ℕ) (s : List ℕ) → Width m → every (isElement m) s ≡ true → distinctBelow 8192 s ≡ distinct s
-unfolding distinctBelow isElement
+unfolding distinctBelow
 distinct-elements m s w e = rw small
   where
     small : every (λ x. ltb x 8192) s ≡ true
     small =
         every-all (λ x. ltb x 8192) s 0
         (λ i h. lt-ltb (getD s i 0) 8192
-        (omega (arith, ltb-true (getD s i 0) (2 ^ m) (every-at (isElement m) s e i 0 h), pow-mono (le-of-suc-le-suc (width-narrow m w)))))
+        (omega (arith, every-elements m s e i, pow-mono (le-of-suc-le-suc (width-narrow m w)))))
 
 module _ (m : ℕ) (s g : List ℕ) where
   pub fault-support : every (isElement m) s ≡ false → 4 ≡ firstOf (faults m s g)

@@ -9,7 +9,7 @@ use borrow.Author.Tests.{ltb-true, ltb-false, leb-true, lt-ltb, le-leb}
 use Rattle.bits.specs.Bits.{from, every}
 use Rattle.bits.proofs.Lists.{and-left, and-right, every-below-at}
 use Rattle.field.specs.Field.{isWidth}
-use Rattle.field.proofs.Table.{Width}
+use Rattle.field.proofs.Table.{Width, width-12, width-13}
 use Rattle.key.specs.Shapes.{inLimits, shapes, shapeNumber, shapeAt}
 use Rattle.field.proofs.Numbers.{first-clear}
 use Rattle.key.proofs.Numbers.{or-false}
@@ -19,8 +19,8 @@ unfoldable pub isShape : ℕ × ℕ × ℕ → Bool
 isShape s = isWidth (s .0) && inLimits (s .0) (s .1) (s .2)
 
 every-shape : every (λ i. isShape (getD shapes i (0, 0, 0))) (from 0 5) ≡ true
-unfolding every from shapes isShape isWidth inLimits
-every-shape = refl
+unfolding every from shapes isShape inLimits
+every-shape = rw (width-12, width-13)
 
 -- t from 1 to 128 and m·t < n ≤ 2^m, as facts
 pub record Limits (m n t : ℕ) : Type 0 where

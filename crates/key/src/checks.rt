@@ -1,13 +1,15 @@
 // The check of a kept key.
 use super::shape::in_limits;
+use field::Verdict;
 ghost use mathlib.Core.Path.{_≡_};
 ghost use mathlib.Core.Bool.{true, not};
 ghost use lib.Dec.{eqb};
-ghost use lib.ListN.{length, take};
+ghost use lib.ListN.{length};
 ghost use Prim.Native.Nat.{_≤_};
 ghost use Rattle.bits.specs.Bits.{every};
 ghost use Rattle.field.specs.Field.{isWidth};
 ghost use Rattle.field.specs.Numbers.{firstOf};
+ghost use Rattle.field.specs.Verdicts.{verdictOf};
 ghost use Rattle.key.specs.Keys.{keyNumber};
 ghost use Rattle.key.specs.Parts.{distinctBelow, noRoot, faults as faultsOf};
 ghost use Rattle.key.specs.Kept.{kept, parts};
@@ -56,48 +58,48 @@ fn no_root(m: u8, g: &[u16], s: &[u16]) -> bool
     no_zero(&values[..n])
 }
 
-// The first of the numbers 4 to 7, and 0 where there is none.
-fn faults(m: u8, s: &[u16], g: &[u16]) -> u8
+// Whether the elements are right: 4, 5, 6 or 7 on refusal.
+fn faults(m: u8, s: &[u16], g: &[u16]) -> Verdict
     requires { ⌜ (isWidth m ≡ true) × (length (now s) ≤ 8192) × (length (now g) ≤ 128) ⌝ }
-    ensures { λ r. ⌜ r ≡ firstOf (faultsOf m (now (s .entry)) (now (g .entry))) ⌝ }
+    ensures { λ r. ⌜ r ≡ verdictOf (firstOf (faultsOf m (now (s .entry)) (now (g .entry)))) ⌝ }
 {
     if !field::elements(m, s) {
-        return 4;
+        return Verdict::Refused(4);
     }
     if !field::elements(m, g) {
-        return 4;
+        return Verdict::Refused(4);
     }
     if !distinct(s) {
-        return 5;
+        return Verdict::Refused(5);
     }
     if euclid::has_square(m, g) {
-        return 6;
+        return Verdict::Refused(6);
     }
     if !no_root(m, g, s) {
-        return 7;
+        return Verdict::Refused(7);
     }
-    0
+    Verdict::Accepted
 }
 
-// The number of a kept key, lent by its parts: 1 to 7, and 0 for one that load accepts.
-pub fn check<'a>(m: u8, n: u16, t: u16, support: &'a [u16; 8192], g: &'a [u16; 128]) -> u8
-    ensures { λ r. ⌜ r ≡ keyNumber (kept (parts m n t (now (support .entry)) (now (g .entry)))) ⌝ }
+// Whether a kept key, lent by its parts, is one that load accepts: 1, 2, 3, 4, 5, 6 or 7 on refusal.
+pub fn check<'a>(m: u8, n: u16, t: u16, support: &'a [u16; 8192], g: &'a [u16; 128]) -> Verdict
+    ensures { λ r. ⌜ r ≡ verdictOf (keyNumber (kept (parts m n t (now (support .entry)) (now (g .entry))))) ⌝ }
 {
     let s = &support[..];
     let h = &g[..];
     let places = n as usize;
     let errors = t as usize;
     if field::modulus(m) == 0 {
-        return 1;
+        return Verdict::Refused(1);
     }
     if s.len() < places {
-        return 2;
+        return Verdict::Refused(2);
     }
     if h.len() < errors {
-        return 2;
+        return Verdict::Refused(2);
     }
     if !in_limits(m, n, t) {
-        return 3;
+        return Verdict::Refused(3);
     }
     faults(m, &s[..places], &h[..errors])
 }

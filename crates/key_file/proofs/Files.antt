@@ -1,6 +1,6 @@
 -- The number of a key file and what is kept of it. Assumes nothing.
 use mathlib.Core.Path.{_≡_, refl, sym, ap, ap₂, _∙_, subst}
-use mathlib.Core.Bool.{Bool, true, false, not, cond, _&&_}
+use mathlib.Core.Bool.{Bool, true, false, not, _&&_}
 use mathlib.Core.List.{List, _++_}
 use Prim.Native.Nat.{ℕ, zero, suc, _+_, _*_, _≤_}
 use native.Mathlib.Decide.{ℕ-discrete}
@@ -154,21 +154,22 @@ module _ (file : List ℕ) where
   loaded-refused {x = zero} e n = absurd (n refl)
   loaded-refused {x = suc x} e n = ap (λ (i : ℕ). shapeAnswer i (parse file .m, parse file .n, parse file .t)) e
 
-  pub loaded-sizes : {s : Sizes} → s ≡ sizesOf (parse file) → 0 ≡ firstOf (fileConditions file) → answers.Sizes s ≡ loadedOf file
+  pub loaded-sizes : {s : Sizes} → s ≡ sizesOf (parse file) → firstOf (fileConditions file) ≡ 0 → answers.Sizes s ≡ loadedOf file
   unfolding loadedOf shapeAnswer sizes sizesOf
-  loaded-sizes q e = ap (λ (s : Sizes). answers.Sizes s) q ∙ ap (λ (i : ℕ). shapeAnswer i (parse file .m, parse file .n, parse file .t)) e
+  loaded-sizes q z = ap (λ (s : Sizes). answers.Sizes s) q ∙ ap (λ (i : ℕ). shapeAnswer i (parse file .m, parse file .n, parse file .t)) (sym z)
 
-  pub read-none : (head ≡ 0 → ⊥) → (x : List ℕ) → (x ≡ over (writtenOf file .support) x) × (x ≡ over (writtenOf file .g) x)
+  pub read-none : (firstOf (fileConditions file) ≡ 0 → ⊥) → (x : List ℕ) → (x ≡ over (writtenOf file .support) x) × (x ≡ over (writtenOf file .g) x)
   unfolding writtenOf over
-  read-none n x = rw (ne-eqb head 0 n) (refl, refl)
-
-  pub read-whole : head ≡ 0 → writtenOf file ≡ parse file
-  unfolding writtenOf
-  read-whole z = rw (eq-eqb head 0 z)
+  read-none n x = rw (ne-eqb (firstOf (fileConditions file)) 0 n) (refl, refl)
 
   -- an accepted file is read whole
   pub read-accepted : firstOf (fileConditions file) ≡ 0 → writtenOf file ≡ parse file
-  read-accepted z = elim (ℕ-discrete head 0) [
-    | yes h ↦ read-whole h
+  unfolding writtenOf
+  read-accepted z = rw (eq-eqb (firstOf (fileConditions file)) 0 z)
+
+  -- and its header is right
+  pub head-accepted : firstOf (fileConditions file) ≡ 0 → head ≡ 0
+  head-accepted z = elim (ℕ-discrete head 0) [
+    | yes h ↦ h
     | no n ↦ absurd (n (first-take 3 (fileConditions file) n ∙ z))
   ]

@@ -3,7 +3,6 @@ use Prim.Native.Nat.{ℕ}
 use mathlib.Core.Bool.{cond}
 use mathlib.Core.List.{List, []}
 use lib.Dec.{eqb}
-use lib.ListN.{take}
 use Rattle.field.specs.Numbers.{firstOf}
 use Rattle.key.specs.Keys.{Key, parse, fileConditions}
 use Rattle.key.specs.Answers.{shapeAnswer}
@@ -13,6 +12,6 @@ use Rattle.key.specs.declared.shape.ShapeAnswer.{ShapeAnswer}
 unfoldable pub loadedOf : List ℕ → ShapeAnswer
 loadedOf file = let k : Key = parse file in shapeAnswer (firstOf (fileConditions file)) (k .m, k .n, k .t)
 
--- the key whose elements are written: the file's, and one of no size where one of 1 to 3 holds
+-- the key whose elements are written: the file's where none of 1 to 7 holds, else one without elements
 unfoldable pub writtenOf : List ℕ → Key
-writtenOf file = cond (eqb (firstOf (take 3 (fileConditions file))) 0) (parse file) (record { m = 0; n = 0; t = 0; support = []; g = [] })
+writtenOf file = cond (eqb (firstOf (fileConditions file)) 0) (parse file) (record { m = 0; n = 0; t = 0; support = []; g = [] })

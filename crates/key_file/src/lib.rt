@@ -1,4 +1,5 @@
 // Key files (document 01, 'Keys').
+use field::Verdict;
 use key::checks::check;
 use key::shape::ShapeAnswer;
 use key::shape::Sizes;
@@ -9,6 +10,7 @@ ghost use lib.ListN.{length, take, drop, getD};
 ghost use Prim.Native.Nat.{_+_, _*_, _^_, _≤_, _<_};
 ghost use Rattle.bits.specs.Bits.{over};
 ghost use Rattle.field.specs.Numbers.{firstOf};
+ghost use Rattle.field.specs.Verdicts.{verdictOf};
 ghost use Rattle.key.specs.Keys.{pair as pairOf, elements, parse, fileConditions};
 ghost use Rattle.key.specs.Kept.{sizesOf};
 ghost use Rattle.key_file.specs.Loaded.{loadedOf, writtenOf};
@@ -40,24 +42,24 @@ fn sizes(file: &[u8]) -> Sizes
     }
 }
 
-// The first of the numbers 1 to 3, and 0 where there is none.
-fn header(file: &[u8]) -> u8
-    ensures { λ r. ⌜ r ≡ firstOf (take 3 (fileConditions (now (file .entry)))) ⌝ }
+// Whether the shape and the length are right: 1, 2 or 3 on refusal.
+fn header(file: &[u8]) -> Verdict
+    ensures { λ r. ⌜ r ≡ verdictOf (firstOf (take 3 (fileConditions (now (file .entry))))) ⌝ }
 {
     let s = sizes(file);
     let m = s.m;
     let n = s.n;
     let t = s.t;
     if field::modulus(m) == 0 {
-        return 1;
+        return Verdict::Refused(1);
     }
     if file.len() != 5 + 2 * (n as usize) + 2 * (t as usize) {
-        return 2;
+        return Verdict::Refused(2);
     }
     if !in_limits(m, n, t) {
-        return 3;
+        return Verdict::Refused(3);
     }
-    0
+    Verdict::Accepted
 }
 
 // The first n numbers of out become the elements of two bytes from `at` on.
@@ -72,23 +74,45 @@ fn fill(out: &mut [u16], file: &[u8], at: usize, n: usize)
     }
 }
 
-// The shape of a file's key, whose elements are written over the start of the arrays once the header is right; 1 to 7 on refusal.
+// The file's elements from the start of the arrays, for a right header.
+fn fill_key<'a, 'b>(file: &[u8], support: &'a mut [u16; 8192], g: &'b mut [u16; 128]) -> Sizes
+    requires { ⌜ firstOf (take 3 (fileConditions (now file))) ≡ 0 ⌝ }
+    ensures { λ r. ⌜ r ≡ sizesOf (parse (now (file .entry))) ⌝ }
+    ensures { λ _. ⌜ now (support .exit) ≡ over (parse (now (file .entry)) .support) (now (support .entry)) ⌝ }
+    ensures { λ _. ⌜ now (g .exit) ≡ over (parse (now (file .entry)) .g) (now (g .entry)) ⌝ }
+{
+    let z = sizes(file);
+    let n = z.n as usize;
+    fill(&mut support[..], file, 3, n);
+    fill(&mut g[..], file, 5 + 2 * n, z.t as usize);
+    z
+}
+
+// Whether the file is that of a key: 1, 2, 3, 4, 5, 6 or 7 on refusal.
+fn check_file(file: &[u8]) -> Verdict
+    ensures { λ r. ⌜ r ≡ verdictOf (firstOf (fileConditions (now (file .entry)))) ⌝ }
+{
+    let x = header(file);
+    let Verdict::Accepted = x else {
+        return x;
+    };
+    let mut support = [0u16; 8192];
+    let mut g = [0u16; 128];
+    let z = fill_key(file, &mut support, &mut g);
+    check(z.m, z.n, z.t, &support, &g)
+}
+
+// The shape of a file's key, whose elements are written from the start of the arrays; 1, 2, 3, 4, 5, 6 or 7 on refusal,
+// which writes nothing.
 pub fn load<'a, 'b>(file: &[u8], support: &'a mut [u16; 8192], g: &'b mut [u16; 128]) -> ShapeAnswer
     ensures answer { λ r. ⌜ r ≡ loadedOf (now (file .entry)) ⌝ }
     ensures support { λ _. ⌜ now (support .exit) ≡ over (writtenOf (now (file .entry)) .support) (now (support .entry)) ⌝ }
     ensures g { λ _. ⌜ now (g .exit) ≡ over (writtenOf (now (file .entry)) .g) (now (g .entry)) ⌝ }
 {
-    let x = header(file);
-    if x != 0 {
-        return ShapeAnswer::Refused(x);
-    }
-    let z = sizes(file);
-    let n = z.n as usize;
-    fill(&mut support[..], file, 3, n);
-    fill(&mut g[..], file, 5 + 2 * n, z.t as usize);
-    let y = check(z.m, z.n, z.t, &*support, &*g);
-    if y != 0 {
-        return ShapeAnswer::Refused(y);
-    }
+    let x = check_file(file);
+    let Verdict::Accepted = x else {
+        return ShapeAnswer::Refused(field::number(x));
+    };
+    let z = fill_key(file, support, g);
     ShapeAnswer::Sizes(z)
 }

@@ -1,7 +1,8 @@
-// Opens capsules (document 01, 'Bench keys'): reads key.bin of the working folder and capsules from standard input,
-// and writes a line for each.
+// Opens capsules (document 01, 'Bench keys'): reads key.bin of the working folder and publishes; then, if the key is accepted,
+// reads capsules from standard input and writes a line for each.
 use libc::STDIN_FILENO;
 use libc::STDOUT_FILENO;
+use opener::KeyAnswer;
 ghost use Rattle.io.specs.Counts.{Counts};
 
 // The first bytes of key.bin; none where there is no such file.
@@ -20,9 +21,16 @@ fn read_key(file: &mut [u8]) -> usize
 fn main() {
     let mut file = io::buffer();
     let f = read_key(&mut file);
+    let ready = opener::prepare(&file[..f]);
+    let mut out = opener::longest();
+    let answer = ready.answer;
+    let KeyAnswer::Accepted = answer else {
+        let n = opener::key_text(answer, &mut out);
+        io::write_all(STDOUT_FILENO, &out[..n]);
+        return;
+    };
     let mut input = io::large_buffer();
     let i = io::read_full(STDIN_FILENO, &mut input);
-    let mut out = opener::longest();
-    let n = opener::report(&file[..f], &input[..i], &mut out);
+    let n = opener::open_lines(ready.station, &input[..i], &mut out);
     io::write_all(STDOUT_FILENO, &out[..n]);
 }

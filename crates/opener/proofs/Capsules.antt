@@ -18,7 +18,8 @@ use Rattle.station.specs.Replies.{view, handed}
 use Rattle.station.specs.declared.Reply.{Reply}
 use Rattle.station.proofs.StepView.{same}
 use Rattle.station.specs.declared.Station as Code
-use Rattle.opener.specs.Report.{newline, decimal, answer, room, line, lines, cut, opened, Four}
+use Rattle.opener.specs.Report.{newline, decimal, answer, room, line, lines, cut, opened}
+use Rattle.opener.proofs.Shape.{Four}
 
 -- the line, from what the station hands back
 pub line-parts : (s : Code.Station) (p : ℕ) (capsule : List ℕ) {r : Reply} {out : List ℕ}

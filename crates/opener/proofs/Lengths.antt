@@ -22,8 +22,9 @@ use Rattle.decoder.specs.Calls as Calls
 use Rattle.ledger.specs.Station.{Station, heldBy, openConditions, Result, openOf, gives}
 use Rattle.ledger.specs.Calls.{open-capsule, conditionsOf, step}
 use Rattle.ledger.proofs.StepLaws.{step-number, unless-accepted}
-use Rattle.opener.specs.Report.{newline, refuses, opens, decimal, place, places, answer, room, line, lines, cut, opened, Four}
+use Rattle.opener.specs.Report.{keyRefused, newline, refuses, opens, decimal, place, places, answer, room, line, lines, cut, opened}
 use Rattle.opener.proofs.Digits.{decimal-short}
+use Rattle.opener.proofs.Shape.{Four}
 
 -- the numbers of the conditions are below k
 Numbered : ℕ → List (Bool × ℕ) → Type 0
@@ -162,6 +163,11 @@ module _ (s : Station) (f : Four (s .key)) (input : List ℕ) where
         let n = cut-count (length input) 2 input (omega arith) in
         omega (arith, n, opened-few 2 3 c (omega (arith, f .over, f .fits)) (omega arith) (omega (arith, n)))
   ]
+
+-- `key refused ` and a number of one byte
+pub refused-short : (n : ℕ) → n < 256 → length (keyRefused ++ (decimal n ++ newline)) ≤ 1114112
+unfolding keyRefused newline
+refused-short n h = omega (arith, length-append (decimal n) newline, decimal-short 2 n (omega arith))
 
 -- T, its workspace and a pattern fit in `room`
 pub room-enough : (k : Key) → Four k → (publicBytes k ≤ length room) × (workBytes k ≤ length room) × (bytesFor (k .n) ≤ length room)

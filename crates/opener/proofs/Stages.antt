@@ -1,14 +1,15 @@
--- The text, by what loading and publishing hand back. Assumes nothing.
+-- What load and publish give, and the text by that: the program's text is that of the key, or the lines. Assumes nothing.
 use mathlib.Core.Path.{_≡_, refl, sym, ap, _∙_}
-use mathlib.Core.Bool.{Bool, true, false, cond, _||_, true≢false}
+use mathlib.Core.Bool.{Bool, true, false, cond}
+use mathlib.Core.Logic.{_⊎_, ⊎-elim}
 use mathlib.Core.List.{List, []}
-use Prim.Native.Nat.{ℕ}
-use borrow.Author.Tests.{eqb-true}
-use lib.Dec.{eqb}
+use Prim.Native.Nat.{ℕ, zero, suc}
+use native.Mathlib.Omega.{arith}
+use borrow.Author.Tests.{eq-eqb, ne-eqb}
+use denote.Enum.Declared.{tagOf, declared}
+use lib.ListN.{take}
 use Rattle.field.specs.Numbers.{firstOf}
-use Rattle.field.specs.Field.{isWidth}
-use Rattle.key.specs.Keys.{Key, parse, keyNumber}
-use Rattle.key.proofs.Accepted.{Accepted, accepted}
+use Rattle.key.specs.Keys.{parse, keyNumber}
 use Rattle.key.proofs.Parse.{accepted-key}
 use Rattle.ledger.specs.Station.{isEmpty, heldBy, loadConditions, fresh}
 use Rattle.ledger.specs.Calls.{load, publish, conditionsOf, step}
@@ -18,94 +19,150 @@ use Rattle.station.specs.Replies.{view, freshStation, handed}
 use Rattle.station.specs.declared.Station.{Station}
 use Rattle.station.specs.declared.Reply.{Reply}
 use Rattle.station.proofs.StepView.{same, view-fresh}
-use Rattle.opener.specs.Report.{tooLarge, room, opened, unlessRefused, afterPublish, afterLoad, large, whole, Four}
-use Rattle.opener.proofs.Text.{key-accepted, key-refused}
+use Rattle.opener.specs.Report.{tooLarge, room, opened, unlessRefused, afterPublish, afterLoad, large, whole, report}
+use Rattle.opener.specs.Prepared.{keyAnswer, readyOf, publishedAfter, preparedWhole, prepared, keyText, isFour, capsuleLines}
+use Rattle.opener.specs.declared.KeyAnswer.{KeyAnswer}
+use Rattle.opener.specs.declared.KeyAnswer.the-variants.{Accepted, Refused, TooLarge}
+use Rattle.opener.specs.declared.Ready.{Ready}
+use Rattle.opener.proofs.KeyAnswer.{enum}
+use Rattle.opener.proofs.Shape.{accepted-four}
+use Rattle.opener.proofs.Text.{key-accepted}
 
-pub whole-large : (file input : List ℕ) → large file ≡ true → whole file input ≡ tooLarge
-unfolding whole
-whole-large file input h = ap (λ (b : Bool). cond b tooLarge (afterLoad (step fresh (load file)) input)) h
+-- the answer of a number
+pub zero-accepted : Accepted ≡ keyAnswer 0
+unfolding keyAnswer
+zero-accepted = refl
 
-neither : (a b c : Bool) → (a || b || c) ≡ true → (b || c) ≡ false → a ≡ true
-neither true b c e f = refl
-neither false true c e f = absurd (true≢false f)
-neither false false true e f = absurd (true≢false f)
-neither false false false e f = e
+pub other-refused : (n : ℕ) → (n ≡ 0 → ⊥) → Refused n ≡ keyAnswer n
+unfolding keyAnswer
+other-refused zero h = absurd (h refl)
+other-refused (suc n) h = refl
 
-accepted-four : (k : Key) → keyNumber k ≡ 0 → (eqb (k .m) 12 || eqb (k .m) 13) ≡ false → Four k
-unfolding isWidth
-accepted-four k good small =
-    let a : Accepted k = accepted k good in
-    let e : k .m ≡ 4 = eqb-true (k .m) 4 (neither (eqb (k .m) 4) (eqb (k .m) 12) (eqb (k .m) 13) (a .width) small) in
-    record {
-      width = e;
-      some = a .limits .some;
-      over = rw e at (a .limits .over);
-      fits = rw e at (a .limits .fits);
-    }
+-- only the number 0 is accepted
+pub number-accepted : (n : ℕ) {a : KeyAnswer} → a ≡ keyAnswer n → a ≡ Accepted → n ≡ 0
+unfolding keyAnswer
+number-accepted zero e h = refl
+number-accepted (suc n) e h = let z : _≡_ {A = ℕ} 0 1 = cc in absurd (omega arith)
 
--- the number stands for the text
-refused-text : (n : ℕ) (text : List ℕ) → (n ≡ 0 → ⊥) → unlessRefused n text ≡ unlessRefused n []
-refused-text n text h = key-refused n text h ∙ sym (key-refused n [] h)
+-- a number's text: the number of a refusal, or what follows
+answer-text : (n : ℕ) {a b : List ℕ} → (n ≡ 0 → a ≡ b) → unlessRefused n a ≡ keyText (keyAnswer n) b
+unfolding unlessRefused keyText keyAnswer
+answer-text zero h = h refl
+answer-text (suc n) h = refl
 
-module _ (file input : List ℕ) (small : large file ≡ false) {s : Station} (empty : s ≡ freshStation) {r : Reply} (loads : r ≡ handed s (load file) .reply) where
-  start : view s ≡ fresh
-  start = ap view empty ∙ view-fresh
+-- the variants past the first
+pub not-accepted : (a : KeyAnswer) → (tagOf (declared enum) a ≡ 1) ⊎ (tagOf (declared enum) a ≡ 2) → a ≡ Accepted → ⊥
+not-accepted a t e =
+    let z : tagOf (declared enum) a ≡ 0 = ap (tagOf (declared enum)) e in
+    ⊎-elim (λ x. omega (arith, x, z)) (λ x. omega (arith, x, z)) t
 
-  number : r .refused ≡ step fresh (load file) .number
-  number =
-      ap (λ (x : Reply). x .refused) loads
-      ∙ same s (load file) .number
-      ∙ ap (λ (t : Definition.Station). step t (load file) .number) start
+-- a key that is not accepted: nothing of what follows
+pub text-other : (a : KeyAnswer) (text : List ℕ) → (a ≡ Accepted → ⊥) → keyText a text ≡ keyText a []
+unfolding keyText
+text-other Accepted text h = absurd (h refl)
+text-other (Refused n) text h = refl
+text-other TooLarge text h = refl
 
-  station : view (r .station) ≡ step fresh (load file) .station
-  station =
-      ap (λ (x : Reply). view (x .station)) loads
-      ∙ same s (load file) .station
-      ∙ ap (λ (t : Definition.Station). step t (load file) .station) start
+module _ (file : List ℕ) where
+  abbrev loads : Reply
+  loads = handed freshStation (load file) .reply
 
-  text : whole file input ≡ unlessRefused (r .refused) (afterPublish (step (view (r .station)) (publish room room)) input)
-  unfolding whole afterLoad
-  text =
-      ap (λ (b : Bool). cond b tooLarge (afterLoad (step fresh (load file)) input)) small
-      ∙ ap (λ (n : ℕ). unlessRefused n (afterPublish (step (step fresh (load file) .station) (publish room room)) input)) (sym number)
-      ∙ ap (λ (t : Definition.Station). unlessRefused (r .refused) (afterPublish (step t (publish room room)) input)) (sym station)
+  abbrev publishes : Reply
+  publishes = handed (loads .station) (publish room room) .reply
 
-  pub whole-load-refused : (r .refused ≡ 0 → ⊥) → whole file input ≡ unlessRefused (r .refused) []
-  whole-load-refused h = text ∙ refused-text _ _ h
+  -- load on the station that was made
+  pub loaded : {s : Station} {r : Reply} → s ≡ freshStation → r ≡ handed s (load file) .reply → r ≡ loads
+  loaded e h = h ∙ ap (λ (s : Station). handed s (load file) .reply) e
 
-  module _ (loaded : r .refused ≡ 0) {q : Reply} (publishes : q ≡ handed (r .station) (publish room room) .reply) where
-    published-number : q .refused ≡ step (view (r .station)) (publish room room) .number
-    published-number = ap (λ (x : Reply). x .refused) publishes ∙ same (r .station) (publish room room) .number
+  pub prepared-large : large file ≡ true → preparedWhole file ≡ record { station = freshStation; answer = TooLarge }
+  unfolding preparedWhole
+  prepared-large h = ap (λ (b : Bool). cond b (record { station = freshStation; answer = TooLarge }) (publishedAfter loads)) h
 
-    published-station : view (q .station) ≡ step (view (r .station)) (publish room room) .station
-    published-station = ap (λ (x : Reply). view (x .station)) publishes ∙ same (r .station) (publish room room) .station
+  module _ (small : large file ≡ false) where
+    prepared-small : preparedWhole file ≡ publishedAfter loads
+    unfolding preparedWhole
+    prepared-small = ap (λ (b : Bool). cond b (record { station = freshStation; answer = TooLarge }) (publishedAfter loads)) small
 
-    published-text : whole file input ≡ unlessRefused (q .refused) (opened (view (q .station)) input)
-    unfolding afterPublish
-    published-text =
-        text
-        ∙ key-accepted _ _ loaded
-        ∙ ap (λ (n : ℕ). unlessRefused n (opened (step (view (r .station)) (publish room room) .station) input)) (sym published-number)
-        ∙ ap (λ (t : Definition.Station). unlessRefused (q .refused) (opened t input)) (sym published-station)
+    pub prepared-refused : (loads .refused ≡ 0 → ⊥) → preparedWhole file ≡ readyOf loads
+    unfolding publishedAfter
+    prepared-refused h = prepared-small ∙ ap (λ (b : Bool). cond b (readyOf publishes) (readyOf loads)) (ne-eqb (loads .refused) 0 h)
 
-    pub whole-publish-refused : (q .refused ≡ 0 → ⊥) → whole file input ≡ unlessRefused (q .refused) []
-    whole-publish-refused h = published-text ∙ refused-text _ _ h
+    pub prepared-published : loads .refused ≡ 0 → preparedWhole file ≡ readyOf publishes
+    unfolding publishedAfter
+    prepared-published h = prepared-small ∙ ap (λ (b : Bool). cond b (readyOf publishes) (readyOf loads)) (eq-eqb (loads .refused) 0 h)
 
-    module _ (accepts : q .refused ≡ 0) where
-      pub whole-opened : whole file input ≡ opened (view (q .station)) input
-      whole-opened = published-text ∙ key-accepted _ _ accepts
+  number : loads .refused ≡ step fresh (load file) .number
+  number = same freshStation (load file) .number ∙ ap (λ (t : Definition.Station). step t (load file) .number) view-fresh
 
-      sound : keyNumber (parse file) ≡ 0
-      unfolding conditionsOf loadConditions heldBy fresh isEmpty firstOf
-      sound = accepted-key file (sym (step-number fresh (load file)) ∙ sym number ∙ loaded)
+  station : view (loads .station) ≡ step fresh (load file) .station
+  station = same freshStation (load file) .station ∙ ap (λ (t : Definition.Station). step t (load file) .station) view-fresh
 
-      key : view (q .station) .key ≡ parse file
-      key =
-          ap (λ (t : Definition.Station). t .key)
-          (published-station ∙ publish-station (view (r .station)) room room (sym published-number ∙ accepts))
-          ∙ ap (λ (t : Definition.Station). t .key) (station ∙ load-station fresh file (sym number ∙ loaded))
+  published-number : publishes .refused ≡ step (view (loads .station)) (publish room room) .number
+  published-number = same (loads .station) (publish room room) .number
 
-      -- the key is one of m 4
-      pub shape : Four (view (q .station) .key)
-      unfolding parse large
-      shape = rw key (accepted-four (parse file) sound small)
+  published-station : view (publishes .station) ≡ step (view (loads .station)) (publish room room) .station
+  published-station = same (loads .station) (publish room room) .station
+
+  -- a key that both accept is one of width 4
+  four-wide : large file ≡ false → loads .refused ≡ 0 → publishes .refused ≡ 0 → isFour (view (publishes .station) .key) ≡ true
+  unfolding parse large conditionsOf loadConditions heldBy fresh isEmpty firstOf
+  four-wide small a b =
+      let sound : keyNumber (parse file) ≡ 0 = accepted-key file (sym (step-number fresh (load file)) ∙ sym number ∙ a) in
+      let key : view (publishes .station) .key ≡ parse file =
+      ap (λ (t : Definition.Station). t .key)
+      (published-station ∙ publish-station (view (loads .station)) room room (sym published-number ∙ b))
+      ∙ ap (λ (t : Definition.Station). t .key) (station ∙ load-station fresh file (sym number ∙ a)) in
+      rw key (accepted-four (parse file) sound small)
+
+  module _ (input : List ℕ) where
+    -- the text of what is prepared
+    text : Ready → List ℕ
+    text y = keyText (y .answer) (cond (isFour (view (y .station) .key)) (opened (view (y .station)) input) [])
+
+    whole-large : large file ≡ true → whole file input ≡ text (preparedWhole file)
+    unfolding whole text keyText
+    whole-large h =
+        ap (λ (b : Bool). cond b tooLarge (afterLoad (step fresh (load file)) input)) h ∙ sym (ap text (prepared-large h))
+
+    module _ (small : large file ≡ false) where
+      -- the numbers and the station of the calls for those of the definitions
+      by-replies : whole file input ≡ unlessRefused (loads .refused) (unlessRefused (publishes .refused) (opened (view (publishes .station)) input))
+      unfolding whole afterLoad afterPublish
+      by-replies =
+          ap (λ (b : Bool). cond b tooLarge (afterLoad (step fresh (load file)) input)) small
+          ∙ ap (λ (n : ℕ). unlessRefused n (afterPublish (step (step fresh (load file) .station) (publish room room)) input)) (sym number)
+          ∙ ap (λ (t : Definition.Station). unlessRefused (loads .refused) (afterPublish (step t (publish room room)) input)) (sym station)
+          ∙ ap
+          (λ (n : ℕ). unlessRefused (loads .refused) (unlessRefused n (opened (step (view (loads .station)) (publish room room) .station) input)))
+          (sym published-number)
+          ∙ ap (λ (t : Definition.Station). unlessRefused (loads .refused) (unlessRefused (publishes .refused) (opened t input))) (sym published-station)
+
+      whole-small : (n : ℕ) → loads .refused ≡ n → whole file input ≡ text (preparedWhole file)
+      unfolding text readyOf
+      whole-small zero a =
+          by-replies
+          ∙ key-accepted (loads .refused) _ a
+          ∙ answer-text (publishes .refused) (λ b. sym (ap (λ (t : Bool). cond t (opened (view (publishes .station)) input) []) (four-wide small a b)))
+          ∙ sym (ap text (prepared-published small a))
+      whole-small (suc n) a =
+          let h : loads .refused ≡ 0 → ⊥ = λ z. omega (arith, a, z) in
+          by-replies ∙ answer-text (loads .refused) (λ z. absurd (h z)) ∙ sym (ap text (prepared-refused small h))
+
+    whole-parts : (b : Bool) → large file ≡ b → whole file input ≡ text (preparedWhole file)
+    whole-parts true h = whole-large h
+    whole-parts false h = whole-small h (loads .refused) refl
+
+-- the program's text: that of the key, or the lines of the capsules
+pub report-parts : (file input : List ℕ) → report file input ≡ keyText (prepared file .answer) (capsuleLines (view (prepared file .station)) input)
+unfolding report prepared capsuleLines text
+report-parts file input = whole-parts (take 4096 file) (take 65536 input) (large (take 4096 file)) refl
+
+-- the lines, by the test of the key
+module _ (s : Definition.Station) (input : List ℕ) where
+  pub lines-none : isFour (s .key) ≡ false → capsuleLines s input ≡ []
+  unfolding capsuleLines
+  lines-none h = ap (λ (b : Bool). cond b (opened s (take 65536 input)) []) h
+
+  pub lines-four : isFour (s .key) ≡ true → capsuleLines s input ≡ opened s (take 65536 input)
+  unfolding capsuleLines
+  lines-four h = ap (λ (b : Bool). cond b (opened s (take 65536 input)) []) h

@@ -10,7 +10,7 @@ use borrow.Author.Tests.{eq-eqb, ne-eqb}
 use lib.Dec.{eqb}
 use lib.ListN.{length, getD, length-append}
 use Rattle.bits.specs.Bits.{from, bitAt, unpack}
-use Rattle.opener.specs.Report.{keyRefused, refuses, opens, newline, decimal, place, places, answer, unlessRefused, large}
+use Rattle.opener.specs.Report.{refuses, opens, decimal, place, places, answer, unlessRefused, large}
 
 pub place-zero : (b i : ℕ) → b ≡ 0 → place b i ≡ []
 unfolding place
@@ -62,11 +62,6 @@ pub key-accepted : (n : ℕ) (text : List ℕ) → n ≡ 0 → unlessRefused n t
 unfolding unlessRefused
 key-accepted zero text h = refl
 key-accepted (suc n) text h = absurd (omega arith)
-
-pub key-refused : (n : ℕ) (text : List ℕ) → (n ≡ 0 → ⊥) → unlessRefused n text ≡ keyRefused ++ (decimal n ++ newline)
-unfolding unlessRefused
-key-refused zero text h = absurd (h refl)
-key-refused (suc n) text h = refl
 
 pub large-empty : (file : List ℕ) → length file ≡ 0 → false ≡ large file
 unfolding large

@@ -2,13 +2,13 @@
 use mathlib.Core.Path.{_≡_, refl, sym, ap, subst, _∙_}
 use mathlib.Core.List.{List, [], _∷_, _++_}
 use Prim.Native.Nat.{ℕ, zero, suc, _+_, _≤_, _<_}
-use native.Mathlib.Nat.{add-zero, add-suc, suc-add}
+use native.Mathlib.Nat.{add-zero, add-suc, suc-add, zero-add}
 use native.Mathlib.Numerals.{add-one}
 use native.Mathlib.Omega.{arith}
 use lib.ListN.{length, take, drop, getD, set, length-append}
 use lib.Seq.{sets, drop-cons}
 use Rattle.bits.specs.Bits.{over}
-use Rattle.opener.specs.Wrote.{Wrote}
+use Rattle.opener.specs.Wrote.{Wrote, Printed}
 
 -- one text, then another
 pub sets-append : (out : List ℕ) (at : ℕ) (a b : List ℕ) → sets out at (a ++ b) ≡ sets (sets out at a) (at + length a) b
@@ -95,3 +95,13 @@ sets-over [] [] = refl
 sets-over [] (x ∷ out) = refl
 sets-over (b ∷ text) [] = sets-empty 1 text
 sets-over (b ∷ text) (x ∷ out) = sets-behind b out 0 text ∙ ap (_∷_ b) (sets-over text out)
+
+-- a text from the output's start on, no longer than the longest
+pub printed : {text out after : List ℕ} {end : ℕ} → Wrote text out 0 end after → end ≤ 1114112 → Printed text out end after
+printed {text} {out} w h = record { place = w .place ∙ zero-add (length text); output = w .output ∙ sets-over text out; fits = h }
+
+pub printed-nothing : (out : List ℕ) → Printed [] out 0 out
+printed-nothing out = printed (wrote-nothing out 0) (omega arith)
+
+pub same-printed : {a b out after : List ℕ} {end : ℕ} → a ≡ b → Printed a out end after → Printed b out end after
+same-printed {out = out} {after = after} {end = end} e w = subst (λ (l : List ℕ). Printed l out end after) e w

@@ -1,12 +1,10 @@
 -- Document 01, 'Bench keys': what the program prints, from the bytes of key.bin and of standard input. Assumes nothing.
-use mathlib.Core.Path.{_≡_}
 use mathlib.Core.Bool.{Bool, cond, _||_}
 use mathlib.Core.List.{List, [], _∷_, _++_}
-use Prim.Native.Nat.{ℕ, zero, suc, _+_, _*_, _/_, _%_, _≤_, _<_}
+use Prim.Native.Nat.{ℕ, zero, suc, _+_, _/_, _%_}
 use lib.Dec.{eqb, ltb}
 use lib.ListN.{length, getD, take, drop, replicate}
 use Rattle.bits.specs.Bits.{bytesFor, unpack}
-use Rattle.key.specs.Keys.{Key}
 use Rattle.code.specs.Publish.{capsuleBits}
 use Rattle.ledger.specs.Station.{Station, fresh, Result}
 use Rattle.ledger.specs.Calls.{load, publish, open-capsule, step}
@@ -105,10 +103,3 @@ whole file input = cond (large file) tooLarge (afterLoad (step fresh (load file)
 -- of the file its first 4,096 bytes, of the input its first 65,536
 unfoldable pub report : List ℕ → List ℕ → List ℕ
 report file input = whole (take 4096 file) (take 65536 input)
-
--- the shape of a key that is opened with
-pub record Four (k : Key) : Type 0 where
-  pub width : k .m ≡ 4
-  pub some : 1 ≤ k .t
-  pub over : 4 * k .t < k .n
-  pub fits : k .n ≤ 16

@@ -3,16 +3,31 @@
 use station::Reply;
 use station::Station;
 ghost use mathlib.Core.Path.{_≡_};
-ghost use mathlib.Core.List.{[], _∷_};
+ghost use mathlib.Core.Bool.{true};
+ghost use mathlib.Core.List.{[], _∷_, _++_};
 ghost use Prim.Native.Nat.{_+_, _^_, _≤_, _<_};
 ghost use lib.ListN.{length, take, drop, replicate};
-ghost use Rattle.bits.specs.Bits.{bytesFor, unpack, over};
+ghost use Rattle.bits.specs.Bits.{bytesFor, unpack};
 ghost use Rattle.code.specs.Publish.{capsuleBits};
 ghost use Rattle.ledger.specs.Calls.{publish};
 ghost use Rattle.station.specs.Replies.{view, handed};
-ghost use Rattle.opener.specs.Report.{room, Four};
+ghost use Rattle.opener.specs.Report.{keyRefused, newline, room};
 ghost use Rattle.opener.specs.Report as Report;
-ghost use Rattle.opener.specs.Wrote.{Wrote};
+ghost use Rattle.opener.specs.Prepared.{keyAnswer, preparedWhole, prepared, keyText, isFour, capsuleLines};
+ghost use Rattle.opener.specs.Wrote.{Wrote, Printed};
+
+// What became of the key: accepted by load and publish, refused by one of them with its number, or of width 12 or 13.
+pub enum KeyAnswer {
+    Accepted,
+    Refused(u8),
+    TooLarge,
+}
+
+// The station after load and publish, and what became of the key.
+pub struct Ready {
+    pub station: Station,
+    pub answer: KeyAnswer,
+}
 
 // One byte.
 fn put(b: u8, out: &mut [u8], at: usize) -> usize
@@ -131,7 +146,7 @@ fn capsule_bytes(station: Station) -> usize
 
 // The lines of the capsules.
 fn lines(station: Station, input: &[u8], out: &mut [u8]) -> usize
-    requires { ⌜ Four (view station .key) × (length (now input) ≤ 65536) ⌝ }
+    requires { ⌜ (isFour (view station .key) ≡ true) × (length (now input) ≤ 65536) ⌝ }
     ensures text { λ r. ⌜ Wrote (Report.opened (view station) (now (input .entry))) (now (out .entry)) 0 r (now (out .exit)) ⌝ }
     ensures fits { λ r. ⌜ r ≤ 1114112 ⌝ }
 {
@@ -149,9 +164,7 @@ fn lines(station: Station, input: &[u8], out: &mut [u8]) -> usize
 
 // `key refused ` and the number.
 fn key_refused(number: u8, out: &mut [u8]) -> usize
-    requires { ⌜ 0 < number ⌝ }
-    ensures text { λ r. ⌜ Wrote (Report.unlessRefused number []) (now (out .entry)) 0 r (now (out .exit)) ⌝ }
-    ensures fits { λ r. ⌜ r ≤ 1114112 ⌝ }
+    ensures { λ r. ⌜ Wrote (keyRefused ++ (Report.decimal number ++ newline)) (now (out .entry)) 0 r (now (out .exit)) ⌝ }
 {
     let at = write(b"key refused ", out, 0);
     let next = decimal(number as usize, out, at);
@@ -178,39 +191,90 @@ fn large(file: &[u8]) -> bool
     m == 12 || m == 13
 }
 
-// The text for a whole key file and all capsules.
-fn whole(file: &[u8], input: &[u8], out: &mut [u8]) -> usize
-    requires { ⌜ length (now input) ≤ 65536 ⌝ }
-    ensures text { λ r. ⌜ Wrote (Report.whole (now (file .entry)) (now (input .entry))) (now (out .entry)) 0 r (now (out .exit)) ⌝ }
-    ensures fits { λ r. ⌜ r ≤ 1114112 ⌝ }
+// Accepted where the number is 0, else refused with it.
+fn key_answer(number: u8) -> KeyAnswer
+    ensures { λ r. ⌜ r ≡ keyAnswer number ⌝ }
 {
-    if large(file) {
-        return write(b"key too large\n", out, 0);
+    if number == 0 {
+        return KeyAnswer::Accepted;
     }
-    let loaded = Station::fresh().load(file);
-    let x = loaded.refused;
-    if x != 0 {
-        return key_refused(x, out);
-    }
-    let published = publish(loaded.station);
-    let x = published.refused;
-    if x != 0 {
-        return key_refused(x, out);
-    }
-    lines(published.station, input, out)
+    KeyAnswer::Refused(number)
 }
 
-// The text that the program prints, as much of it as there is room for from the output's start, and its length:
-// at most 17 bytes for each byte of input.
-pub fn report(file: &[u8], input: &[u8], out: &mut [u8]) -> usize
-    ensures end { λ r. ⌜ r ≡ length (Report.report (now (file .entry)) (now (input .entry))) ⌝ }
-    ensures output { λ _. ⌜ now (out .exit)
-        ≡ over (take (length (now (out .entry))) (Report.report (now (file .entry)) (now (input .entry)))) (now (out .entry)) ⌝ }
-    ensures fits { λ r. ⌜ r ≤ 1114112 ⌝ }
+// A whole key file, loaded and published.
+fn prepare_whole(file: &[u8]) -> Ready
+    ensures { λ r. ⌜ r ≡ preparedWhole (now (file .entry)) ⌝ }
+{
+    let station = Station::fresh();
+    if large(file) {
+        return Ready {
+            station,
+            answer: KeyAnswer::TooLarge,
+        };
+    }
+    let loaded = station.load(file);
+    let station = loaded.station;
+    let answer = key_answer(loaded.refused);
+    let KeyAnswer::Accepted = answer else {
+        return Ready { station, answer };
+    };
+    let published = publish(station);
+    let station = published.station;
+    let answer = key_answer(published.refused);
+    Ready { station, answer }
+}
+
+// The first 4,096 bytes of a key file, loaded and published.
+pub fn prepare(file: &[u8]) -> Ready
+    ensures { λ r. ⌜ r ≡ prepared (now (file .entry)) ⌝ }
 {
     let f = bits::smaller(4096, file.len());
+    prepare_whole(&file[..f])
+}
+
+// The text of a key that is refused or too large; none of one that is accepted.
+pub fn key_text(answer: KeyAnswer, out: &mut [u8]) -> usize
+    ensures { λ r. ⌜ Printed (keyText answer []) (now (out .entry)) r (now (out .exit)) ⌝ }
+{
+    match answer {
+        KeyAnswer::Accepted => 0,
+        KeyAnswer::Refused(n) => key_refused(n, out),
+        KeyAnswer::TooLarge => write(b"key too large\n", out, 0),
+    }
+}
+
+// The key is one of width 4.
+fn is_four(station: Station) -> bool
+    ensures { λ r. ⌜ r ≡ isFour (view station .key) ⌝ }
+{
+    let key = station.key;
+    if key.m != 4 {
+        return false;
+    }
+    key::shape::in_limits(4, key.n, key.t)
+}
+
+// The lines of the capsules in the first 65,536 bytes of the input; none under a key of another width.
+pub fn open_lines(station: Station, input: &[u8], out: &mut [u8]) -> usize
+    ensures { λ r. ⌜ Printed (capsuleLines (view station) (now (input .entry))) (now (out .entry)) r (now (out .exit)) ⌝ }
+{
+    if !is_four(station) {
+        return 0;
+    }
     let i = bits::smaller(65536, input.len());
-    whole(&file[..f], &input[..i], out)
+    lines(station, &input[..i], out)
+}
+
+// The text that the program prints: that of the key, or the lines.
+pub fn report(file: &[u8], input: &[u8], out: &mut [u8]) -> usize
+    ensures { λ r. ⌜ Printed (Report.report (now (file .entry)) (now (input .entry))) (now (out .entry)) r (now (out .exit)) ⌝ }
+{
+    let ready = prepare(file);
+    let answer = ready.answer;
+    let KeyAnswer::Accepted = answer else {
+        return key_text(answer, out);
+    };
+    open_lines(ready.station, input, out)
 }
 
 // Room for the longest text: zeros.

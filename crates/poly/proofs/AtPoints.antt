@@ -1,7 +1,7 @@
 -- The values of a monic polynomial at each of a list of points, by Horner's rule at all points. Assumes nothing.
 use mathlib.Core.Path.{_≡_, sym, ap, _∙_, fun-ext}
 use mathlib.Core.Bool.{false}
-use mathlib.Core.List.{List, [], _∷_, map}
+use mathlib.Core.List.{List, [], _∷_, _++_, map}
 use Prim.Native.Nat.{ℕ, suc, _+_, _-_, _≤_, _<_}
 use native.Mathlib.Nat.{le-refl}
 use native.Mathlib.Omega.{arith}
@@ -16,6 +16,7 @@ use Rattle.field.specs.Field.{isWidth, mul}
 use Rattle.field.specs.Poly.{value, hornerEach}
 use Rattle.field.proofs.Table.{Width}
 use Rattle.field.proofs.Laws.{mul-comm, mul-zero}
+use Rattle.field.proofs.Arrays.{value-nil, value-cons}
 use Rattle.field.proofs.Places.{hornerEach-width, ofEach-none, ofEach-width, length-ofEach, take-ofEach}
 use Rattle.field.specs.PointTable.{multiplesOf, combineEach}
 use Rattle.field.proofs.PointTable.{combineEach-horner}
@@ -48,19 +49,24 @@ module _ (m : ℕ) (g r a : List ℕ) where
   unfolding valuesFrom
   length-valuesFrom k = length-eachWith (valueFrom m (drop k g)) r a
 
+  -- one coefficient
+  value-one : (x y : ℕ) → value m (x ∷ []) y ≡ x
+  value-one x y = value-cons m x [] y ∙ ap (λ (v : ℕ). x ⊕ mul m y v) (value-nil m y) ∙ ap (_⊕_ x) (mul-zero m y) ∙ xor-zero x
+
   pub from-start : r ≡ valuesFrom (length g)
-  unfolding valuesFrom valueFrom value
+  unfolding valuesFrom valueFrom
   from-start =
       sym (ap (λ (l : List ℕ). eachWith (valueFrom m l) r a) (drop-of-length-le g (le-refl (length g)))
-      ∙ eachWith-keep (valueFrom m []) (λ x y. ap (_⊕_ x) (mul-zero m y) ∙ xor-zero x) r a)
+      ∙ eachWith-keep (valueFrom m []) (λ x y. value-one x y) r a)
 
   from-cons : Width m → (c : ℕ) (l : List ℕ) → hornerEach m c (eachWith (valueFrom m l) r a) a ≡ eachWith (valueFrom m (c ∷ l)) r a
-  unfolding valueFrom value
+  unfolding valueFrom
   from-cons w c l =
       hornerEach-width m c (eachWith (valueFrom m l) r a) a w
       ∙ eachWith-again (valueFrom m l) (λ x y. mul m x y ⊕ c) r a
       ∙ ap (λ (f : ℕ → ℕ → ℕ). eachWith f r a) (fun-ext λ x. fun-ext λ y.
-      ap (λ (v : ℕ). v ⊕ c) (mul-comm m (valueFrom m l x y) y) ∙ xor-comm (mul m y (valueFrom m l x y)) c)
+      ap (λ (v : ℕ). v ⊕ c) (mul-comm m (valueFrom m l x y) y) ∙ xor-comm (mul m y (valueFrom m l x y)) c
+      ∙ sym (value-cons m c (l ++ (x ∷ [])) y))
 
   pub from-next : Width m → (k : ℕ) → 0 < k → k ≤ length g → hornerEach m (getD g (k - 1) 0) (valuesFrom k) a ≡ valuesFrom (k - 1)
   unfolding valuesFrom

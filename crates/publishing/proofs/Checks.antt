@@ -3,13 +3,13 @@ use mathlib.Core.Path.{_≡_, refl}
 use mathlib.Core.Bool.{Bool, true, false, not, cond}
 use mathlib.Core.List.{List, [], _∷_}
 use mathlib.Core.Option.{Option, none, some}
-use Prim.Native.Nat.{ℕ, zero, suc, _-_, _*_, _≤_, _<_}
+use Prim.Native.Nat.{ℕ, _-_, _*_, _≤_, _<_}
 use native.Mathlib.Nat.{le-of-suc-le-suc}
 use native.Mathlib.Omega.{arith}
 use lib.Dec.{eqb, ltb}
 use lib.ListN.{length, drop}
 use lib.Pow.{pow-mono}
-use borrow.Author.Tests.{eq-eqb, ne-eqb, eqb-true, not-true, not-false, lt-ltb, le-ltb, ltb-false}
+use borrow.Author.Tests.{eq-eqb, ne-eqb, eqb-true, not-false, lt-ltb, le-ltb, ltb-false}
 use Rattle.bits.specs.Bits.{bytesFor, over}
 use Rattle.field.specs.Numbers.{firstOf}
 use Rattle.field.proofs.Numbers.{numbered, first-clear, first-append}
@@ -19,8 +19,7 @@ use Rattle.key.proofs.Accepted.{accepted}
 use Rattle.key.proofs.Conditions.{first-take}
 use Rattle.code.specs.PublicKey.{Matrix, publicKey, dependent, written}
 use Rattle.code.specs.Publish.{capsuleBits, workBytes, publishChecks, freeBytes, publishConditions, publishNumber, publishOutput}
-use Rattle.publishing.specs.declared.Published.the-variants.{Done, Refused}
-use Rattle.publishing.specs.Published.{publishedOf, sizeChecks}
+use Rattle.publishing.specs.Checks.{sizeChecks}
 
 -- the sizes of an accepted key
 pub record Sizes (k : Key) : Type 0 where
@@ -81,12 +80,6 @@ module _ (k : Key) (out work : ℕ) where
       let c3 = first-clear (ltb work (k .m * k .t * bytesFor (k .n))) 10 _ (c2 .1) in
       (eqb-true (keyNumber k) 0 (not-false _ (c1 .0)), ltb-false out _ (c2 .0), ltb-false work _ (c3 .0))
 
--- a number that is not 0 is a refusal
-pub refused : (x : ℕ) → (x ≡ 0 → ⊥) → Refused x ≡ publishedOf x
-unfolding publishedOf
-refused zero h = absurd (h refl)
-refused (suc x) h = refl
-
 -- the number and the output of publish, where a check holds
 module _ (k : Key) (out work : List ℕ) where
   pub number-refused : (firstOf (sizeChecks (unsound k) k (length out) (length work)) ≡ 0 → ⊥)
@@ -100,17 +93,9 @@ module _ (k : Key) (out work : List ℕ) where
 
   -- where none does: 23 decides
   module _ (clear : firstOf (sizeChecks (unsound k) k (length out) (length work)) ≡ 0) where
-    number-made : publishNumber k out work ≡ cond (dependent k) 23 0
+    pub number-made : publishNumber k out work ≡ cond (dependent k) 23 0
     unfolding sizeChecks publishNumber publishConditions publishChecks numbered firstOf
     number-made = first-append (publishChecks (unsound k) k out work) ((dependent k, 23) ∷ []) refl clear
-
-    pub number-dependent : not (dependent k) ≡ false → Refused 23 ≡ publishedOf (publishNumber k out work)
-    unfolding publishedOf
-    number-dependent h = rw (number-made, not-false (dependent k) h)
-
-    pub number-done : not (dependent k) ≡ true → Done ≡ publishedOf (publishNumber k out work)
-    unfolding publishedOf
-    number-done h = rw (number-made, not-true (dependent k) h)
 
     -- the bytes that are not free are as they were
     pub free-made : (after : List ℕ) → drop (workBytes k) after ≡ drop (workBytes k) work

@@ -14,7 +14,7 @@ use Rattle.bits.proofs.Each.{take-eachWith}
 use Rattle.field.specs.Field.{mul, power, inv}
 use Rattle.field.specs.Poly.{value, hornerEach, ofEach}
 use Rattle.field.proofs.Table.{Width}
-use Rattle.field.proofs.Laws.{mul-assoc, one-mul, inv-lt}
+use Rattle.field.proofs.Laws.{mul-assoc, one-mul, power-zero, power-suc, inv-lt}
 use Rattle.field.proofs.Laws as field
 use Rattle.field.proofs.Places.{hornerEach-width, each-map, take-ofEach}
 use Rattle.poly.specs.Polynomials.{monic, valuesAt}
@@ -28,17 +28,18 @@ use Rattle.publishing.specs.Rows.{digitRow, digitRows}
 
 module _ (k : Key) where
   entry-zero : Width (k .m) → (a : ℕ) → inv (k .m) (goppaAt k a) ≡ entry k 0 a
-  unfolding entry power
-  entry-zero w a = sym (one-mul (k .m) w (inv-lt (k .m) (goppaAt k a)))
+  unfolding entry
+  entry-zero w a =
+      sym (ap (λ (x : ℕ). mul (k .m) x (inv (k .m) (goppaAt k a))) (power-zero (k .m) a) ∙ one-mul (k .m) w (inv-lt (k .m) (goppaAt k a)))
 
   entry-next : (i a : ℕ) → mul (k .m) (entry k i a) a ⊕ 0 ≡ entry k (i + 1) a
-  unfolding entry power
+  unfolding entry
   entry-next i a =
       let m : ℕ = k .m in
       let v : ℕ = inv m (goppaAt k a) in
       xor-zero (mul m (mul m (power m a i) v) a)
       ∙ mul-assoc m (power m a i) v a ∙ ap (mul m (power m a i)) (field.mul-comm m v a) ∙ sym (mul-assoc m (power m a i) a v)
-      ∙ ap (λ (j : ℕ). mul m (power m a j) v) (sym (add-one i))
+      ∙ ap (λ (x : ℕ). mul m x v) (sym (power-suc m a i) ∙ ap (power m a) (sym (add-one i)))
 
 module _ (m : ℕ) (w : Width m) (s g : List ℕ) where
   -- 1/g(α) at all places, and the next power of α

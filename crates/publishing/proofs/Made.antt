@@ -1,18 +1,14 @@
 -- The public key by the workspace: rows of H before the elimination, the echelon form behind it. Assumes nothing.
-use mathlib.Core.Path.{_≡_, sym, ap, ap₂, _∙_}
-use mathlib.Core.Bool.{true, false, not}
+use mathlib.Core.Path.{_≡_, sym, ap, _∙_}
+use mathlib.Core.Bool.{true, false, cond}
 use mathlib.Core.List.{List, map, flatMap}
 use mathlib.Core.Option.{none}
 use Prim.Native.Nat.{ℕ, _*_, _≤_}
 use native.Mathlib.Nat.{le-of-lt}
-use lib.ListN.{length, take, drop}
-use lib.Seq.{length-take-le}
+use lib.ListN.{length, drop}
 use Rattle.bits.specs.Bits.{from, bytesFor, pack, over}
 use Rattle.poly.specs.Polynomials.{same}
 use Rattle.key.specs.Keys as Keys
-use Rattle.key.specs.Kept.{kept}
-use Rattle.key.specs.declared.kept.Key.{Key}
-use Rattle.key.specs.Keys.{keyOf}
 use Rattle.code.specs.Code.{parityRows}
 use Rattle.code.specs.PublicKey.{Matrix, echelon, publicKey, dependent, written}
 use Rattle.code.specs.Lock.{rowsOf}
@@ -34,7 +30,7 @@ module _ (k : Keys.Key) (z : Sizes k) (w : List ℕ) (room : k .m * k .t * bytes
     none-made : publicKey k ≡ none
     none-made = public-none k (eliminates-columns ∙ e)
 
-    pub dependent-made : false ≡ not (dependent k)
+    pub dependent-made : _≡_ {A = ℕ} 23 (cond (dependent k) 23 0)
     unfolding dependent
     dependent-made = rw (dependent, none-made)
 
@@ -44,7 +40,7 @@ module _ (k : Keys.Key) (z : Sizes k) (w : List ℕ) (room : k .m * k .t * bytes
 
   -- they are not: T is the columns behind them
   module _ (e : eliminates (k .m * k .t) (k .n) w ≡ true) where
-    pub independent-made : true ≡ not (dependent k)
+    pub independent-made : _≡_ {A = ℕ} 0 (cond (dependent k) 23 0)
     unfolding dependent
     independent-made = rw (dependent, public-some k (eliminates-columns ∙ e))
 

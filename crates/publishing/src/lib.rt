@@ -2,25 +2,21 @@
 mod parity;
 mod rows;
 
+use field::Verdict;
 ghost use mathlib.Core.Path.{_≡_};
-ghost use mathlib.Core.Bool.{not};
+ghost use mathlib.Core.Bool.{cond};
 ghost use lib.ListN.{length, drop};
 ghost use Rattle.bits.specs.Bits.{over};
 ghost use Rattle.field.specs.Numbers.{firstOf};
+ghost use Rattle.field.specs.Verdicts.{verdictOf};
 ghost use Rattle.key.specs.Keys.{unsound};
 ghost use Rattle.key.specs.Kept.{kept, parts};
 ghost use Rattle.code.specs.PublicKey.{publicKey, dependent, written};
 ghost use Rattle.code.specs.Publish.{workBytes, freeBytes, publishNumber, publishOutput};
-ghost use Rattle.publishing.specs.Published.{publishedOf, sizeChecks};
+ghost use Rattle.publishing.specs.Checks.{sizeChecks};
 
-// What publish answers.
-pub enum Published {
-    Done,
-    Refused(u8),
-}
-
-// The first of the numbers 25, 10 and 11, and 0 where there is none.
-fn refusal<'a>(
+// Whether the key and the lengths are right: 25, 10 or 11 on refusal.
+fn check<'a>(
     m: u8,
     n: u16,
     t: u16,
@@ -28,24 +24,24 @@ fn refusal<'a>(
     g: &'a [u16; 128],
     out: usize,
     work: usize,
-) -> u8
-    ensures { λ r. ⌜ r ≡ (let k = kept (parts m n t (now (support .entry)) (now (g .entry))) in firstOf (sizeChecks (unsound k) k out work)) ⌝ }
+) -> Verdict
+    ensures { λ r. ⌜ r ≡ (let k = kept (parts m n t (now (support .entry)) (now (g .entry))) in verdictOf (firstOf (sizeChecks (unsound k) k out work))) ⌝ }
 {
-    if key::checks::check(m, n, t, support, g) != 0 {
-        return 25;
-    }
+    let Verdict::Accepted = key::checks::check(m, n, t, support, g) else {
+        return Verdict::Refused(25);
+    };
     let places = n as usize;
     let rows = (m as usize) * (t as usize);
     if out < rows * bits::bytes_for(places - rows) {
-        return 10;
+        return Verdict::Refused(10);
     }
     if work < rows * bits::bytes_for(places) {
-        return 11;
+        return Verdict::Refused(11);
     }
-    0
+    Verdict::Accepted
 }
 
-// T from the start of out, made in work; false where there is none.
+// T from the start of out, made in work; 23 where there is none.
 fn make<'a>(
     m: u8,
     n: u16,
@@ -54,9 +50,9 @@ fn make<'a>(
     g: &'a [u16; 128],
     out: &mut [u8],
     work: &mut [u8],
-) -> bool
+) -> Verdict
     requires { ⌜ (let k = kept (parts m n t (now support) (now g)) in firstOf (sizeChecks (unsound k) k (length (now out)) (length (now work))) ≡ 0) ⌝ }
-    ensures answer { λ r. ⌜ r ≡ not (dependent (kept (parts m n t (now (support .entry)) (now (g .entry))))) ⌝ }
+    ensures answer { λ r. ⌜ r ≡ verdictOf (cond (dependent (kept (parts m n t (now (support .entry)) (now (g .entry))))) 23 0) ⌝ }
     ensures output { λ _. ⌜ now (out .exit) ≡ over (written (publicKey (kept (parts m n t (now (support .entry)) (now (g .entry)))))) (now (out .entry)) ⌝ }
     ensures rest { λ _. ⌜ (let k = kept (parts m n t (now (support .entry)) (now (g .entry))) in
         drop (workBytes k) (now (work .exit)) ≡ drop (workBytes k) (now (work .entry))) ⌝ }
@@ -66,10 +62,10 @@ fn make<'a>(
     let rows = (m as usize) * errors;
     parity::key_rows(work, m, places, errors, support, g);
     if !elimination::eliminate(work, rows, places) {
-        return false;
+        return Verdict::Refused(23);
     }
     rows::write_rows(out, work, rows, places);
-    true
+    Verdict::Accepted
 }
 
 // The public key of a kept key, lent by its parts, from the start of out; bytes beyond keep their contents. Of work the first
@@ -82,18 +78,15 @@ pub fn publish<'a>(
     g: &'a [u16; 128],
     out: &mut [u8],
     work: &mut [u8],
-) -> Published
-    ensures answer { λ r. ⌜ r ≡ publishedOf (publishNumber (kept (parts m n t (now (support .entry)) (now (g .entry)))) (now (out .entry)) (now (work .entry))) ⌝ }
+) -> Verdict
+    ensures answer { λ r. ⌜ r ≡ verdictOf (publishNumber (kept (parts m n t (now (support .entry)) (now (g .entry)))) (now (out .entry)) (now (work .entry))) ⌝ }
     ensures output { λ _. ⌜ now (out .exit) ≡ publishOutput (kept (parts m n t (now (support .entry)) (now (g .entry)))) (now (out .entry)) (now (work .entry)) ⌝ }
     ensures workspace { λ _. ⌜ (let f = freeBytes (kept (parts m n t (now (support .entry)) (now (g .entry)))) (now (out .entry)) (now (work .entry)) in
         drop f (now (work .exit)) ≡ drop f (now (work .entry))) ⌝ }
 {
-    let x = refusal(m, n, t, support, g, out.len(), work.len());
-    if x != 0 {
-        return Published::Refused(x);
-    }
-    if !make(m, n, t, support, g, out, work) {
-        return Published::Refused(23);
-    }
-    Published::Done
+    let x = check(m, n, t, support, g, out.len(), work.len());
+    let Verdict::Accepted = x else {
+        return x;
+    };
+    make(m, n, t, support, g, out, work)
 }

@@ -11,7 +11,7 @@ use Rattle.bits.specs.Bits.{Row, from, bytesFor, bitAt, unpack, pack, ones, wei
 use Rattle.bits.proofs.Lists.{map-from}
 use Rattle.bits.proofs.Pack.{length-unpack, unpack-add, well-formed-past}
 use Rattle.field.specs.Numbers.{firstOf}
-use Rattle.key.specs.Keys as Keys
+use Rattle.key.specs.Keys.{keyNumber}
 use Rattle.key.specs.Kept.{kept}
 use Rattle.key.specs.declared.kept.Key.{Key}
 use Rattle.key.proofs.Accepted.{Accepted, accepted}
@@ -19,9 +19,10 @@ use Rattle.code.specs.Publish.{capsuleBits}
 use Rattle.decoder.specs.Reading.{reading, filled, exactly, opening}
 use Rattle.decoder.specs.Calls.{found, isNone, patternOutput, openNumber, readNumber, openOutput, readOutput}
 use Rattle.decoder.proofs.Sanity.{reading-sound}
-use Rattle.decoding.specs.Parts.{packed, foundOf}
+use Rattle.decoding.specs.Parts.{packed, decoded, foundOf}
 use Rattle.decoding.specs.declared.decoding.Found.{Found}
 use Rattle.decoding.proofs.Packed.{take-packed, weight-packed}
+use Rattle.decoding.proofs.Explained.{decoded-reading}
 use Rattle.reading.specs.Answers.{answerOf, readOf, openOf, readChecks, openChecks, countedOf}
 use Rattle.reading.specs.declared.calls.Answer.{Answer}
 use Rattle.reading.specs.declared.calls.Answer.the-variants.{Ones, Refused}
@@ -63,7 +64,10 @@ module _ (n : ℕ) where
       record { e = e; is = refl; count = sym c ∙ weight-packed (r e refl); bytes = take-packed (r e refl) }
 
 -- what is found in a word at a kept key
-module _ (k : Key) (word : List ℕ) (f : Found) (ef : f ≡ foundOf (reading (kept k) (unpack (k .n) word))) (r : Answer) (er : r ≡ countedOf f (k .n)) where
+module _ (k : Key) (word : List ℕ) (z : keyNumber (kept k) ≡ 0) (f : Found) (ed : f ≡ foundOf (decoded (kept k) (unpack (k .n) word))) (r : Answer) (er : r ≡ countedOf f (k .n)) where
+  ef : f ≡ foundOf (reading (kept k) (unpack (k .n) word))
+  ef = ed ∙ ap foundOf (decoded-reading k word z)
+
   counted : countedOf (foundOf (reading (kept k) (unpack (k .n) word))) (k .n) ≡ r
   counted = sym (er ∙ ap (λ (x : Found). countedOf x (k .n)) ef)
 

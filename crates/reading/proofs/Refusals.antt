@@ -1,5 +1,5 @@
 -- The numbers of read and open, by the tests of the code. Assumes nothing.
-use mathlib.Core.Path.{_≡_, refl, sym, ap, _∙_}
+use mathlib.Core.Path.{_≡_, refl, ap, _∙_}
 use mathlib.Core.Bool.{Bool, true, false, cond, not}
 use mathlib.Core.List.{List, [], _∷_}
 use Prim.Native.Nat.{ℕ, _≤_, _<_}
@@ -46,34 +46,34 @@ module _ (k n : ℕ) (row : List ℕ) (len : ℕ) where
       let c10 = first-clear (ltb len (bytesFor n)) 9 _ (c9 .1) in
       (well-formed k row (eqb-true _ _ (not-false _ (c8 .0))) (not-false _ (c9 .0)), ltb-false _ _ (c10 .0))
 
--- 25 by the key's number x
-module _ (k : Key) {x : ℕ} (e : x ≡ keyNumber k) where
-  unsound-some : (x ≡ 0 → ⊥) → unsound k ≡ true
+-- 25 by the key's number
+module _ (k : Key) where
+  unsound-some : (keyNumber k ≡ 0 → ⊥) → unsound k ≡ true
   unfolding unsound
-  unsound-some h = ap not (ne-eqb _ _ (λ z. h (e ∙ z)))
+  unsound-some h = ap not (ne-eqb _ _ h)
 
-  unsound-none : x ≡ 0 → unsound k ≡ false
+  unsound-none : keyNumber k ≡ 0 → unsound k ≡ false
   unfolding unsound
-  unsound-none z = ap not (eq-eqb _ _ (sym e ∙ z))
+  unsound-none z = ap not (eq-eqb _ _ z)
 
   module _ (word : List ℕ) (len : ℕ) where
-    pub read-unsound : (x ≡ 0 → ⊥) → 25 ≡ firstOf (readChecks k word len)
+    pub read-unsound : (keyNumber k ≡ 0 → ⊥) → 25 ≡ firstOf (readChecks k word len)
     unfolding readChecks firstOf
     read-unsound h = rw (unsound-some h)
 
-    pub read-sound : x ≡ 0 → firstOf (bufferChecks (k .n) (k .n) word len) ≡ firstOf (readChecks k word len)
+    pub read-sound : keyNumber k ≡ 0 → firstOf (bufferChecks (k .n) (k .n) word len) ≡ firstOf (readChecks k word len)
     unfolding readChecks firstOf
     read-sound z = rw (unsound-none z)
 
-    pub open-unsound : (unpublished : Bool) → (x ≡ 0 → ⊥) → 25 ≡ firstOf (openChecks unpublished k word len)
+    pub open-unsound : (unpublished : Bool) → (keyNumber k ≡ 0 → ⊥) → 25 ≡ firstOf (openChecks unpublished k word len)
     unfolding openChecks firstOf
     open-unsound unpublished h = rw (unsound-some h)
 
-    pub open-unpublished : (unpublished : Bool) → x ≡ 0 → unpublished ≡ true → 24 ≡ firstOf (openChecks unpublished k word len)
+    pub open-unpublished : (unpublished : Bool) → keyNumber k ≡ 0 → unpublished ≡ true → 24 ≡ firstOf (openChecks unpublished k word len)
     unfolding openChecks firstOf
     open-unpublished unpublished z p = rw (unsound-none z, p)
 
-    pub open-sound : (unpublished : Bool) → x ≡ 0 → unpublished ≡ false
+    pub open-sound : (unpublished : Bool) → keyNumber k ≡ 0 → unpublished ≡ false
         → firstOf (bufferChecks (capsuleBits k) (k .n) word len) ≡ firstOf (openChecks unpublished k word len)
     unfolding openChecks firstOf
     open-sound unpublished z p = rw (unsound-none z, p)

@@ -1,6 +1,7 @@
 // The calls read and open on a kept key, lent by its parts.
 use decoding::Found;
 use decoding::decode;
+use field::Verdict;
 use key::checks::check;
 ghost use mathlib.Core.Path.{_≡_};
 ghost use mathlib.Core.Bool.{not};
@@ -8,6 +9,7 @@ ghost use Prim.Native.Nat.{_≤_};
 ghost use lib.ListN.{length, take};
 ghost use Rattle.bits.specs.Bits.{bytesFor, over};
 ghost use Rattle.field.specs.Numbers.{firstOf};
+ghost use Rattle.field.specs.Verdicts.{verdictOf};
 ghost use Rattle.key.specs.Kept.{kept, parts};
 ghost use Rattle.decoder.specs.Calls.{openOutput, readOutput};
 ghost use Rattle.reading.specs.Answers.{bufferChecks, openChecks, readChecks, countedOf, openOf, readOf};
@@ -18,24 +20,24 @@ pub enum Answer {
     Refused(u8),
 }
 
-// The first of 8, 9 and 10 for a row of k bits and an output of len bytes for n bits, and 0 where there is none.
-fn buffers(k: usize, n: usize, row: &[u8], len: usize) -> u8
-    ensures { λ r. ⌜ r ≡ firstOf (bufferChecks k n (now (row .entry)) len) ⌝ }
+// Whether a row of k bits and an output of len bytes for n bits are right: 8, 9 or 10 on refusal.
+fn check_buffers(k: usize, n: usize, row: &[u8], len: usize) -> Verdict
+    ensures { λ r. ⌜ r ≡ verdictOf (firstOf (bufferChecks k n (now (row .entry)) len)) ⌝ }
 {
     if row.len() != bits::bytes_for(k) {
-        return 8;
+        return Verdict::Refused(8);
     }
     if !bits::filler_clear(row, k) {
-        return 9;
+        return Verdict::Refused(9);
     }
     if len < bits::bytes_for(n) {
-        return 10;
+        return Verdict::Refused(10);
     }
-    0
+    Verdict::Accepted
 }
 
-// The first of 25, 8, 9 and 10 for a word, and 0 where there is none.
-fn read_refusal<'a>(
+// Whether a word can be read: 25, 8, 9 or 10 on refusal.
+fn check_word<'a>(
     m: u8,
     n: u16,
     t: u16,
@@ -43,18 +45,18 @@ fn read_refusal<'a>(
     g: &'a [u16; 128],
     word: &[u8],
     len: usize,
-) -> u8
-    ensures { λ r. ⌜ r ≡ firstOf (readChecks (kept (parts m n t (now (support .entry)) (now (g .entry)))) (now (word .entry)) len) ⌝ }
+) -> Verdict
+    ensures { λ r. ⌜ r ≡ verdictOf (firstOf (readChecks (kept (parts m n t (now (support .entry)) (now (g .entry)))) (now (word .entry)) len)) ⌝ }
 {
-    if check(m, n, t, support, g) != 0 {
-        return 25;
-    }
+    let Verdict::Accepted = check(m, n, t, support, g) else {
+        return Verdict::Refused(25);
+    };
     let places = n as usize;
-    buffers(places, places, word, len)
+    check_buffers(places, places, word, len)
 }
 
-// The first of 25, 24, 8, 9 and 10 for a capsule, and 0 where there is none.
-fn open_refusal<'a>(
+// Whether a capsule can be opened: 25, 24, 8, 9 or 10 on refusal.
+fn check_capsule<'a>(
     m: u8,
     n: u16,
     t: u16,
@@ -63,17 +65,17 @@ fn open_refusal<'a>(
     published: bool,
     capsule: &[u8],
     len: usize,
-) -> u8
-    ensures { λ r. ⌜ r ≡ firstOf (openChecks (not published) (kept (parts m n t (now (support .entry)) (now (g .entry)))) (now (capsule .entry)) len) ⌝ }
+) -> Verdict
+    ensures { λ r. ⌜ r ≡ verdictOf (firstOf (openChecks (not published) (kept (parts m n t (now (support .entry)) (now (g .entry)))) (now (capsule .entry)) len)) ⌝ }
 {
-    if check(m, n, t, support, g) != 0 {
-        return 25;
-    }
+    let Verdict::Accepted = check(m, n, t, support, g) else {
+        return Verdict::Refused(25);
+    };
     if !published {
-        return 24;
+        return Verdict::Refused(24);
     }
     let k = (m as usize) * (t as usize);
-    buffers(k, n as usize, capsule, len)
+    check_buffers(k, n as usize, capsule, len)
 }
 
 // The number of ones of the pattern found, or 14 where there is none.
@@ -122,10 +124,10 @@ pub fn read<'a>(
     ensures answer { λ r. ⌜ r ≡ readOf (kept (parts m n t (now (support .entry)) (now (g .entry)))) (now (word .entry)) (now (out .entry)) ⌝ }
     ensures output { λ _. ⌜ now (out .exit) ≡ readOutput (kept (parts m n t (now (support .entry)) (now (g .entry)))) (now (word .entry)) (now (out .entry)) ⌝ }
 {
-    let x = read_refusal(m, n, t, support, g, word, out.len());
-    if x != 0 {
-        return Answer::Refused(x);
-    }
+    let x = check_word(m, n, t, support, g, word, out.len());
+    let Verdict::Accepted = x else {
+        return Answer::Refused(field::number(x));
+    };
     let e = decode(m, n, t, support, g, word);
     let answer = counted(e, n);
     let Answer::Ones(w) = answer else {
@@ -149,10 +151,10 @@ pub fn open<'a>(
     ensures answer { λ r. ⌜ r ≡ openOf (not published) (kept (parts m n t (now (support .entry)) (now (g .entry)))) (now (capsule .entry)) (now (out .entry)) ⌝ }
     ensures output { λ _. ⌜ now (out .exit) ≡ openOutput (not published) (kept (parts m n t (now (support .entry)) (now (g .entry)))) (now (capsule .entry)) (now (out .entry)) ⌝ }
 {
-    let x = open_refusal(m, n, t, support, g, published, capsule, out.len());
-    if x != 0 {
-        return Answer::Refused(x);
-    }
+    let x = check_capsule(m, n, t, support, g, published, capsule, out.len());
+    let Verdict::Accepted = x else {
+        return Answer::Refused(field::number(x));
+    };
     let e = decode(m, n, t, support, g, capsule);
     let answer = counted(e, n);
     let Answer::Ones(ones) = answer else {

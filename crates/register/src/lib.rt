@@ -1,4 +1,5 @@
 // The shortest register for a list of elements: document 004's Figure 1.
+use field::Verdict;
 ghost use mathlib.Core.Path.{_≡_};
 ghost use mathlib.Core.Bool.{true};
 ghost use mathlib.Core.List.{_++_, map};
@@ -7,6 +8,7 @@ ghost use lib.ListN.{length, getD, replicate};
 ghost use Rattle.bits.specs.Xor.{_⊕_};
 ghost use Rattle.bits.specs.Bits.{from, xorRow};
 ghost use Rattle.field.specs.Field.{isWidth};
+ghost use Rattle.field.specs.Verdicts.{verdictOf};
 ghost use Rattle.poly.specs.Polynomials.{sum};
 ghost use Rattle.poly.specs.Register.{
   start as startOf,
@@ -48,14 +50,14 @@ impl Registered {
     pub fn of(m: u8, s: &[u16]) -> Registered
         ensures { λ r. ⌜ r ≡ registeredOf m (now (s .entry)) ⌝ }
     {
-        let number = refusal(m, s);
-        if number != 0 {
+        let x = check(m, s);
+        let Verdict::Accepted = x else {
             return Registered {
-                refused: number,
+                refused: field::number(x),
                 length: 0,
                 c: [0u16; Registered::COEFFICIENTS],
             };
-        }
+        };
         let r = run(m, s);
         let c = r.c;
         Registered {
@@ -66,20 +68,20 @@ impl Registered {
     }
 }
 
-// The number of the refusal of the list, and 0 where there is none.
-fn refusal(m: u8, s: &[u16]) -> u8
-    ensures { λ r. ⌜ r ≡ registerNumber m (now (s .entry)) ⌝ }
+// Whether the list is one for the register: 1, 2 or 4 on refusal.
+fn check(m: u8, s: &[u16]) -> Verdict
+    ensures { λ r. ⌜ r ≡ verdictOf (registerNumber m (now (s .entry))) ⌝ }
 {
     if field::modulus(m) == 0 {
-        return 1;
+        return Verdict::Refused(1);
     }
     if Registered::LONGEST < s.len() {
-        return 2;
+        return Verdict::Refused(2);
     }
     if !field::elements(m, s) {
-        return 4;
+        return Verdict::Refused(4);
     }
-    0
+    Verdict::Accepted
 }
 
 // Figure 1 over the whole list.

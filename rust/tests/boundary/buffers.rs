@@ -47,9 +47,9 @@ impl<T: Copy + PartialEq + std::fmt::Debug> Guarded<T> {
         assert!(self.all[end..] == self.before[end..], "written past the end");
     }
 
-    /// Only the content may have changed.
-    pub fn free(&self) {
-        let end = self.all.len() - CANARY;
+    /// Only the first `count` of the content may have changed.
+    pub fn free(&self, count: usize) {
+        let end = CANARY + count;
         assert!(self.all[..CANARY] == self.before[..CANARY], "written before the start");
         assert!(self.all[end..] == self.before[end..], "written past the end");
     }

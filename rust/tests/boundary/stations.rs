@@ -166,7 +166,7 @@ pub fn publish(random: &mut Random, pool: &Pool) -> (&'static str, u8) {
     same(&reply, &expected, &case.station, &published);
     out.written(&expected.written);
     match expected.number {
-        0 | 23 => work.free(),
+        0 | 23 => work.free(case.held.key.work_length()),
         _ => work.same(),
     }
     ("publish", reply.refused)

@@ -4,7 +4,7 @@ use shearcotter::raw::{Reply, Station};
 
 use super::expected;
 use crate::independent::key::Key;
-use crate::support::raw_calls::{drop, fresh, holding, load, open, publish, read};
+use crate::support::raw_calls::{drop, fresh, held, holding, load, open, publish, read};
 use crate::support::{bytes, vectors::cases};
 
 const UNTOUCHED: u8 = 0xA5;
@@ -19,6 +19,8 @@ fn call(station: Station, case: &[String]) -> (Reply, Vec<u8>) {
         "publish" => {
             let (mut out, mut work) = (buffer(1), buffer(2));
             let reply = publish(station, &mut out, &mut work);
+            let free = if matches!(reply.refused, 0 | 23) { held(&station).work_length() } else { 0 };
+            assert!(work[free..].iter().all(|byte| *byte == UNTOUCHED), "{case:?}");
             (reply, out)
         }
         "open" => {

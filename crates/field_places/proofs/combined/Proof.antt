@@ -1,12 +1,12 @@
 -- The loop's invariant: the sum over the first j digits. Assumes nothing.
-use mathlib.Core.Path.{_≡_, refl, ap, ap₂, _∙_}
+use mathlib.Core.Path.{_≡_, ap, ap₂, _∙_}
 use Prim.Native.Nat.{ℕ, _+_, _-_, _*_, _≤_}
 use native.Mathlib.Omega.{arith}
 use lib.ListN.{getD}
 use borrow.Author.Needs.{needs}
 use Rattle.bits.specs.Xor.{_⊕_}
-use Rattle.field.specs.PointTable.{digitSum, combination}
-use Rattle.field.proofs.PointTable.{digitSum-next}
+use Rattle.field.specs.PointTable.{digitSum}
+use Rattle.field.proofs.PointTable.{digitSum-none, digitSum-next, combination-digits}
 use Rattle.field_places.proofs.combined.Statement.{statement}
 use Rattle.field_places.proofs.combined.Tie as tie
 
@@ -17,8 +17,7 @@ abbrev μ-loop : tie.MeasureT-loop
 μ-loop t i r s₀ j₀ s j = 13 - j
 
 loop-holds : tie.Need-loop-holds Inv-loop μ-loop
-unfolding digitSum
-loop-holds c = (omega arith, refl)
+loop-holds c = (omega arith, digitSum-none _ _)
 
 cast-selected : tie.Need-cast-selected Inv-loop μ-loop
 cast-selected c = search needs
@@ -56,12 +55,12 @@ loop-again c =
     (omega arith, ap₂ _⊕_ (l .inv .1) (c .selected .ensures) ∙ digitSum-next v (l .j) (a .r))
 
 returns : tie.Need-returns Inv-loop μ-loop
-unfolding combination
 returns c =
     let l = c .before .loop in
     let a = c .before .before .args in
     let e : l .j ≡ 13 = omega arith in
     l .inv .1 ∙ ap (λ (k : ℕ). digitSum k (λ j. getD (a .t .now) (64 * j + a .i) 0) (a .r)) e
+    ∙ combination-digits (a .t .now) (a .i) (a .r)
 
 pub combined-spec : {M : Type 1} → statement M
 combined-spec =

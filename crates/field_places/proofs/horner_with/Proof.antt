@@ -12,10 +12,13 @@ use Rattle.field_places.proofs.horner_with.Statement.{statement}
 use Rattle.field_places.proofs.horner_with.Tie as tie
 
 abbrev Inv-loop : tie.InvT-loop
-Inv-loop t r₀ c i₀ r i = (i ≤ length r₀) × (length r ≡ length r₀) × (r ≡ combinedTo t c r₀ i)
+Inv-loop t r₀ c n i₀ r i = (i ≤ n) × (length r ≡ length r₀) × (r ≡ combinedTo t c r₀ i)
 
 abbrev μ-loop : tie.MeasureT-loop
-μ-loop t r₀ c i₀ r i = length r₀ - i
+μ-loop t r₀ c n i₀ r i = n - i
+
+smaller-requires : tie.Need-smaller-requires Inv-loop μ-loop
+smaller-requires c κs = search needs
 
 loop-holds : tie.Need-loop-holds Inv-loop μ-loop
 loop-holds c = (omega arith, refl, combined-start _ _ _)
@@ -45,7 +48,7 @@ loop-again : tie.Need-loop-again Inv-loop μ-loop
 unfolding _⊕_
 loop-again c =
     let l = c .before .before .before .loop in
-    let a = c .before .before .before .before .before .args in (
+    let a = c .before .before .before .before .before .before .args in (
       omega arith,
       length-set (l .r) _ _ ∙ l .inv .1,
       ap (λ (v : ℕ). set (l .r) (l .i) (v ⊕ a .c)) (c .combined .ensures)
@@ -59,8 +62,8 @@ same-length c = search needs
 returns : tie.Need-returns Inv-loop μ-loop
 returns c =
     let l = c .before .loop in
-    let a = c .before .before .before .args in
-    l .inv .2 ∙ combined-all (a .t .now) (a .c) (a .r .now) (l .i) (omega arith)
+    let a = c .before .before .before .before .args in
+    l .inv .2 ∙ combined-all (a .t .now) (a .c) (a .r .now) (l .i) (λ h. omega arith)
 
 pub horner-with-spec : {M : Type 1} → statement M
 horner-with-spec =
@@ -68,6 +71,7 @@ horner-with-spec =
     (tie.spec
     Inv-loop
     μ-loop
+    smaller-requires
     loop-holds
     mul-combined
     slice-read-combined

@@ -1,5 +1,6 @@
 -- The tests in order. Assumes nothing.
 use native.Mathlib.Omega.{arith}
+use Rattle.field.proofs.Verdicts.{refuses, accepts}
 use Rattle.field.proofs.Table.{modulus-none, modulus-some}
 use Rattle.key.proofs.Order.{failed, passed}
 use Rattle.key_file.proofs.Files.{file-width, file-length, file-limits, file-none}
@@ -13,7 +14,7 @@ modulus-requires : tie.Need-modulus-requires
 modulus-requires c κs = tt
 
 returns : tie.Need-returns
-returns c = file-width _ _ (c .before .before .sizes .ensures) (modulus-none _ (c .before .modulus .ensures) (c .if1 .taken))
+returns c = refuses (file-width _ _ (c .before .before .sizes .ensures) (modulus-none _ (c .before .modulus .ensures) (c .if1 .taken)))
 
 cast-if2 : tie.Need-cast-if2
 cast-if2 c = omega arith
@@ -34,20 +35,20 @@ add-if2-2 : tie.Need-add-if2-2
 add-if2-2 c = omega arith
 
 returns-2 : tie.Need-returns-2
-returns-2 c = file-length _ _ (c .before .before .before .sizes .ensures) (modulus-some _ (c .before .before .modulus .ensures) (c .before .if1 .left)) (c .if2 .taken)
+returns-2 c = refuses (file-length _ _ (c .before .before .before .sizes .ensures) (modulus-some _ (c .before .before .modulus .ensures) (c .before .if1 .left)) (c .if2 .taken))
 
 in-limits-requires : tie.Need-in-limits-requires
 in-limits-requires c κs = tt
 
 returns-3 : tie.Need-returns-3
 returns-3 c =
-    file-limits _ _ (c .before .before .before .before .before .sizes .ensures) (modulus-some _ (c .before .before .before .before .modulus .ensures) (c .before .before .before .if1 .left)) (c .before .before .if2 .left)
-    (failed (c .before .in-limits .ensures) (c .if3 .taken))
+    refuses (file-limits _ _ (c .before .before .before .before .before .sizes .ensures) (modulus-some _ (c .before .before .before .before .modulus .ensures) (c .before .before .before .if1 .left)) (c .before .before .if2 .left)
+    (failed (c .before .in-limits .ensures) (c .if3 .taken)))
 
 returns-4 : tie.Need-returns-4
 returns-4 c =
-    file-none _ _ (c .before .before .before .before .before .sizes .ensures) (modulus-some _ (c .before .before .before .before .modulus .ensures) (c .before .before .before .if1 .left)) (c .before .before .if2 .left)
-    (passed (c .before .in-limits .ensures) (c .if3 .left))
+    accepts (file-none _ _ (c .before .before .before .before .before .sizes .ensures) (modulus-some _ (c .before .before .before .before .modulus .ensures) (c .before .before .before .if1 .left)) (c .before .before .if2 .left)
+    (passed (c .before .in-limits .ensures) (c .if3 .left)))
 
 pub header-spec : {M : Type 1} → statement M
 header-spec =

@@ -1,100 +1,58 @@
--- The header decides, then the elements. Assumes nothing.
-use mathlib.Core.Path.{sym, ap, ap₂, _∙_}
-use mathlib.Core.List.{List}
-use Prim.Native.Nat.{ℕ, _≤_}
-use native.Mathlib.Omega.{arith}
+-- The check of the file, then the arrays. Assumes nothing.
+use mathlib.Core.Path.{sym, ap, _∙_}
 use borrow.Author.Needs.{needs}
 use Rattle.bits.specs.Bits.{over}
-use Rattle.key.specs.Keys.{Key, keyNumber}
-use Rattle.key.specs.Kept.{parts, kept}
-use Rattle.key.proofs.Conditions.{first-take}
-use Rattle.key_file.proofs.Files.{said-fit, support-over, g-over, over-decides, loaded-refused, loaded-sizes, read-none, read-whole}
+use Rattle.field.proofs.Verdicts.{verdict-accepted, verdict-refused, verdict-taken}
+use Rattle.key.specs.Keys.{Key}
+use Rattle.key_file.proofs.Files.{loaded-refused, loaded-sizes, read-none, read-accepted, head-accepted}
 use Rattle.key_file.proofs.load.Statement.{statement}
 use Rattle.key_file.proofs.load.Tie as tie
 
-header-requires : tie.Need-header-requires
-header-requires c κs = tt
+check-file-requires : tie.Need-check-file-requires
+check-file-requires c κs = tt
+
+enum-told : tie.Need-enum-told
+enum-told c = search needs
+
+enum-told-2 : tie.Need-enum-told-2
+enum-told-2 c = search needs
+
+number-requires : tie.Need-number-requires
+number-requires c κs = tt
 
 returns : tie.Need-returns
 returns c =
-    let a = c .before .before .before .args in
-    let e = c .before .header .ensures in
-    let n = c .if1 .taken in (
-      loaded-refused _ (e ∙ first-take 3 _ (λ z. n (e ∙ z))) n,
-      (read-none _ (λ z. n (e ∙ z)) (a .support .now) .0, read-none _ (λ z. n (e ∙ z)) (a .g .now) .1),
-    )
+    let a = c .before .before .before .before .before .args in
+    let v = c .before .before .before .check-file .ensures in
+    let h = c .before .enum-told2 .given .1 in
+    let t = verdict-taken _ v h (c .number .ensures) in
+    let n = verdict-refused _ v h in
+    (loaded-refused _ (t .0) (t .1), (read-none _ n (a .support .now) .0, read-none _ n (a .g .now) .1))
 
-sizes-requires : tie.Need-sizes-requires
-sizes-requires c κs = tt
-
-cast-n : tie.Need-cast-n
-cast-n c = search needs
-
-fill-requires : tie.Need-fill-requires
-fill-requires c κs =
-    let s = c .before .before in
-    let z = sym (s .before .before .header .ensures) ∙ s .before .if1 .left in
-    let fit = said-fit _ z _ (s .sizes .ensures) in (search needs, omega arith)
-
-mul-fill : tie.Need-mul-fill
-mul-fill c = search needs
-
-add-fill : tie.Need-add-fill
-add-fill c = search needs
-
-cast-fill : tie.Need-cast-fill
-cast-fill c = search needs
-
-fill-requires-2 : tie.Need-fill-requires-2
-fill-requires-2 c κs =
-    let s = c .before .before .before .before .before in
-    let z = sym (s .before .before .header .ensures) ∙ s .before .if1 .left in
-    let fit = said-fit _ z _ (s .sizes .ensures) in (search needs, omega arith)
-
-check-requires : tie.Need-check-requires
-check-requires c κs = tt
+fill-key-requires : tie.Need-fill-key-requires
+fill-key-requires c κs =
+    let t = c .before .before in
+    head-accepted _ (verdict-accepted _ (t .before .before .check-file .ensures) (t .enum-told .given .1))
 
 returns-2 : tie.Need-returns-2
 returns-2 c =
-    let s = c .before .before .before .before .before .before .before .before .before .before in
-    let a = s .before .before .before .before .args in
-    let z = sym (s .before .before .header .ensures) ∙ s .before .if1 .left in
-    let e = s .sizes .ensures in
-    let x = c .before .before .before .before .before .before .before .fill .ensures ∙ support-over _ _ e (a .support .now) (a .g .now) in
-    let y = c .before .before .before .before .fill2 .ensures ∙ g-over _ _ e (a .support .now) (a .g .now) in
-    let k = s .sizes .result in
-    let n = c .before .check .ensures ∙ ap₂ (λ (x y : List ℕ). keyNumber (kept (parts (k .m) (k .n) (k .t) x y))) x y ∙ over-decides _ _ e (a .support .now) (a .g .now) z in (
-      loaded-refused _ n (c .if2 .taken),
-      (x ∙ ap (λ (k : Key). over (k .support) (a .support .now)) (sym (read-whole _ z)), y ∙ ap (λ (k : Key). over (k .g) (a .g .now)) (sym (read-whole _ z))),
-    )
-
-returns-3 : tie.Need-returns-3
-returns-3 c =
-    let s = c .before .before .before .before .before .before .before .before .before .before in
-    let a = s .before .before .before .before .args in
-    let z = sym (s .before .before .header .ensures) ∙ s .before .if1 .left in
-    let e = s .sizes .ensures in
-    let x = c .before .before .before .before .before .before .before .fill .ensures ∙ support-over _ _ e (a .support .now) (a .g .now) in
-    let y = c .before .before .before .before .fill2 .ensures ∙ g-over _ _ e (a .support .now) (a .g .now) in
-    let k = s .sizes .result in
-    let n = c .before .check .ensures ∙ ap₂ (λ (x y : List ℕ). keyNumber (kept (parts (k .m) (k .n) (k .t) x y))) x y ∙ over-decides _ _ e (a .support .now) (a .g .now) z in (
-      loaded-sizes _ e (sym (c .if2 .left) ∙ n),
-      (x ∙ ap (λ (k : Key). over (k .support) (a .support .now)) (sym (read-whole _ z)), y ∙ ap (λ (k : Key). over (k .g) (a .g .now)) (sym (read-whole _ z))),
+    let t = c .before .before .before in
+    let a = t .before .before .before .before .args in
+    let e = c .fill-key .ensures in
+    let z = verdict-accepted _ (t .before .before .check-file .ensures) (t .enum-told .given .1) in
+    let w = sym (read-accepted _ z) in (
+      loaded-sizes _ (e .0) z,
+      (e .1 .0 ∙ ap (λ (k : Key). over (k .support) (a .support .now)) w, e .1 .1 ∙ ap (λ (k : Key). over (k .g) (a .g .now)) w),
     )
 
 pub load-spec : {M : Type 1} → statement M
 load-spec =
     tie.close
     (tie.spec
-    header-requires
+    check-file-requires
+    enum-told
+    enum-told-2
+    number-requires
     returns
-    sizes-requires
-    cast-n
-    fill-requires
-    mul-fill
-    add-fill
-    cast-fill
-    fill-requires-2
-    check-requires
-    returns-2
-    returns-3)
+    fill-key-requires
+    returns-2)

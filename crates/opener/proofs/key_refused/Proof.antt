@@ -1,12 +1,10 @@
 -- The words, the number and the newline. Assumes nothing.
-use mathlib.Core.Path.{sym}
-use mathlib.Core.List.{[], _++_}
+use mathlib.Core.List.{_++_}
 use native.Mathlib.Omega.{arith}
 use borrow.Author.Needs.{needs}
 use Rattle.opener.specs.Report.{keyRefused, decimal, newline}
-use Rattle.opener.proofs.Written.{joined, same-text}
+use Rattle.opener.proofs.Written.{joined}
 use Rattle.opener.proofs.Digits.{decimal-short}
-use Rattle.opener.proofs.Text.{key-refused}
 use Rattle.opener.proofs.key_refused.Statement.{statement}
 use Rattle.opener.proofs.key_refused.Tie as tie
 
@@ -37,14 +35,9 @@ unfolding keyRefused newline
 returns c =
     let d = c .before .before .before .before .before .before in
     let w = d .before .before .before .before in
-    let s = w .before .before .before .before in
-    let a = s .args in
-    let p = c .before .before .put in (
-      same-text (sym (key-refused (a .number) [] (λ e. omega (arith, s .pre, e))))
-          (joined keyRefused (decimal (a .number) ++ newline) (w .write .ensures)
-          (joined (decimal (a .number)) newline (d .decimal .ensures) (p .ensures))),
-      omega (arith, w .write .ensures .place, d .decimal .ensures .place, p .ensures .place, decimal-short 19 (a .number) (omega arith)),
-    )
+    let a = w .before .before .before .before .args in
+    joined keyRefused (decimal (a .number) ++ newline) (w .write .ensures)
+    (joined (decimal (a .number)) newline (d .decimal .ensures) (c .before .before .put .ensures))
 
 pub key-refused-spec : {M : Type 1} → statement M
 key-refused-spec =

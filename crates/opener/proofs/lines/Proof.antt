@@ -6,6 +6,7 @@ use lib.ListN.{length, take, drop}
 use Rattle.station.specs.Replies.{view}
 use Rattle.opener.specs.Report.{line, opened}
 use Rattle.opener.proofs.Written.{Left, left-start, left-step, left-none}
+use Rattle.opener.proofs.Shape.{four}
 use Rattle.opener.proofs.Capsules.{linesLeft, lines-all, lines-next, lines-done, line-room, capsule-some, capsule-few, capsule-bits}
 use Rattle.opener.proofs.Lengths.{opened-short}
 use Rattle.opener.proofs.lines.Statement.{statement}
@@ -32,15 +33,15 @@ line-at-requires c κs =
     let a = s .args in
     let l = c .before .before .loop in
     let n = c .before .before .before .capsule-bytes in
-    let h = capsule-some (n .ensures) (capsule-bits (s .pre .0) .0) in
+    let h = capsule-some (n .ensures) (capsule-bits (four _ (s .pre .0)) .0) in
     let r = line-room (view (a .station)) (n .result) (l .p) (a .input .now) (l .i) h (omega arith) in
-    let b = opened-short (view (a .station)) (s .pre .0) (a .input .now) (s .pre .1) in
+    let b = opened-short (view (a .station)) (four _ (s .pre .0)) (a .input .now) (s .pre .1) in
     (omega arith, omega (arith, l .inv .2 .place, r, b))
 
 add-i : tie.Need-add-i Inv-loop μ-loop
 add-i c =
     let s = c .before .before .before .before .before .before .before .before .before in
-    omega (arith, s .pre .1, capsule-few (c .before .before .before .before .before .before .capsule-bytes .ensures) (capsule-bits (s .pre .0) .1))
+    omega (arith, s .pre .1, capsule-few (c .before .before .before .before .before .before .capsule-bytes .ensures) (capsule-bits (four _ (s .pre .0)) .1))
 
 add-p : tie.Need-add-p Inv-loop μ-loop
 add-p c =
@@ -50,7 +51,7 @@ add-p c =
 loop-less : tie.Need-loop-less Inv-loop μ-loop
 loop-less c =
     let n = c .before .before .before .before .before .before in
-    omega (arith, capsule-some (n .capsule-bytes .ensures) (capsule-bits (n .before .before .before .pre .0) .0))
+    omega (arith, capsule-some (n .capsule-bytes .ensures) (capsule-bits (four _ (n .before .before .before .pre .0)) .0))
 
 loop-again : tie.Need-loop-again Inv-loop μ-loop
 loop-again c =
@@ -59,7 +60,7 @@ loop-again c =
     let n = c .before .before .before .before .before .before .capsule-bytes in
     let l = c .before .before .before .before .before .loop in
     let p = c .before .before .line-at in
-    let h = capsule-some (n .ensures) (capsule-bits (s .pre .0) .0) in (
+    let h = capsule-some (n .ensures) (capsule-bits (four _ (s .pre .0)) .0) in (
       p .kept .1 .1 .1 .1 .1 .0 ∙ l .inv .0,
       omega (arith, h, l .inv .1),
       left-step
@@ -81,7 +82,7 @@ returns c =
     left-none
     (lines-done (view (a .station)) (c .before .before .capsule-bytes .result) (l .p) (a .input .now) (l .i) (c .loop-test .left))
     (l .inv .2) in
-    (w, omega (arith, w .place, opened-short (view (a .station)) (s .pre .0) (a .input .now) (s .pre .1)))
+    (w, omega (arith, w .place, opened-short (view (a .station)) (four _ (s .pre .0)) (a .input .now) (s .pre .1)))
 
 pub lines-spec : {M : Type 1} → statement M
 lines-spec =

@@ -1,57 +1,69 @@
--- The parts that are lent are the first bytes of the file and of the input. Assumes nothing.
-use mathlib.Core.Path.{sym, ap₂, _∙_}
-use native.Mathlib.Nat.{min-le-left, zero-add}
-use native.Mathlib.Omega.{arith}
+-- The text of the key, or the lines. Assumes nothing.
+use mathlib.Core.Path.{sym, ap, _∙_}
 use borrow.Author.Needs.{needs}
-use lib.ListN.{length}
-use Rattle.opener.specs.Report.{whole, report}
-use Rattle.opener.proofs.Written.{same-text, sets-over}
-use Rattle.opener.proofs.Capsules.{taken, taken-length}
+use Rattle.station.specs.Replies.{view}
+use Rattle.opener.specs.Prepared.{keyText, capsuleLines}
+use Rattle.opener.specs.declared.KeyAnswer.{KeyAnswer}
+use Rattle.opener.specs.declared.Ready.{Ready}
+use Rattle.opener.proofs.Written.{same-printed}
+use Rattle.opener.proofs.Stages.{not-accepted, text-other, report-parts}
 use Rattle.opener.proofs.report.Statement.{statement}
 use Rattle.opener.proofs.report.Tie as tie
 
-smaller-requires : tie.Need-smaller-requires
-smaller-requires c κs = search needs
+prepare-requires : tie.Need-prepare-requires
+prepare-requires c κs = search needs
 
-smaller-requires-2 : tie.Need-smaller-requires-2
-smaller-requires-2 c κs = search needs
+enum-told : tie.Need-enum-told
+enum-told c = search needs
 
-slice-aggregate-whole : tie.Need-slice-aggregate-whole
-slice-aggregate-whole c = sym (taken-length 4096 (c .before .before .before .before .before .before .args .file .now) (c .before .before .smaller .ensures))
-
-slice-aggregate-whole-2 : tie.Need-slice-aggregate-whole-2
-slice-aggregate-whole-2 c = sym (taken-length 65536 (c .before .before .before .before .before .before .before .args .input .now) (c .before .before .smaller2 .ensures))
-
-whole-requires : tie.Need-whole-requires
-whole-requires c κs =
-    let n = c .before .before .before .smaller2 in
-    let a = c .before .before .before .before .before .before .before .before .args in
-    omega (arith, taken-length 65536 (a .input .now) (n .ensures), n .ensures, min-le-left 65536 (length (a .input .now)))
+key-text-requires : tie.Need-key-text-requires
+key-text-requires c κs = search needs
 
 same-length : tie.Need-same-length
 same-length c = search needs
 
 returns : tie.Need-returns
-unfolding report
 returns c =
-    let f = c .before .before .before .before .before .before .before in
-    let i = c .before .before .before .before .before .before in
-    let a = c .before .before .before .before .before .before .before .before .before .before .before .args in
-    let e = c .before .before .whole .ensures in
-    let w =
-    same-text
-    (ap₂ whole (taken 4096 (a .file .now) (f .smaller .ensures)) (taken 65536 (a .input .now) (i .smaller2 .ensures)))
-    (e .0) in
-    (w .place ∙ zero-add _, (w .output ∙ sets-over (report (a .file .now) (a .input .now)) (a .out .now), e .1))
+    let k = c .before .before in
+    let m = k .before .before in
+    let p = m .before .prepare in
+    let a = m .before .before .before .before .before .args in
+    let r = p .result in
+    let e =
+    report-parts (a .file .now) (a .input .now)
+    ∙ ap (λ (y : Ready). keyText (y .answer) (capsuleLines (view (y .station)) (a .input .now))) (sym (p .ensures))
+    ∙ text-other (r .answer) (capsuleLines (view (r .station)) (a .input .now)) (not-accepted (r .answer) (m .match .keys2)) in
+    same-printed (sym e) (k .key-text .ensures)
+
+open-lines-requires : tie.Need-open-lines-requires
+open-lines-requires c κs = search needs
+
+same-length-2 : tie.Need-same-length-2
+same-length-2 c = search needs
+
+returns-2 : tie.Need-returns-2
+unfolding keyText
+returns-2 c =
+    let k = c .before .before in
+    let m = k .before .before in
+    let p = m .before .before .prepare in
+    let a = m .before .before .before .before .before .before .args in
+    let r = p .result in
+    let e =
+    report-parts (a .file .now) (a .input .now)
+    ∙ ap (λ (y : Ready). keyText (y .answer) (capsuleLines (view (y .station)) (a .input .now))) (sym (p .ensures))
+    ∙ ap (λ (x : KeyAnswer). keyText x (capsuleLines (view (r .station)) (a .input .now))) (m .enum-told .given .1) in
+    same-printed (sym e) (k .open-lines .ensures)
 
 pub report-spec : {M : Type 1} → statement M
 report-spec =
     tie.close
     (tie.spec
-    smaller-requires
-    smaller-requires-2
-    slice-aggregate-whole
-    slice-aggregate-whole-2
-    whole-requires
+    prepare-requires
+    enum-told
+    key-text-requires
     same-length
-    returns)
+    returns
+    open-lines-requires
+    same-length-2
+    returns-2)

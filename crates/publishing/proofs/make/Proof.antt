@@ -7,6 +7,7 @@ use borrow.Author.Needs.{needs}
 use borrow.Author.Tests.{not-true, not-false}
 use lib.ListN.{length}
 use Rattle.bits.specs.Bits.{bytesFor, over}
+use Rattle.field.proofs.Verdicts.{refuses, accepts}
 use Rattle.key.specs.Kept.{kept, parts}
 use Rattle.key.proofs.Parts.{keyOf-kept}
 use Rattle.code.specs.Code.{parityRows}
@@ -58,7 +59,7 @@ returns c =
     let rows : rowsOf (k .m * k .t) (k .n) w ≡ parityRows (kept k) =
     q .ensures .0 ∙ ap parityRows (keyOf-kept k (f .0)) in
     let e = sym (c .before .before .before .eliminate .ensures .0) ∙ not-true _ (c .if1 .taken) in
-    (dependent-made (kept k) z w room rows e, (nothing-written (kept k) z w room rows e (b .args .out .now), c .before .before .before .eliminate .ensures .1 .1 .0 ∙ q .ensures .1))
+    (refuses (dependent-made (kept k) z w room rows e), (nothing-written (kept k) z w room rows e (b .args .out .now), c .before .before .before .eliminate .ensures .1 .1 .0 ∙ q .ensures .1))
 
 write-rows-requires : tie.Need-write-rows-requires
 unfolding kept
@@ -93,7 +94,7 @@ returns-2 c =
     let el = c .before .before .before .before .before .before .before .before .eliminate in
     let e = sym (el .ensures .0) ∙ not-false _ (c .before .before .before .before .before .if1 .left) in
     let d = el .ensures .1 .0 (not-false _ (c .before .before .before .before .before .if1 .left)) in (
-      independent-made (kept k) z w room rows e,
+      accepts (independent-made (kept k) z w room rows e),
       (
         c .before .before .write-rows .ensures
             ∙ ap (λ (t : List ℕ). over t (b .args .out .now)) (columns-written (kept k) z w room rows e (el .last .0) d),

@@ -1,20 +1,18 @@
 -- The tests of the places found. Assumes nothing.
-use mathlib.Core.Path.{_≡_, sym}
+use mathlib.Core.Path.{_≡_, sym, _∙_}
 use native.Mathlib.Omega.{arith}
 use borrow.Author.Needs.{needs}
 use lib.ListN.{length}
 use lib.Seq.{length-take-le}
 use Rattle.key.proofs.Order.{failed, passed}
-use Rattle.decoding.proofs.Explained.{sized, sums-number, found-many, found-other, found-pattern}
+use Rattle.decoding.proofs.Explained.{sums-number, found-many, found-other, found-pattern}
 use Rattle.decoding.proofs.decoding.explain.Statement.{statement}
 use Rattle.decoding.proofs.decoding.explain.Tie as tie
 
 word-sums-requires : tie.Need-word-sums-requires
 word-sums-requires c κs =
     let b = c .before .before .before in
-    let a = b .args in
-    let k = sized (a .m) (a .support .now) (a .g .now) (b .pre) in
-    (k .width, k .support-few, k .g-few)
+    b .pre
 
 mul-k : tie.Need-mul-k
 mul-k c = search needs
@@ -23,7 +21,6 @@ array-share-prefix-s : tie.Need-array-share-prefix-s
 array-share-prefix-s c =
     let b = c .before .before .before .before in
     let a = b .args in
-    let k = sized (a .m) (a .support .now) (a .g .now) (b .pre) in
     let l : length (c .word-sums .result) ≡ 256 = search needs in
     omega arith
 
@@ -31,7 +28,6 @@ slice-aggregate-located : tie.Need-slice-aggregate-located
 slice-aggregate-located c =
     let b = c .before .before .before .before .before in
     let a = b .args in
-    let k = sized (a .m) (a .support .now) (a .g .now) (b .pre) in
     let l : length (c .before .word-sums .result) ≡ 256 = search needs in
     sym (length-take-le _ (c .before .word-sums .result) (omega arith))
 
@@ -39,8 +35,7 @@ located-requires : tie.Need-located-requires
 located-requires c κs =
     let b = c .before .before .before .before .before in
     let a = b .args in
-    let k = sized (a .m) (a .support .now) (a .g .now) (b .pre) in
-    (k .support-few, sums-number (a .m) (a .support .now) (a .g .now) (b .pre) (a .word .now) _ (c .before .word-sums .ensures))
+    (b .pre .1, sums-number (a .m) (a .support .now) (a .g .now) (b .pre .0) (b .pre .2) (a .word .now) _ (c .before .word-sums .ensures))
 
 slice-aggregate-weight : tie.Need-slice-aggregate-weight
 slice-aggregate-weight c = search needs
@@ -48,14 +43,18 @@ slice-aggregate-weight c = search needs
 weight-requires : tie.Need-weight-requires
 weight-requires c κs = tt
 
+nothing-requires : tie.Need-nothing-requires
+nothing-requires c κs = tt
+
 returns : tie.Need-returns
 returns c =
-    let p = c .before .before .before in
+    let p = c .before .before .before .before in
     let s = p .before .before in
     let b = s .before .before .before .before in
     let a = b .args in
-    found-many (a .m) (a .support .now) (a .g .now) (b .pre) (a .word .now) _ (s .word-sums .ensures) _ (p .located .ensures)
-    (rw (sym (c .before .weight .ensures)) (c .if1 .taken))
+    c .nothing .ensures
+    ∙ found-many (a .m) (a .support .now) (a .g .now) (b .pre .0) (b .pre .2) (a .word .now) _ (s .word-sums .ensures) _ (p .located .ensures)
+    (rw (sym (c .before .before .weight .ensures)) (c .before .if1 .taken))
 
 slice-aggregate-word-sums : tie.Need-slice-aggregate-word-sums
 slice-aggregate-word-sums c = search needs
@@ -63,9 +62,7 @@ slice-aggregate-word-sums c = search needs
 word-sums-requires-2 : tie.Need-word-sums-requires-2
 word-sums-requires-2 c κs =
     let b = c .before .before .before .before .before .before .before .before .before .before in
-    let a = b .args in
-    let k = sized (a .m) (a .support .now) (a .g .now) (b .pre) in
-    (k .width, k .support-few, k .g-few)
+    b .pre
 
 slice-aggregate-same : tie.Need-slice-aggregate-same
 slice-aggregate-same c = search needs
@@ -81,16 +78,20 @@ same-requires c κs =
     let k : length (s .word-sums .result) ≡ 256 = search needs in
     omega arith
 
+nothing-requires-2 : tie.Need-nothing-requires-2
+nothing-requires-2 c κs = tt
+
 returns-2 : tie.Need-returns-2
 returns-2 c =
-    let o = c .before .before .before .before in
+    let o = c .before .before .before .before .before in
     let w = o .before .before in
     let p = w .before .before .before in
     let s = p .before .before in
     let b = s .before .before .before .before in
     let a = b .args in
-    found-other (a .m) (a .support .now) (a .g .now) (b .pre) (a .word .now) _ (s .word-sums .ensures) _ (p .located .ensures)
-    (rw (sym (w .before .weight .ensures)) (w .if1 .left)) _ (o .word-sums2 .ensures) (failed (c .before .same .ensures) (c .if2 .taken))
+    c .nothing2 .ensures
+    ∙ found-other (a .m) (a .support .now) (a .g .now) (b .pre .0) (b .pre .2) (a .word .now) _ (s .word-sums .ensures) _ (p .located .ensures)
+    (rw (sym (w .before .weight .ensures)) (w .if1 .left)) _ (o .word-sums2 .ensures) (failed (c .before .before .same .ensures) (c .before .if2 .taken))
 
 returns-3 : tie.Need-returns-3
 returns-3 c =
@@ -100,7 +101,7 @@ returns-3 c =
     let s = p .before .before in
     let b = s .before .before .before .before in
     let a = b .args in
-    found-pattern (a .m) (a .support .now) (a .g .now) (b .pre) (a .word .now) _ (s .word-sums .ensures) _ (p .located .ensures)
+    found-pattern (a .m) (a .support .now) (a .g .now) (b .pre .0) (b .pre .2) (a .word .now) _ (s .word-sums .ensures) _ (p .located .ensures)
     (rw (sym (w .before .weight .ensures)) (w .if1 .left)) _ (o .word-sums2 .ensures) (passed (c .before .same .ensures) (c .if2 .left))
 
 pub explain-spec : {M : Type 1} → statement M
@@ -114,11 +115,13 @@ explain-spec =
     located-requires
     slice-aggregate-weight
     weight-requires
+    nothing-requires
     returns
     slice-aggregate-word-sums
     word-sums-requires-2
     slice-aggregate-same
     slice-aggregate-same-2
     same-requires
+    nothing-requires-2
     returns-2
     returns-3)

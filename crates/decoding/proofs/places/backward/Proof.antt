@@ -7,7 +7,7 @@ use borrow.Author.Needs.{needs}
 use lib.ListN.{length, take, set, length-set}
 use lib.Seq.{take-all}
 use Rattle.bits.specs.Bits.{padded}
-use Rattle.decoding.specs.Parts.{backward}
+use Rattle.decoder.specs.Decoding.{backward}
 use Rattle.bits.proofs.Padded.{padded-start, padded-next}
 use Rattle.decoding.proofs.Located.{length-backward, backward-at}
 use Rattle.decoding.proofs.places.backward.Statement.{statement}

@@ -1,8 +1,9 @@
 -- The tests in order. Assumes nothing.
-use mathlib.Core.Path.{sym, _∙_}
+use mathlib.Core.Path.{sym, ap, _∙_}
 use native.Mathlib.Omega.{arith}
-use borrow.Author.Needs.{needs}
 use lib.Seq.{length-take-le}
+use Rattle.field.specs.Verdicts.{verdictOf}
+use Rattle.field.proofs.Verdicts.{refuses}
 use Rattle.field.proofs.Table.{modulus-none, modulus-some}
 use Rattle.key.specs.Kept.{kept, parts}
 use Rattle.key.proofs.Order.{failed, passed}
@@ -18,7 +19,7 @@ unfolding kept
 returns c =
     let a = c .before .before .before .before .args in
     let k = parts (a .m) (a .n) (a .t) (a .support .now) (a .g .now) in
-    first-from 3 _ (head-width (wrongLength k) (kept k) (modulus-none _ (c .before .modulus .ensures) (c .if1 .taken))) ∙ kept-number k
+    refuses (first-from 3 _ (head-width (wrongLength k) (kept k) (modulus-none _ (c .before .modulus .ensures) (c .if1 .taken))) ∙ kept-number k)
 
 returns-2 : tie.Need-returns-2
 unfolding kept
@@ -26,7 +27,7 @@ returns-2 c =
     let a = c .before .before .before .before .before .args in
     let k = parts (a .m) (a .n) (a .t) (a .support .now) (a .g .now) in
     let w = modulus-some _ (c .before .before .modulus .ensures) (c .before .if1 .left) in
-    first-from 3 _ (head-length (wrongLength k) (kept k) w (wrong-n k (c .if2 .taken))) ∙ kept-number k
+    refuses (first-from 3 _ (head-length (wrongLength k) (kept k) w (wrong-n k (c .if2 .taken))) ∙ kept-number k)
 
 returns-3 : tie.Need-returns-3
 unfolding kept
@@ -34,7 +35,7 @@ returns-3 c =
     let a = c .before .before .before .before .before .before .args in
     let k = parts (a .m) (a .n) (a .t) (a .support .now) (a .g .now) in
     let w = modulus-some _ (c .before .before .before .modulus .ensures) (c .before .before .if1 .left) in
-    first-from 3 _ (head-length (wrongLength k) (kept k) w (wrong-t k (c .if3 .taken))) ∙ kept-number k
+    refuses (first-from 3 _ (head-length (wrongLength k) (kept k) w (wrong-t k (c .if3 .taken))) ∙ kept-number k)
 
 in-limits-requires : tie.Need-in-limits-requires
 in-limits-requires c κs = tt
@@ -46,7 +47,7 @@ returns-4 c =
     let k = parts (a .m) (a .n) (a .t) (a .support .now) (a .g .now) in
     let w = modulus-some _ (c .before .before .before .before .before .modulus .ensures) (c .before .before .before .before .if1 .left) in
     let l = right-length k (c .before .before .before .if2 .left) (c .before .before .if3 .left) in
-    first-from 3 _ (head-limits (wrongLength k) (kept k) w l (failed (c .before .in-limits .ensures) (c .if4 .taken))) ∙ kept-number k
+    refuses (first-from 3 _ (head-limits (wrongLength k) (kept k) w l (failed (c .before .in-limits .ensures) (c .if4 .taken))) ∙ kept-number k)
 
 slice-aggregate-faults : tie.Need-slice-aggregate-faults
 slice-aggregate-faults c = sym (length-take-le _ _ (c .before .before .before .before .if2 .left))
@@ -72,7 +73,7 @@ returns-5 c =
     let k = parts (a .m) (a .n) (a .t) (a .support .now) (a .g .now) in
     let w = modulus-some _ (e .before .before .before .before .before .modulus .ensures) (e .before .before .before .before .if1 .left) in
     let l = right-length k (e .before .before .before .if2 .left) (e .before .before .if3 .left) in
-    kept-faults-number k w l (passed (e .before .in-limits .ensures) (e .if4 .left)) (c .faults .ensures)
+    c .faults .ensures ∙ ap verdictOf (kept-faults-number k w l (passed (e .before .in-limits .ensures) (e .if4 .left)))
 
 pub check-spec : {M : Type 1} → statement M
 check-spec =

@@ -1,6 +1,7 @@
 -- The tests in order. Assumes nothing.
 use mathlib.Core.Path.{sym, _∙_}
 use native.Mathlib.Omega.{arith}
+use Rattle.field.proofs.Verdicts.{refuses, accepts}
 use Rattle.euclid.proofs.Answers.{square-in-bounds}
 use Rattle.key.proofs.Order.{failed, passed, distinct-elements, fault-support, fault-coefficient, fault-twice, fault-square, fault-root, fault-none}
 use Rattle.key.proofs.checks.faults.Statement.{statement}
@@ -10,14 +11,14 @@ elements-requires : tie.Need-elements-requires
 elements-requires c κs = tt
 
 returns : tie.Need-returns
-returns c = fault-support _ _ _ (failed (c .before .elements .ensures) (c .if1 .taken))
+returns c = refuses (fault-support _ _ _ (failed (c .before .elements .ensures) (c .if1 .taken)))
 
 elements-requires-2 : tie.Need-elements-requires-2
 elements-requires-2 c κs = tt
 
 returns-2 : tie.Need-returns-2
 returns-2 c =
-    fault-coefficient _ _ _ (passed (c .before .before .before .elements .ensures) (c .before .before .if1 .left)) (failed (c .before .elements2 .ensures) (c .if2 .taken))
+    refuses (fault-coefficient _ _ _ (passed (c .before .before .before .elements .ensures) (c .before .before .if1 .left)) (failed (c .before .elements2 .ensures) (c .if2 .taken)))
 
 distinct-requires : tie.Need-distinct-requires
 distinct-requires c κs = tt
@@ -25,10 +26,11 @@ distinct-requires c κs = tt
 returns-3 : tie.Need-returns-3
 returns-3 c =
     let s = passed (c .before .before .before .before .before .elements .ensures) (c .before .before .before .before .if1 .left) in
-    fault-twice _ _ _
+    refuses
+    (fault-twice _ _ _
     s
     (passed (c .before .before .before .elements2 .ensures) (c .before .before .if2 .left))
-    (failed (c .before .distinct .ensures ∙ distinct-elements _ _ (c .before .before .before .before .before .before .before .before .pre .0) s) (c .if3 .taken))
+    (failed (c .before .distinct .ensures ∙ distinct-elements _ _ (c .before .before .before .before .before .before .before .before .pre .0) s) (c .if3 .taken)))
 
 has-square-requires : tie.Need-has-square-requires
 has-square-requires c κs = tt
@@ -38,11 +40,12 @@ returns-4 c =
     let pre = c .before .before .before .before .before .before .before .before .before .before .pre in
     let s = passed (c .before .before .before .before .before .before .before .elements .ensures) (c .before .before .before .before .before .before .if1 .left) in
     let g = passed (c .before .before .before .before .before .elements2 .ensures) (c .before .before .before .before .if2 .left) in
-    fault-square _ _ _
+    refuses
+    (fault-square _ _ _
     s
     g
     (passed (c .before .before .before .distinct .ensures ∙ distinct-elements _ _ (pre .0) s) (c .before .before .if3 .left))
-    (sym (square-in-bounds _ _ (pre .0) (pre .2) g) ∙ sym (c .before .has-square .ensures) ∙ c .if4 .taken)
+    (sym (square-in-bounds _ _ (pre .0) (pre .2) g) ∙ sym (c .before .has-square .ensures) ∙ c .if4 .taken))
 
 no-root-requires : tie.Need-no-root-requires
 no-root-requires c κs = (c .before .before .before .before .before .before .before .before .before .before .pre .0, omega arith)
@@ -52,24 +55,26 @@ returns-5 c =
     let pre = c .before .before .before .before .before .before .before .before .before .before .before .before .pre in
     let s = passed (c .before .before .before .before .before .before .before .before .before .elements .ensures) (c .before .before .before .before .before .before .before .before .if1 .left) in
     let g = passed (c .before .before .before .before .before .before .before .elements2 .ensures) (c .before .before .before .before .before .before .if2 .left) in
-    fault-root _ _ _
+    refuses
+    (fault-root _ _ _
     s
     g
     (passed (c .before .before .before .before .before .distinct .ensures ∙ distinct-elements _ _ (pre .0) s) (c .before .before .before .before .if3 .left))
     (sym (square-in-bounds _ _ (pre .0) (pre .2) g) ∙ sym (c .before .before .before .has-square .ensures) ∙ c .before .before .if4 .left)
-    (failed (c .before .no-root .ensures) (c .if5 .taken))
+    (failed (c .before .no-root .ensures) (c .if5 .taken)))
 
 returns-6 : tie.Need-returns-6
 returns-6 c =
     let pre = c .before .before .before .before .before .before .before .before .before .before .before .before .pre in
     let s = passed (c .before .before .before .before .before .before .before .before .before .elements .ensures) (c .before .before .before .before .before .before .before .before .if1 .left) in
     let g = passed (c .before .before .before .before .before .before .before .elements2 .ensures) (c .before .before .before .before .before .before .if2 .left) in
-    fault-none _ _ _
+    accepts
+    (fault-none _ _ _
     s
     g
     (passed (c .before .before .before .before .before .distinct .ensures ∙ distinct-elements _ _ (pre .0) s) (c .before .before .before .before .if3 .left))
     (sym (square-in-bounds _ _ (pre .0) (pre .2) g) ∙ sym (c .before .before .before .has-square .ensures) ∙ c .before .before .if4 .left)
-    (passed (c .before .no-root .ensures) (c .if5 .left))
+    (passed (c .before .no-root .ensures) (c .if5 .left)))
 
 pub faults-spec : {M : Type 1} → statement M
 faults-spec =

@@ -9,21 +9,20 @@ use lib.Seq.{drop-length, drop-cons}
 use Rattle.bits.specs.Xor.{_⊕_}
 use Rattle.field.specs.Field.{mul}
 use Rattle.field.specs.Poly.{value}
+use Rattle.field.proofs.Arrays.{value-nil, value-cons}
 use Rattle.poly.proofs.horner.value.Statement.{statement}
 use Rattle.poly.proofs.horner.value.Tie as tie
 
 module _ (m : ℕ) (p : List ℕ) (a : ℕ) where
   start : 0 ≡ value m (drop (length p) p) a
-  unfolding value
-  start = ap (λ (l : List ℕ). value m l a) (sym (drop-length p))
+  start = sym (ap (λ (l : List ℕ). value m l a) (drop-length p) ∙ value-nil m a)
 
   next : (k : ℕ) {r x : ℕ} → 0 < k → k ≤ length p → r ≡ value m (drop k p) a → x ≡ mul m a r
       → getD p (k - 1) 0 ⊕ x ≡ value m (drop (k - 1) p) a
-  unfolding value
   next k {r} h b e q =
       let s : k ≡ suc (k - 1) = omega arith in
       ap (λ (y : ℕ). getD p (k - 1) 0 ⊕ y) (q ∙ ap (mul m a) (e ∙ ap (λ (i : ℕ). value m (drop i p) a) s))
-      ∙ ap (λ (l : List ℕ). value m l a) (sym (drop-cons p (k - 1) 0 (omega arith)))
+      ∙ sym (ap (λ (l : List ℕ). value m l a) (drop-cons p (k - 1) 0 (omega arith)) ∙ value-cons m (getD p (k - 1) 0) _ a)
 
   whole : (k : ℕ) {r : ℕ} → k ≤ 0 → r ≡ value m (drop k p) a → r ≡ value m p a
   whole k h e = let z : k ≡ 0 = omega arith in e ∙ ap (λ (i : ℕ). value m (drop i p) a) z

@@ -1,29 +1,37 @@
 -- The checks, the reading, its number of ones, then the output. Assumes nothing.
-use mathlib.Core.Path.{sym, _∙_}
+use mathlib.Core.Path.{_∙_}
 use mathlib.Core.Bool.{not}
 use native.Mathlib.Omega.{arith}
 use borrow.Author.Needs.{needs}
+use Rattle.field.proofs.Verdicts.{verdict-accepted, verdict-taken}
 use Rattle.key.specs.Kept.{kept, parts}
-use Rattle.decoding.proofs.Explained.{kept-sized}
+use Rattle.decoding.proofs.Explained.{few-places}
 use Rattle.reading.proofs.Refusals.{open-clear}
 use Rattle.reading.proofs.Answered.{reading-none, reading-some, open-refusal, open-none, open-other, open-some}
 use Rattle.reading.proofs.calls.open.Statement.{statement}
 use Rattle.reading.proofs.calls.open.Tie as tie
 
-open-refusal-requires : tie.Need-open-refusal-requires
-open-refusal-requires c κs = tt
+check-capsule-requires : tie.Need-check-capsule-requires
+check-capsule-requires c κs = tt
+
+enum-told : tie.Need-enum-told
+enum-told c = search needs
+
+enum-told-2 : tie.Need-enum-told-2
+enum-told-2 c = search needs
+
+number-requires : tie.Need-number-requires
+number-requires c κs = tt
 
 returns : tie.Need-returns
 returns c =
-    let a = c .before .before .before .before .args in
+    let a = c .before .before .before .before .before .before .args in
+    let t = verdict-taken _ (c .before .before .before .check-capsule .ensures) (c .before .enum-told2 .given .1) (c .number .ensures) in
     let k = parts (a .m) (a .n) (a .t) (a .support .now) (a .g .now) in
-    open-refusal (not (a .published)) k (a .capsule .now) (a .out .now) (c .before .open-refusal .ensures) (c .if1 .taken)
+    open-refusal (not (a .published)) k (a .capsule .now) (a .out .now) (t .0) (t .1)
 
 decode-requires : tie.Need-decode-requires
-decode-requires c κs =
-    let a = c .before .before .before .before .args in
-    let k = parts (a .m) (a .n) (a .t) (a .support .now) (a .g .now) in
-    open-clear (not (a .published)) (kept k) (a .capsule .now) (a .out .now) (sym (c .before .open-refusal .ensures) ∙ c .if1 .left) .0
+decode-requires c κs = tt
 
 counted-requires : tie.Need-counted-requires
 counted-requires c κs = tt
@@ -31,18 +39,20 @@ counted-requires c κs = tt
 enum-known-answer : tie.Need-enum-known-answer
 enum-known-answer c = search needs
 
-enum-told : tie.Need-enum-told
-enum-told c = search needs
+enum-told-3 : tie.Need-enum-told-3
+enum-told-3 c = search needs
 
 returns-2 : tie.Need-returns-2
 returns-2 c =
     let n = c .before .before in
     let d = n .before in
     let t = d .before in
-    let a = t .before .before .before .before .args in
+    let a = t .before .before .before .before .before .args in
     let k = parts (a .m) (a .n) (a .t) (a .support .now) (a .g .now) in
-    open-none (not (a .published)) k (a .capsule .now) (a .out .now) (sym (t .before .open-refusal .ensures) ∙ t .if1 .left)
-    (reading-none k (a .capsule .now) _ (d .decode .ensures) _ (n .counted .ensures) (c .enum-told .given .1))
+    let clear = verdict-accepted _ (t .before .before .check-capsule .ensures) (t .enum-told .given .1) in
+    let z = open-clear (not (a .published)) (kept k) (a .capsule .now) (a .out .now) clear .0 in
+    open-none (not (a .published)) k (a .capsule .now) (a .out .now) clear
+    (reading-none k (a .capsule .now) z _ (d .decode .ensures) _ (n .counted .ensures) (c .enum-told3 .given .1))
 
 returns-3 : tie.Need-returns-3
 returns-3 c =
@@ -50,20 +60,22 @@ returns-3 c =
     let n = v .before .before in
     let d = n .before in
     let t = d .before in
-    let a = t .before .before .before .before .args in
+    let a = t .before .before .before .before .before .args in
     let k = parts (a .m) (a .n) (a .t) (a .support .now) (a .g .now) in
-    open-other (not (a .published)) k (a .capsule .now) (a .out .now) (sym (t .before .open-refusal .ensures) ∙ t .if1 .left)
-    (reading-some k (a .capsule .now) _ (d .decode .ensures) _ (n .counted .ensures) (v .answer .given .1))
+    let clear = verdict-accepted _ (t .before .before .check-capsule .ensures) (t .enum-told .given .1) in
+    let z = open-clear (not (a .published)) (kept k) (a .capsule .now) (a .out .now) clear .0 in
+    open-other (not (a .published)) k (a .capsule .now) (a .out .now) clear
+    (reading-some k (a .capsule .now) z _ (d .decode .ensures) _ (n .counted .ensures) (v .answer .given .1))
     (λ q. omega arith)
 
 give-requires : tie.Need-give-requires
 unfolding kept
 give-requires c κs =
     let t = c .before .before .before .before .before .before .before in
-    let a = t .before .before .before .before .args in
+    let a = t .before .before .before .before .before .args in
     let k = parts (a .m) (a .n) (a .t) (a .support .now) (a .g .now) in
-    let r = open-clear (not (a .published)) (kept k) (a .capsule .now) (a .out .now) (sym (t .before .open-refusal .ensures) ∙ t .if1 .left) in
-    (kept-sized k (r .0) .0, r .2)
+    let r = open-clear (not (a .published)) (kept k) (a .capsule .now) (a .out .now) (verdict-accepted _ (t .before .before .check-capsule .ensures) (t .enum-told .given .1)) in
+    (few-places k (a .capsule .now) (r .0), r .2)
 
 same-length : tie.Need-same-length
 same-length c = search needs
@@ -74,23 +86,28 @@ returns-4 c =
     let n = v .before .before in
     let d = n .before in
     let t = d .before in
-    let a = t .before .before .before .before .args in
+    let a = t .before .before .before .before .before .args in
     let k = parts (a .m) (a .n) (a .t) (a .support .now) (a .g .now) in
-    let s = open-some (not (a .published)) k (a .capsule .now) (a .out .now) (sym (t .before .open-refusal .ensures) ∙ t .if1 .left)
-    (reading-some k (a .capsule .now) _ (d .decode .ensures) _ (n .counted .ensures) (v .answer .given .1))
-    (omega (arith, c .before .before .before .before .if2 .left)) in
+    let clear = verdict-accepted _ (t .before .before .check-capsule .ensures) (t .enum-told .given .1) in
+    let z = open-clear (not (a .published)) (kept k) (a .capsule .now) (a .out .now) clear .0 in
+    let s = open-some (not (a .published)) k (a .capsule .now) (a .out .now) clear
+    (reading-some k (a .capsule .now) z _ (d .decode .ensures) _ (n .counted .ensures) (v .answer .given .1))
+    (omega (arith, c .before .before .before .before .if1 .left)) in
     (s .0, c .before .before .give .ensures ∙ s .1)
 
 pub open-spec : {M : Type 1} → statement M
 open-spec =
     tie.close
     (tie.spec
-    open-refusal-requires
+    check-capsule-requires
+    enum-told
+    enum-told-2
+    number-requires
     returns
     decode-requires
     counted-requires
     enum-known-answer
-    enum-told
+    enum-told-3
     returns-2
     returns-3
     give-requires

@@ -1,28 +1,35 @@
 -- The checks, the reading, then the output. Assumes nothing.
-use mathlib.Core.Path.{sym, _∙_}
-use native.Mathlib.Omega.{arith}
+use mathlib.Core.Path.{_∙_}
 use borrow.Author.Needs.{needs}
+use Rattle.field.proofs.Verdicts.{verdict-accepted, verdict-taken}
 use Rattle.key.specs.Kept.{kept, parts}
-use Rattle.decoding.proofs.Explained.{kept-sized}
+use Rattle.decoding.proofs.Explained.{few-places}
 use Rattle.reading.proofs.Refusals.{read-clear}
 use Rattle.reading.proofs.Answered.{reading-none, refused-none, reading-some, read-refusal, read-none, read-some}
 use Rattle.reading.proofs.calls.read.Statement.{statement}
 use Rattle.reading.proofs.calls.read.Tie as tie
 
-read-refusal-requires : tie.Need-read-refusal-requires
-read-refusal-requires c κs = tt
+check-word-requires : tie.Need-check-word-requires
+check-word-requires c κs = tt
+
+enum-told : tie.Need-enum-told
+enum-told c = search needs
+
+enum-told-2 : tie.Need-enum-told-2
+enum-told-2 c = search needs
+
+number-requires : tie.Need-number-requires
+number-requires c κs = tt
 
 returns : tie.Need-returns
 returns c =
-    let a = c .before .before .before .before .args in
+    let a = c .before .before .before .before .before .before .args in
+    let t = verdict-taken _ (c .before .before .before .check-word .ensures) (c .before .enum-told2 .given .1) (c .number .ensures) in
     let k = parts (a .m) (a .n) (a .t) (a .support .now) (a .g .now) in
-    read-refusal k (a .word .now) (a .out .now) (c .before .read-refusal .ensures) (c .if1 .taken)
+    read-refusal k (a .word .now) (a .out .now) (t .0) (t .1)
 
 decode-requires : tie.Need-decode-requires
-decode-requires c κs =
-    let a = c .before .before .before .before .args in
-    let k = parts (a .m) (a .n) (a .t) (a .support .now) (a .g .now) in
-    read-clear (kept k) (a .word .now) (a .out .now) (sym (c .before .read-refusal .ensures) ∙ c .if1 .left) .0
+decode-requires c κs = tt
 
 counted-requires : tie.Need-counted-requires
 counted-requires c κs = tt
@@ -30,28 +37,30 @@ counted-requires c κs = tt
 enum-known-answer : tie.Need-enum-known-answer
 enum-known-answer c = search needs
 
-enum-told : tie.Need-enum-told
-enum-told c = search needs
+enum-told-3 : tie.Need-enum-told-3
+enum-told-3 c = search needs
 
 returns-2 : tie.Need-returns-2
 returns-2 c =
     let n = c .before .before in
     let d = n .before in
     let t = d .before in
-    let a = t .before .before .before .before .args in
+    let a = t .before .before .before .before .before .args in
     let k = parts (a .m) (a .n) (a .t) (a .support .now) (a .g .now) in
-    let e = reading-none k (a .word .now) _ (d .decode .ensures) _ (n .counted .ensures) (c .enum-told .given .1) in
-    let r = read-none k (a .word .now) (a .out .now) (sym (t .before .read-refusal .ensures) ∙ t .if1 .left) e in
-    (refused-none k (a .word .now) _ (d .decode .ensures) _ (n .counted .ensures) e ∙ r .0, r .1)
+    let clear = verdict-accepted _ (t .before .before .check-word .ensures) (t .enum-told .given .1) in
+    let z = read-clear (kept k) (a .word .now) (a .out .now) clear .0 in
+    let e = reading-none k (a .word .now) z _ (d .decode .ensures) _ (n .counted .ensures) (c .enum-told3 .given .1) in
+    let r = read-none k (a .word .now) (a .out .now) clear e in
+    (refused-none k (a .word .now) z _ (d .decode .ensures) _ (n .counted .ensures) e ∙ r .0, r .1)
 
 give-requires : tie.Need-give-requires
 unfolding kept
 give-requires c κs =
     let t = c .before .before .before .before .before .before in
-    let a = t .before .before .before .before .args in
+    let a = t .before .before .before .before .before .args in
     let k = parts (a .m) (a .n) (a .t) (a .support .now) (a .g .now) in
-    let r = read-clear (kept k) (a .word .now) (a .out .now) (sym (t .before .read-refusal .ensures) ∙ t .if1 .left) in
-    (kept-sized k (r .0) .0, r .2)
+    let r = read-clear (kept k) (a .word .now) (a .out .now) (verdict-accepted _ (t .before .before .check-word .ensures) (t .enum-told .given .1)) in
+    (few-places k (a .word .now) (r .0), r .2)
 
 same-length : tie.Need-same-length
 same-length c = search needs
@@ -62,22 +71,27 @@ returns-3 c =
     let n = v .before .before in
     let d = n .before in
     let t = d .before in
-    let a = t .before .before .before .before .args in
+    let a = t .before .before .before .before .before .args in
     let k = parts (a .m) (a .n) (a .t) (a .support .now) (a .g .now) in
-    let s = read-some k (a .word .now) (a .out .now) (sym (t .before .read-refusal .ensures) ∙ t .if1 .left)
-    (reading-some k (a .word .now) _ (d .decode .ensures) _ (n .counted .ensures) (v .answer .given .1)) in
+    let clear = verdict-accepted _ (t .before .before .check-word .ensures) (t .enum-told .given .1) in
+    let z = read-clear (kept k) (a .word .now) (a .out .now) clear .0 in
+    let s = read-some k (a .word .now) (a .out .now) clear
+    (reading-some k (a .word .now) z _ (d .decode .ensures) _ (n .counted .ensures) (v .answer .given .1)) in
     (s .0, c .before .before .give .ensures ∙ s .1)
 
 pub read-spec : {M : Type 1} → statement M
 read-spec =
     tie.close
     (tie.spec
-    read-refusal-requires
+    check-word-requires
+    enum-told
+    enum-told-2
+    number-requires
     returns
     decode-requires
     counted-requires
     enum-known-answer
-    enum-told
+    enum-told-3
     returns-2
     give-requires
     same-length

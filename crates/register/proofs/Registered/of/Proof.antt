@@ -1,25 +1,39 @@
 -- `register::Registered::of` meets its contract. Assumes nothing.
-use mathlib.Core.Path.{sym, _∙_}
 use borrow.Author.Needs.{needs}
 use Rattle.register.specs.Registered.{figure}
+use Rattle.field.proofs.Verdicts.{verdict-accepted, verdict-taken}
 use Rattle.poly.proofs.Answers.{accepted}
 use Rattle.register.proofs.Answers.{refused, found}
 use Rattle.register.proofs.Registered.of.Statement.{statement}
 use Rattle.register.proofs.Registered.of.Tie as tie
 
-refusal-requires : tie.Need-refusal-requires
-refusal-requires c κs = search needs
+check-requires : tie.Need-check-requires
+check-requires c κs = search needs
+
+enum-told : tie.Need-enum-told
+enum-told c = search needs
+
+enum-told-2 : tie.Need-enum-told-2
+enum-told-2 c = search needs
+
+number-requires : tie.Need-number-requires
+number-requires c κs = search needs
 
 returns : tie.Need-returns
-returns c = refused _ _ _ (c .before .refusal .ensures) (c .if1 .taken)
+returns c =
+    let t = verdict-taken _ (c .before .before .before .check .ensures) (c .before .enum-told2 .given .1) (c .number .ensures) in
+    refused _ _ _ (t .0) (t .1)
 
 run-requires : tie.Need-run-requires
-run-requires c κs = let h = accepted _ _ (sym (c .before .refusal .ensures) ∙ c .if1 .left) in (h .0, h .1)
+run-requires c κs =
+    let h = accepted _ _ (verdict-accepted _ (c .before .before .check .ensures) (c .enum-told .given .1)) in (h .0, h .1)
 
 returns-2 : tie.Need-returns-2
 returns-2 c =
     let b = c .before .before in
-    found _ _ (figure (c .before .run .result)) (sym (b .before .refusal .ensures) ∙ b .if1 .left) (c .before .run .ensures)
+    found _ _ (figure (c .before .run .result)) (verdict-accepted _ (b .before .before .check .ensures) (b .enum-told .given .1)) (c .before .run .ensures)
 
 pub of-spec : {M : Type 1} → statement M
-of-spec = tie.close (tie.spec refusal-requires returns run-requires returns-2)
+of-spec =
+    tie.close
+    (tie.spec check-requires enum-told enum-told-2 number-requires returns run-requires returns-2)
