@@ -49,7 +49,7 @@ agree-number (held {k = k} h) c = ap (λ (x : Held). firstOf (conditionsOf x c))
 agree-number (marked {k = k} h p) c = ap (λ (x : Held). firstOf (conditionsOf x c)) (sound-held published k h)
 
 -- an accepted publish has a public key
-public-rows : (k : Key) → dependent k ≡ false → (rows : Matrix) × (publicKey k ≡ some rows)
+pub public-rows : (k : Key) → dependent k ≡ false → (rows : Matrix) × (publicKey k ≡ some rows)
 unfolding dependent
 public-rows k h = go (publicKey k) refl h
   where

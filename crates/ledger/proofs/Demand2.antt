@@ -132,7 +132,7 @@ module _ (k : Key) (rows : Matrix) (good : keyNumber k ≡ 0) (public : publicKe
       ∙ take-at (flatMap pack rows) (drop (length (flatMap pack rows)) out) (publicBytes k) l
 
   -- a pattern's capsule has m·t bits
-  capsule-row : {e : List ℕ} → Row (k .n) e → Row (capsuleBits k) (locked rows e)
+  pub capsule-row : {e : List ℕ} → Row (k .n) e → Row (capsuleBits k) (locked rows e)
   unfolding capsuleBits
   capsule-row r = let a : Accepted k = accepted k good in row-capsule k rows public (a .support-length) (le-of-lt (a .limits .over)) r
 

@@ -80,7 +80,7 @@ abbrev OpensAll : Station → Key → Type 0
 OpensAll s k = (rows : Matrix) × (publicKey k ≡ some rows) × ((capsule out : List ℕ) → Opens s k rows capsule out)
 
 module _ (k : Key) (good : keyNumber k ≡ 0) where
-  read-decides : (st : State) → isEmpty st ≡ false → (word out : List ℕ) → Reads (stationOf st k) k word out
+  pub read-decides : (st : State) → isEmpty st ≡ false → (word out : List ℕ) → Reads (stationOf st k) k word out
   unfolding step readOf readConditions Calls.readConditions
   read-decides st h word out w long =
       found-decides (Differs k word) (reading k (unpack (k .n) word)) (reading-sound k word) (reading-complete k word) (one-reading k good word)

@@ -7,3 +7,8 @@ pub mod Patterns
 pub mod Demand3
 pub mod Demand2
 pub mod Simulation
+pub mod Found
+pub mod LocksOpens
+pub mod CodeWords
+pub mod Loads
+pub mod OwnWords

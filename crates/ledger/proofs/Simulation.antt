@@ -30,7 +30,7 @@ pub record Simulates (sys : System) : Type 0 where
   pub marks : (s : sys .Stations) (out work : List ℕ) → sys .call s (publish out work) .number ≡ 0 → sys .call s (publish out work) .station ≡ sys .marked s
   pub opens : (s : sys .Stations) (capsule out : List ℕ) → sys .call s (open-capsule capsule out) .station ≡ s
 
--- the definitions themselves
+-- so do the definitions
 pub definitions-simulate : Simulates definitions
 unfolding seen
 definitions-simulate =
@@ -75,7 +75,7 @@ module _ (sys : System) (sim : Simulates sys) where
         (same-count ∙ ap (λ (x : Result). x .count) e)
         (same-free ∙ ap (λ (x : Result). x .free) e)
 
-    decides : (P : List ℕ → Type 0) (refusal : ℕ) (out : List ℕ) → Decides P refusal out (step (sys .view s) c) → Decides P refusal out (sys .call s c)
+    pub decides : (P : List ℕ → Type 0) (refusal : ℕ) (out : List ℕ) → Decides P refusal out (step (sys .view s) c) → Decides P refusal out (sys .call s c)
     unfolding seen
     decides P refusal out d =
         let e : Decides P refusal out (seen sys (sys .call s c)) = rw (sim .steps s c) d in
@@ -148,3 +148,7 @@ module _ (sys : System) (sim : Simulates sys) where
 
   pub demands : Demands sys
   demands = record { demand-1 = demand-1; demand-2 = demand-2; after-every-list = after-every-list }
+
+-- the definitions themselves
+pub definitions-demands : Demands definitions
+definitions-demands = demands definitions definitions-simulate

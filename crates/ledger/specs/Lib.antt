@@ -3,3 +3,4 @@ pub mod Calls
 pub mod Ledger
 pub mod Systems
 pub mod Demands
+pub mod OwnWords

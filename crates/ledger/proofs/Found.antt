@@ -1,0 +1,71 @@
+-- What an accepted call found: a key that load accepts, buffers long enough, a well-formed word. Assumes nothing.
+use Prim.Native.Nat.{ℕ, _≤_}
+use mathlib.Core.Path.{_≡_, refl, sym, _∙_}
+use mathlib.Core.Bool.{true, false, true≢false}
+use mathlib.Core.List.{List}
+use mathlib.Core.Option.{some}
+use lib.ListN.{length}
+use borrow.Author.Tests.{not-false, eqb-true, ltb-false}
+use Rattle.bits.specs.Bits.{bytesFor, wellFormed}
+use Rattle.bits.proofs.Pack.{well-formed}
+use Rattle.field.proofs.Numbers.{first-clear}
+use Rattle.key.specs.Keys.{Key, keyNumber, unsound}
+use Rattle.code.specs.PublicKey.{Matrix, publicKey}
+use Rattle.code.specs.Publish as Publish
+use Rattle.decoder.specs.Calls as Calls
+use Rattle.ledger.specs.Station.{State, empty, loaded, published, Station, isEmpty, heldBy, publishConditions, readConditions}
+use Rattle.ledger.specs.Calls.{publish, read-word, conditionsOf, step}
+use Rattle.ledger.specs.Demands.{at, keyHeld}
+use Rattle.ledger.proofs.StepLaws.{step-number}
+use Rattle.ledger.proofs.Agreement.{public-rows}
+
+-- a station that is not empty holds its key
+holds : (st : State) (k : Key) → isEmpty st ≡ false → keyHeld (at st k) ≡ some k
+unfolding isEmpty keyHeld at
+holds empty k h = absurd (true≢false h)
+holds loaded k h = refl
+holds published k h = refl
+
+pub holds-key : (s : Station) → isEmpty (s .state) ≡ false → keyHeld s ≡ some (s .key)
+unfolding at
+holds-key s h = holds (s .state) (s .key) h
+
+-- publish: the key has a public key
+pub record Publishes (s : Station) : Type 0 where
+  pub held : keyHeld s ≡ some (s .key)
+  pub good : keyNumber (s .key) ≡ 0
+  pub rows : Matrix
+  pub public : publicKey (s .key) ≡ some rows
+
+pub publish-found : (s : Station) (out work : List ℕ) → step s (publish out work) .number ≡ 0 → Publishes s
+unfolding heldBy conditionsOf publishConditions Publish.publishChecks Publish.publishConditions unsound
+publish-found s out work e =
+    let c21 = first-clear _ 20 _ (sym (step-number s (publish out work)) ∙ e) in
+    let c25 = first-clear _ 24 _ (c21 .1) in
+    let c10 = first-clear _ 9 _ (c25 .1) in
+    let c11 = first-clear _ 10 _ (c10 .1) in
+    let c23 = first-clear _ 22 _ (c11 .1) in
+    let p = public-rows (s .key) (c23 .0) in
+    record { held = holds-key s (c21 .0); good = eqb-true _ _ (not-false _ (c25 .0)); rows = p .0; public = p .1 }
+
+-- read
+pub record Reads (s : Station) (word out : List ℕ) : Type 0 where
+  pub held : keyHeld s ≡ some (s .key)
+  pub good : keyNumber (s .key) ≡ 0
+  pub formed : wellFormed (s .key .n) word ≡ true
+  pub long : bytesFor (s .key .n) ≤ length out
+
+pub read-found : (s : Station) (word out : List ℕ) → step s (read-word word out) .number ≡ 0 → Reads s word out
+unfolding heldBy conditionsOf readConditions Calls.readConditions unsound
+read-found s word out e =
+    let c21 = first-clear _ 20 _ (sym (step-number s (read-word word out)) ∙ e) in
+    let c25 = first-clear _ 24 _ (c21 .1) in
+    let c8 = first-clear _ 7 _ (c25 .1) in
+    let c9 = first-clear _ 8 _ (c8 .1) in
+    let c10 = first-clear _ 9 _ (c9 .1) in
+    record {
+      held = holds-key s (c21 .0);
+      good = eqb-true _ _ (not-false _ (c25 .0));
+      formed = well-formed (s .key .n) word (eqb-true _ _ (not-false _ (c8 .0))) (not-false _ (c9 .0));
+      long = ltb-false _ _ (c10 .0);
+    }
