@@ -24,7 +24,7 @@ use Rattle.bits.proofs.Lists.{every-below-at, map-from}
 pub digit-suc : (n i : ℕ) → n / 2 ^ suc i % 2 ≡ n / 2 / 2 ^ i % 2
 digit-suc n i = let e : 1 + i ≡ suc i = omega arith in ap (_% 2) (ap (λ (k : ℕ). n / 2 ^ k) (sym e) ∙ sym (shr-shr n 1 i))
 
-pub digit-next : (n i : ℕ) → n / 2 ^ (1 + i) % 2 ≡ n / 2 / 2 ^ (0 + i) % 2
+digit-next : (n i : ℕ) → n / 2 ^ (1 + i) % 2 ≡ n / 2 / 2 ^ (0 + i) % 2
 digit-next n i = let e : 1 + i ≡ suc (0 + i) = omega arith in ap (λ (k : ℕ). n / 2 ^ k % 2) e ∙ digit-suc n (0 + i)
 
 pub digits-tail : (n m : ℕ) → map (λ i. n / 2 ^ i % 2) (from 1 m) ≡ map (λ i. n / 2 / 2 ^ i % 2) (from 0 m)

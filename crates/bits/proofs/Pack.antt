@@ -1,24 +1,22 @@
 -- Packed rows and the lists of their bits. Assumes nothing.
 use mathlib.Core.Path.{_≡_, refl, sym, ap, ap₂, _∙_}
-use mathlib.Core.Logic.{_≢_}
 use mathlib.Core.Bool.{true, _&&_}
 use mathlib.Core.List.{List, [], _∷_, _++_, map}
 use Prim.Native.Nat.{ℕ, zero, suc, _+_, _-_, _*_, _/_, _%_, _^_, _≤_, _<_}
-use native.Mathlib.Nat.{zero-add, suc-add, mod-lt, zero-lt-suc, div-one, zero-div, zero-mod, pow-suc, min-le-left, le-refl, le-of-suc-le-suc, not-suc-le-zero}
+use native.Mathlib.Nat.{zero-add, suc-add, mod-lt, zero-lt-suc, zero-div, zero-mod, pow-suc, min-le-left, le-refl, le-of-suc-le-suc, not-suc-le-zero}
 use native.Mathlib.Decide.{ℕ-discrete, decLt}
 use native.Mathlib.Omega.{arith}
-use borrow.Author.Tests.{eqb-true, eq-eqb, ne-eqb}
-use lib.Arith.{lt-one}
+use borrow.Author.Tests.{eqb-true, eq-eqb}
 use lib.Dec.{eqb}
-use lib.Pow.{pow-pos, shr-shr, shr-lt}
+use lib.Pow.{pow-pos}
 use lib.ListN.{length, getD, take, drop, set, replicate, length-take, length-set, length-replicate, drop-of-length-le, List·getD-eq-default}
 use lib.Seq.{take-at, getD-take, getD-drop, getD-set-same, getD-set-other, ext-getD}
 use Rattle.bits.specs.Xor.{_⊕_}
-use Rattle.bits.specs.Bits.{Bytes, Row, end, off, on, from, every, bytesFor, bitAt, unpack, number, pack, setBit, fillerClear, wellFormed, eachWith, xorRow, over}
+use Rattle.bits.specs.Bits.{Bytes, Row, end, off, on, from, bytesFor, bitAt, unpack, number, pack, setBit, fillerClear, wellFormed, eachWith, xorRow, over}
 use Rattle.bits.proofs.Xor.{Digit, xor-self}
 use Rattle.bits.proofs.Xor as xor
 use Rattle.bits.proofs.Lists.{and-left, and-right, length-map-from, map-from-at, map-from-past, map-from, map-append, from-add, every-from-at, every-from-all, every-from, take-below, drop-below}
-use Rattle.bits.proofs.Bits.{bit-digit, bit-past, bit-zeros, bit-of-byte, digit-suc, digit-next, bits-determine, length-setBit, set-bit-same, set-bit-other}
+use Rattle.bits.proofs.Bits.{bit-digit, bit-past, bit-zeros, bit-of-byte, digit-suc, bits-determine, length-setBit, set-bit-same, set-bit-other}
 use Rattle.bits.proofs.Rows.{length-xorRow, bit-xorRow}
 
 -- lists of bits
@@ -223,6 +221,10 @@ module _ {n : ℕ} {e : List ℕ} (r : Row n e) (out : List ℕ) where
   unpack-over = sym (unpack-take n (bytesFor n) (over (pack e) out) (le-refl (bytesFor n))) ∙ ap (unpack n) take-over ∙ unpack-pack r
 
 -- the filler: the bits from n to the end of the last byte
+pub filler-bits : (n : ℕ) → (8 - n % 8) % 8 ≡ 8 * bytesFor n - n
+unfolding bytesFor
+filler-bits n = omega arith
+
 pub clear-at : (n : ℕ) (s : List ℕ) → fillerClear n s ≡ true → (i : ℕ) → n ≤ i → i < 8 * bytesFor n → bitAt s i ≡ 0
 unfolding fillerClear
 clear-at n s e i h l =
@@ -236,46 +238,6 @@ unfolding fillerClear
 clear-all n s h =
     every-from-all (λ i. eqb (bitAt s i) 0) n (8 * bytesFor n - n)
     (λ i l. eq-eqb (bitAt s (n + i)) 0 (h (n + i) (omega arith) (omega arith)))
-
-pub clear-whole : (n : ℕ) (s : List ℕ) → n % 8 ≡ 0 → fillerClear n s ≡ true
-unfolding bytesFor
-clear-whole n s e = clear-all n s (λ i h l. absurd (omega arith))
-
-pub clear-past : (n : ℕ) (s : List ℕ) → length s ≤ n / 8 → fillerClear n s ≡ true
-clear-past n s h = clear-all n s (λ i k l. bit-past s i (omega arith))
-
--- a number is 0 where its digits are
-digits-clear : (m b : ℕ) → b < 2 ^ m → every (λ i. eqb (b / 2 ^ i % 2) 0) (from 0 m) ≡ eqb b 0
-unfolding from every
-digits-clear zero b h = sym (eq-eqb b 0 (lt-one h))
-digits-clear (suc m) b h =
-    ap₂ _&&_
-    (ap (λ (x : ℕ). eqb (x % 2) 0) (div-one b))
-    (every-from (λ i. eqb (b / 2 ^ i % 2) 0) (λ i. eqb (b / 2 / 2 ^ i % 2) 0) 1 0 m
-    (λ i l. ap (λ (x : ℕ). eqb x 0) (digit-next b i))
-    ∙ digits-clear m (b / 2) (omega (arith, pow-suc 2 m)))
-    ∙ go (ℕ-discrete (b % 2) 0) (ℕ-discrete (b / 2) 0)
-  where
-    go : Dec (b % 2 ≡ 0) → Dec (b / 2 ≡ 0) → eqb (b % 2) 0 && eqb (b / 2) 0 ≡ eqb b 0
-    go (no d) f = ap (_&& eqb (b / 2) 0) (ne-eqb (b % 2) 0 d) ∙ sym (ne-eqb b 0 (λ z. d (omega arith)))
-    go (yes e) (no d) = ap₂ _&&_ (eq-eqb (b % 2) 0 e) (ne-eqb (b / 2) 0 d) ∙ sym (ne-eqb b 0 (λ z. d (omega arith)))
-    go (yes e) (yes f) = ap₂ _&&_ (eq-eqb (b % 2) 0 e) (eq-eqb (b / 2) 0 f) ∙ sym (eq-eqb b 0 (omega arith))
-
--- the filler in one byte
-pub clear-byte : (n : ℕ) (s : List ℕ) → n % 8 ≢ 0 → getD s (n / 8) 0 < 256 → fillerClear n s ≡ eqb (getD s (n / 8) 0 / 2 ^ (n % 8)) 0
-unfolding fillerClear bytesFor
-clear-byte n s d h =
-    let b : ℕ = getD s (n / 8) 0 in
-    let k : ℕ = n % 8 in
-    let m : ℕ = 8 * ((n + 7) / 8) - n in
-    let e : m + k ≡ 8 = omega arith in
-    every-from (λ i. eqb (bitAt s i) 0) (λ i. eqb (b / 2 ^ k / 2 ^ i % 2) 0) n 0 m
-    (λ i l.
-    let f : n + i ≡ 8 * (n / 8) + (k + i) = omega arith in
-    ap (λ (x : ℕ). eqb x 0)
-    (ap (bitAt s) f ∙ bit-of-byte s (n / 8) (k + i) (omega arith)
-    ∙ ap (_% 2) (sym (shr-shr b k i)) ∙ ap (λ (j : ℕ). b / 2 ^ k / 2 ^ j % 2) (sym (zero-add i))))
-    ∙ digits-clear m (b / 2 ^ k) (shr-lt m k (rw e h))
 
 -- well-formed rows
 module _ (n : ℕ) (s : List ℕ) where

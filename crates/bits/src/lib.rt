@@ -50,19 +50,19 @@ pub fn weight(row: &[u8], n: usize) -> usize
     w
 }
 
-// The unused high bits of a last byte are 0.
+// The filler, the bits from n to the end of n's last byte, is 0.
 pub fn filler_clear(s: &[u8], n: usize) -> bool
     ensures { λ r. ⌜ r ≡ fillerClear n (now (s .entry)) ⌝ }
 {
-    let at = n / 8;
-    let k = n % 8;
-    if k == 0 {
-        return true;
+    let filler = (8 - n % 8) % 8;
+    let mut j = 0;
+    while j < filler {
+        if bit_at(s, n + j) != 0 {
+            return false;
+        }
+        j += 1;
     }
-    if s.len() <= at {
-        return true;
-    }
-    s[at] >> k == 0
+    true
 }
 
 // The byte length is right for n bits, and the filler is 0.
@@ -76,7 +76,7 @@ pub fn well_formed(s: &[u8], n: usize) -> bool
 }
 
 // A byte as a usize.
-fn wide(x: u8) -> usize
+pub fn wide(x: u8) -> usize
     ensures { λ r. ⌜ r ≡ x ⌝ }
 {
     x as usize

@@ -104,7 +104,7 @@ module _ (k : Key) (word : List ℕ) where
       decoded-explained h = rw (wide, le-leb (k .n) 8192 few, le-leb (k .t) 128 h)
 
   -- a key that load accepts has at most 8192 places
-  pub few-places : keyNumber (kept k) ≡ 0 → k .n ≤ 8192
+  few-places : keyNumber (kept k) ≡ 0 → k .n ≤ 8192
   unfolding kept
   few-places z =
       let A : Accepted (kept k) = accepted (kept k) z in

@@ -15,16 +15,12 @@ use Rattle.bits.proofs.Pack.{row-of, row-lt, row-length, length-pack, bytes-pac
 use Rattle.decoder.proofs.Decoding.{row-marks as marks-row}
 use Rattle.bits.proofs.Parts.{row-size}
 use Rattle.decoding.specs.Parts.{mark, packed}
-use Rattle.bits.proofs.Padded.{padded-at, length-padded, take-padded}
+use Rattle.bits.proofs.Padded.{padded-at, length-padded}
 
 module _ {n : ℕ} {e : List ℕ} (r : Row n e) where
   pub length-packed : n ≤ 8192 → length (packed e) ≡ 1024
   unfolding packed
   length-packed h = length-padded 1024 (pack e) (rw (length-pack e, row-length r) (row-size n h))
-
-  pub take-packed : take (bytesFor n) (packed e) ≡ pack e
-  unfolding packed
-  take-packed = take-padded 1024 (pack e) (bytesFor n) (length-pack e ∙ ap bytesFor (row-length r))
 
   pub bit-packed : (i : ℕ) → bitAt (packed e) i ≡ getD e i 0
   unfolding packed bitAt

@@ -22,15 +22,8 @@ pub fn chosen(support: &[u16], word: &[u8]) -> Points
     let mut i = 0;
     while i < support.len() {
         at[count] = support[i];
-        count += wide(bits::bit_at(word, i));
+        count += bits::wide(bits::bit_at(word, i));
         i += 1;
     }
     Points { count, at }
-}
-
-// A bit as a usize.
-fn wide(x: u8) -> usize
-    ensures { λ r. ⌜ r ≡ x ⌝ }
-{
-    x as usize
 }

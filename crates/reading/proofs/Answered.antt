@@ -6,9 +6,10 @@ use mathlib.Core.Option.{Option, none, some}
 use Prim.Native.Nat.{ℕ, zero, suc, _+_, _-_, _*_, _≤_}
 use native.Mathlib.Omega.{arith}
 use borrow.Author.Tests.{eq-eqb, ne-eqb}
-use lib.ListN.{length, take, replicate}
-use Rattle.bits.specs.Bits.{Row, from, bytesFor, bitAt, unpack, pack, ones, weight, wellFormed, over}
+use lib.ListN.{length, replicate}
+use Rattle.bits.specs.Bits.{Row, from, bytesFor, bitAt, unpack, pack, ones, weight, wellFormed, over, rowWritten}
 use Rattle.bits.proofs.Lists.{map-from}
+use Rattle.bits.proofs.PutBits.{written-row}
 use Rattle.bits.proofs.Pack.{length-unpack, unpack-add, well-formed-past}
 use Rattle.field.specs.Numbers.{firstOf}
 use Rattle.key.specs.Keys.{keyNumber}
@@ -21,12 +22,12 @@ use Rattle.decoder.specs.Calls.{found, isNone, patternOutput, openNumber, readN
 use Rattle.decoder.proofs.Sanity.{reading-sound}
 use Rattle.decoding.specs.Parts.{packed, decoded, foundOf}
 use Rattle.decoding.specs.declared.decoding.Found.{Found}
-use Rattle.decoding.proofs.Packed.{take-packed, weight-packed}
+use Rattle.decoding.proofs.Packed.{unpack-packed, weight-packed}
 use Rattle.decoding.proofs.Explained.{decoded-reading}
 use Rattle.reading.specs.Answers.{answerOf, readOf, openOf, readChecks, openChecks, countedOf}
 use Rattle.reading.specs.declared.calls.Answer.{Answer}
 use Rattle.reading.specs.declared.calls.Answer.the-variants.{Ones, Refused}
-use Rattle.reading.proofs.Refusals.{read-refused, read-number, open-clear, open-refused, open-number}
+use Rattle.reading.proofs.Refusals.{read-clear, read-refused, read-number, open-clear, open-refused, open-number}
 
 -- the answer and the output for a number q and a pattern o
 module _ (q : ℕ) (o : Option (List ℕ)) (out : List ℕ) where
@@ -48,7 +49,7 @@ pub record Counted (n w : ℕ) (o : Option (List ℕ)) (f : Found) : Type 0 wher
   pub e : List ℕ
   pub is : o ≡ some e
   pub count : w ≡ ones e
-  pub bytes : take (bytesFor n) (f .pattern) ≡ pack e
+  pub bits : unpack n (f .pattern) ≡ e
 
 module _ (n : ℕ) where
   pub counted-none : (o : Option (List ℕ)) {x : ℕ} → countedOf (foundOf o) n ≡ Refused x → o ≡ none
@@ -61,7 +62,13 @@ module _ (n : ℕ) where
   counted-some none r h = let z : _≡_ {A = ℕ} 0 1 = cc in absurd (omega arith)
   counted-some (some e) {w} r h =
       let c : weight n (packed e) ≡ w = cc in
-      record { e = e; is = refl; count = sym c ∙ weight-packed (r e refl); bytes = take-packed (r e refl) }
+      record { e = e; is = refl; count = sym c ∙ weight-packed (r e refl); bits = unpack-packed (r e refl) }
+
+-- its bits written as a row
+give-row : {n w : ℕ} {o : Option (List ℕ)} {f : Found} (out : List ℕ) (c : Counted n w o f) → bytesFor n ≤ length out
+    → rowWritten (f .pattern) 0 n out ≡ over (pack (c .e)) out
+unfolding unpack
+give-row {n} {f} out c h = written-row (f .pattern) 0 n out h ∙ ap (λ (e : List ℕ). over (pack e) out) (c .bits)
 
 -- what is found in a word at a kept key
 module _ (k : Key) (word : List ℕ) (z : keyNumber (kept k) ≡ 0) (f : Found) (ed : f ≡ foundOf (decoded (kept k) (unpack (k .n) word))) (r : Answer) (er : r ≡ countedOf f (k .n)) where
@@ -100,11 +107,11 @@ module _ (k : Key) (word out : List ℕ) where
     read-none h = refusal _ _ out 14 (sym (number ∙ ap (λ (o : Option (List ℕ)). cond (isNone o) 14 0) h)) (λ e. omega arith)
 
     pub read-some : {w : ℕ} {f : Found} → Counted (k .n) w (reading (kept k) (unpack (k .n) word)) f
-        → (Ones w ≡ readOf (kept k) word out) × (over (take (bytesFor (k .n)) (f .pattern)) out ≡ readOutput (kept k) word out)
+        → (Ones w ≡ readOf (kept k) word out) × (rowWritten (f .pattern) 0 (k .n) out ≡ readOutput (kept k) word out)
     unfolding kept readOf readOutput isNone
     read-some c =
         let a = acceptance (readNumber (kept k) word out) (reading (kept k) (unpack (k .n) word)) out (number ∙ ap (λ (o : Option (List ℕ)). cond (isNone o) 14 0) (c .is)) (c .is) (c .count) in
-        (a .0, ap (λ (b : List ℕ). over b out) (c .bytes) ∙ a .1)
+        (a .0, give-row out c (read-clear (kept k) word out z .2) ∙ a .1)
 
 -- a capsule is the word whose other bits are 0
 zeros : (k n : ℕ) → map {B = ℕ} (λ i. 0) (from k n) ≡ replicate n 0
@@ -159,10 +166,10 @@ module _ (unpublished : Bool) (k : Key) (capsule out : List ℕ) where
           ∙ ap (λ (b : Bool). cond b (some (c .e)) none) (ne-eqb _ _ (λ q. h (c .count ∙ q))))
 
       pub open-some : w ≡ k .t
-          → (Ones w ≡ openOf unpublished (kept k) capsule out) × (over (take (bytesFor (k .n)) (f .pattern)) out ≡ openOutput unpublished (kept k) capsule out)
-      unfolding openOf openOutput exactly isNone
+          → (Ones w ≡ openOf unpublished (kept k) capsule out) × (rowWritten (f .pattern) 0 (k .n) out ≡ openOutput unpublished (kept k) capsule out)
+      unfolding kept openOf openOutput exactly isNone
       open-some h =
           let s : opening (kept k) (unpack (capsuleBits (kept k)) capsule) ≡ some (c .e) =
           opening-exactly ∙ ap (exactly (k .t)) (c .is) ∙ ap (λ (b : Bool). cond b (some (c .e)) none) (eq-eqb _ _ (sym (c .count) ∙ h)) in
           let a = acceptance (openNumber unpublished (kept k) capsule out) (opening (kept k) (unpack (capsuleBits (kept k)) capsule)) out (number-of s) s (c .count) in
-          (a .0, ap (λ (b : List ℕ). over b out) (c .bytes) ∙ a .1)
+          (a .0, give-row out c (open-clear unpublished (kept k) capsule out z .2) ∙ a .1)

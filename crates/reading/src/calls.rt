@@ -6,9 +6,7 @@ use key::checks::check;
 use key::kept::Key;
 ghost use mathlib.Core.Path.{_≡_};
 ghost use mathlib.Core.Bool.{not};
-ghost use Prim.Native.Nat.{_≤_};
-ghost use lib.ListN.{length, take};
-ghost use Rattle.bits.specs.Bits.{bytesFor, over};
+ghost use Rattle.bits.specs.Bits.{rowWritten};
 ghost use Rattle.field.specs.Numbers.{firstOf};
 ghost use Rattle.field.specs.Verdicts.{verdictOf};
 ghost use Rattle.key.specs.Kept.{kept, parts};
@@ -90,26 +88,12 @@ fn counted(e: Found, n: u16) -> Answer
     Answer::Ones(bits::weight(&p, n as usize) as u16)
 }
 
-// The bytes from the output's start.
-fn copy(out: &mut [u8], bytes: &[u8])
-    requires { ⌜ length (now bytes) ≤ length (now out) ⌝ }
-    ensures { λ _. ⌜ now (out .exit) ≡ over (now (bytes .entry)) (now (out .entry)) ⌝ }
+// The pattern's n bits from the output's start; nothing where it has no room.
+fn give(out: &mut [u8], e: Found, n: u16)
+    ensures { λ _. ⌜ now (out .exit) ≡ rowWritten (e .pattern) 0 n (now (out .entry)) ⌝ }
 {
-    let mut i = 0;
-    while i < bytes.len() {
-        out[i] = bytes[i];
-        i += 1;
-    }
-}
-
-// The pattern of n bits from the output's start.
-fn give(out: &mut [u8], e: Found, n: usize)
-    requires { ⌜ (n ≤ 8192) × (bytesFor n ≤ length (now out)) ⌝ }
-    ensures { λ _. ⌜ now (out .exit) ≡ over (take (bytesFor n) (e .pattern)) (now (out .entry)) ⌝ }
-{
-    let b = bits::bytes_for(n);
     let p = e.pattern;
-    copy(out, &p[..b]);
+    packed::write_row(out, &p, 0, n as u32);
 }
 
 // Reading a word: its pattern is written from the output's start, and nothing on refusal, with 25, 8, 9, 10 or 14.
@@ -134,7 +118,7 @@ pub fn read<'a>(
     let Answer::Ones(w) = answer else {
         return answer;
     };
-    give(out, e, n as usize);
+    give(out, e, n);
     Answer::Ones(w)
 }
 
@@ -164,6 +148,6 @@ pub fn open<'a>(
     if ones != t {
         return Answer::Refused(13);
     }
-    give(out, e, n as usize);
+    give(out, e, n);
     Answer::Ones(ones)
 }

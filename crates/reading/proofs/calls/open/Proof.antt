@@ -5,7 +5,6 @@ use native.Mathlib.Omega.{arith}
 use borrow.Author.Needs.{needs}
 use Rattle.field.proofs.Verdicts.{verdict-accepted, verdict-taken}
 use Rattle.key.specs.Kept.{kept, parts}
-use Rattle.decoding.proofs.Explained.{few-places}
 use Rattle.reading.proofs.Refusals.{open-clear}
 use Rattle.reading.proofs.Answered.{reading-none, reading-some, open-refusal, open-none, open-other, open-some}
 use Rattle.reading.proofs.calls.open.Statement.{statement}
@@ -69,13 +68,7 @@ returns-3 c =
     (λ q. omega arith)
 
 give-requires : tie.Need-give-requires
-unfolding kept
-give-requires c κs =
-    let t = c .before .before .before .before .before .before .before in
-    let a = t .before .before .before .before .before .args in
-    let k = parts (a .m) (a .n) (a .t) (a .support .now) (a .g .now) in
-    let r = open-clear (not (a .published)) (kept k) (a .capsule .now) (a .out .now) (verdict-accepted _ (t .before .before .check-capsule .ensures) (t .enum-told .given .1)) in
-    (few-places k (a .capsule .now) (r .0), r .2)
+give-requires c κs = tt
 
 same-length : tie.Need-same-length
 same-length c = search needs

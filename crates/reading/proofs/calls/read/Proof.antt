@@ -3,7 +3,6 @@ use mathlib.Core.Path.{_∙_}
 use borrow.Author.Needs.{needs}
 use Rattle.field.proofs.Verdicts.{verdict-accepted, verdict-taken}
 use Rattle.key.specs.Kept.{kept, parts}
-use Rattle.decoding.proofs.Explained.{few-places}
 use Rattle.reading.proofs.Refusals.{read-clear}
 use Rattle.reading.proofs.Answered.{reading-none, refused-none, reading-some, read-refusal, read-none, read-some}
 use Rattle.reading.proofs.calls.read.Statement.{statement}
@@ -54,13 +53,7 @@ returns-2 c =
     (refused-none k (a .word .now) z _ (d .decode .ensures) _ (n .counted .ensures) e ∙ r .0, r .1)
 
 give-requires : tie.Need-give-requires
-unfolding kept
-give-requires c κs =
-    let t = c .before .before .before .before .before .before in
-    let a = t .before .before .before .before .before .args in
-    let k = parts (a .m) (a .n) (a .t) (a .support .now) (a .g .now) in
-    let r = read-clear (kept k) (a .word .now) (a .out .now) (verdict-accepted _ (t .before .before .check-word .ensures) (t .enum-told .given .1)) in
-    (few-places k (a .word .now) (r .0), r .2)
+give-requires c κs = tt
 
 same-length : tie.Need-same-length
 same-length c = search needs
