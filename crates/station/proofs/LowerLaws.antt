@@ -7,6 +7,10 @@ use native.Mathlib.Omega.{arith}
 use lib.ListN.{drop, replicate}
 use Rattle.bits.specs.Bits.{over, padded}
 use Rattle.bits.proofs.Padded.{over-zeros}
+use Rattle.field.specs.Verdicts.{verdictOf, numberOf}
+use Rattle.field.specs.declared.Verdict.{Verdict}
+use Rattle.field.specs.declared.Verdict.the-variants as verdicts
+use Rattle.field.proofs.Verdicts.{verdict-accepted, verdict-refused, verdict-number}
 use Rattle.key.specs.Keys.{Key, parse}
 use Rattle.key.specs.Kept.{kept, keep, parts}
 use Rattle.key.specs.Answers.{sizes, shapeAnswer}
@@ -18,9 +22,6 @@ use Rattle.key_file.specs.Loaded.{loadedOf, writtenOf}
 use Rattle.key_file.proofs.Files.{read-accepted}
 use Rattle.code.specs.Publish.{freeBytes, publishNumber, publishOutput}
 use Rattle.decoder.specs.Calls.{openOutput, readOutput, patternOutput}
-use Rattle.publishing.specs.Published.{publishedOf}
-use Rattle.publishing.specs.declared.Published.{Published}
-use Rattle.publishing.specs.declared.Published.the-variants as published
 use Rattle.reading.specs.Answers.{answerOf}
 use Rattle.reading.specs.Answers as Answers
 use Rattle.reading.specs.declared.calls.Answer.{Answer}
@@ -29,7 +30,7 @@ use Rattle.ledger.specs.Station.{loaded, published as isPublished, isEmpty, isU
 use Rattle.ledger.specs.Calls.{Call, load, publish, open-capsule, read-word}
 use Rattle.ledger.specs.Demands.{outputOf}
 use Rattle.ledger.proofs.StepLaws.{step-free, freed}
-use Rattle.station.specs.Replies.{stateOf, byteOf, view, loadedNumber, publishedNumber, answerNumber, refusal, acceptance, moved, handed}
+use Rattle.station.specs.Replies.{stateOf, byteOf, view, loadedNumber, answerNumber, refusal, acceptance, moved, handed}
 use Rattle.station.specs.declared.Station.{Station}
 use Rattle.station.proofs.ReplyLaws.{stop, lower, tally, bytes, lower-refused, lower-accepted, lower-output}
 
@@ -78,39 +79,24 @@ module _ (s : Station) (file : List ℕ) (empty : isEmpty (stateOf (s .state)) �
       ∙ lower-accepted s (load file) load-passes (o .0)
 
 -- publish, with a key
-published-number : (q : ℕ) → publishedNumber (publishedOf q) ≡ q
-unfolding publishedNumber publishedOf
-published-number zero = refl
-published-number (suc q) = refl
-
-published-done : (q : ℕ) → publishedOf q ≡ published.Done → q ≡ 0
-unfolding publishedOf
-published-done zero e = refl
-published-done (suc q) e = let z : _≡_ {A = ℕ} 0 1 = cc in absurd (omega arith)
-
-published-refused : (q : ℕ) {x : ℕ} → publishedOf q ≡ published.Refused x → q ≡ 0 → ⊥
-unfolding publishedOf
-published-refused zero e h = let z : _≡_ {A = ℕ} 0 1 = cc in omega arith
-published-refused (suc q) e h = omega arith
-
 module _ (s : Station) (out work : List ℕ) (keyed : isEmpty (stateOf (s .state)) ≡ false) where
   publish-passes : stop s (publish out work) .0 ≡ false
   unfolding stop
   publish-passes = keyed
 
-  module _ (a : Published) (e : a ≡ publishedOf (publishNumber (kept (s .key)) out work)) where
-    publish-number : publishedNumber a ≡ lower s (publish out work)
+  module _ (a : Verdict) (e : a ≡ verdictOf (publishNumber (kept (s .key)) out work)) where
+    publish-number : numberOf a ≡ lower s (publish out work)
     unfolding lower
-    publish-number = ap publishedNumber e ∙ published-number _
+    publish-number = verdict-number _ e
 
-    pub publish-refused : {x : ℕ} → a ≡ published.Refused x → refusal s (publishedNumber a) ≡ handed s (publish out work) .reply
+    pub publish-refused : {x : ℕ} → a ≡ verdicts.Refused x → refusal s (numberOf a) ≡ handed s (publish out work) .reply
     unfolding lower
     publish-refused h =
-        lower-refused s (publish out work) publish-passes (publishedNumber a) publish-number (λ z. published-refused _ (sym e ∙ h) (sym publish-number ∙ z))
+        lower-refused s (publish out work) publish-passes (numberOf a) publish-number (λ z. verdict-refused _ e h (sym publish-number ∙ z))
 
-    pub publish-done : a ≡ published.Done → acceptance (record { state = byteOf isPublished; key = s .key }) 0 ≡ handed s (publish out work) .reply
+    pub publish-done : a ≡ verdicts.Accepted → acceptance (record { state = byteOf isPublished; key = s .key }) 0 ≡ handed s (publish out work) .reply
     unfolding lower moved tally
-    publish-done h = lower-accepted s (publish out work) publish-passes (published-done _ (sym e ∙ h))
+    publish-done h = lower-accepted s (publish out work) publish-passes (verdict-accepted _ e h)
 
   pub publish-output : publishOutput (kept (s .key)) out work ≡ handed s (publish out work) .output
   unfolding publishOutput lower bytes view outputOf

@@ -6,8 +6,6 @@ use Rattle.key.specs.Keys.{parse}
 use Rattle.key.specs.Kept.{kept, keep, noKey}
 use Rattle.key.specs.declared.shape.ShapeAnswer.{ShapeAnswer}
 use Rattle.key.specs.declared.shape.ShapeAnswer.the-variants as shapes
-use Rattle.publishing.specs.declared.Published.{Published}
-use Rattle.publishing.specs.declared.Published.the-variants as published
 use Rattle.reading.specs.declared.calls.Answer.{Answer}
 use Rattle.reading.specs.declared.calls.Answer.the-variants as answers
 use Rattle.ledger.specs.Station.{Outcome}
@@ -37,10 +35,6 @@ view s = record { state = stateOf (s .state); key = kept (s .key) }
 unfoldable pub loadedNumber : ShapeAnswer → ℕ
 loadedNumber (shapes.Sizes s) = 0
 loadedNumber (shapes.Refused n) = n
-
-unfoldable pub publishedNumber : Published → ℕ
-publishedNumber published.Done = 0
-publishedNumber (published.Refused n) = n
 
 unfoldable pub answerNumber : Answer → ℕ
 answerNumber (answers.Ones w) = 0

@@ -1,14 +1,14 @@
 // The station that keeps one key (document 01, 'Station').
+use field::Verdict;
 use key::kept::Key;
 use key::shape::ShapeAnswer;
-use publishing::Published;
 use reading::Answer;
 ghost use mathlib.Core.Path.{_≡_};
 ghost use mathlib.Core.Bool.{not};
 ghost use lib.ListN.{drop};
 ghost use Rattle.ledger.specs.Station.{isEmpty, isUnpublished};
 ghost use Rattle.ledger.specs.Calls.{load, publish, open-capsule, read-word, drop-key};
-ghost use Rattle.station.specs.Replies.{stateOf, loadedNumber, publishedNumber, answerNumber, freshStation, refusal, acceptance, handed};
+ghost use Rattle.station.specs.Replies.{stateOf, loadedNumber, answerNumber, freshStation, refusal, acceptance, handed};
 
 // One slot: the state and the key, the key of zeros where it is empty. State 0 is no key, 1 a key, any other a published key.
 #[repr(C)]
@@ -46,16 +46,6 @@ fn loaded_number(answer: ShapeAnswer) -> u8
     match answer {
         ShapeAnswer::Sizes(_) => 0,
         ShapeAnswer::Refused(n) => n,
-    }
-}
-
-// The number of publish's refusal, and 0 where T is written.
-fn published_number(answer: Published) -> u8
-    ensures { λ r. ⌜ r ≡ publishedNumber answer ⌝ }
-{
-    match answer {
-        Published::Done => 0,
-        Published::Refused(n) => n,
     }
 }
 
@@ -167,8 +157,8 @@ impl Station {
             out,
             work,
         );
-        let Published::Done = answer else {
-            return self.refuse(published_number(answer));
+        let Verdict::Accepted = answer else {
+            return self.refuse(field::number(answer));
         };
         Reply {
             station: Station {

@@ -32,8 +32,8 @@ enum-told c = search needs
 enum-told-2 : tie.Need-enum-told-2
 enum-told-2 c = search needs
 
-published-number-requires : tie.Need-published-number-requires
-published-number-requires c κs = tt
+number-requires : tie.Need-number-requires
+number-requires c κs = tt
 
 refuse-requires-2 : tie.Need-refuse-requires-2
 refuse-requires-2 c κs = tt
@@ -51,7 +51,7 @@ returns-2 c =
     let a = l .before .before .before .before .args in
     let k = sym (l .before .is-empty .ensures) ∙ l .if1 .left in (
       c .refuse2 .ensures
-          ∙ ap (refusal (a .t1)) (c .before .published-number .ensures)
+          ∙ ap (refusal (a .t1)) (c .before .number .ensures)
           ∙ publish-refused (a .t1) (a .out .now) (a .work .now) k _ (p .publish .ensures .0) (c .before .before .enum-told2 .given .1),
       (p .publish .ensures .1 .0 ∙ publish-output (a .t1) (a .out .now) (a .work .now) k, publish-work (a .t1) (a .out .now) (a .work .now) k _ _ (p .publish .ensures .1 .1)),
     )
@@ -83,7 +83,7 @@ publish-spec =
     publish-requires
     enum-told
     enum-told-2
-    published-number-requires
+    number-requires
     refuse-requires-2
     same-length
     same-length-2
