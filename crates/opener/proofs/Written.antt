@@ -1,11 +1,11 @@
 -- Bytes written one after the other, as far as the output reaches. Assumes nothing.
 use mathlib.Core.Path.{_≡_, refl, sym, ap, subst, _∙_}
 use mathlib.Core.List.{List, [], _∷_, _++_}
-use Prim.Native.Nat.{ℕ, zero, suc, _+_, _≤_, _<_}
+use Prim.Native.Nat.{ℕ, suc, _+_, _≤_, _<_}
 use native.Mathlib.Nat.{add-zero, add-suc, suc-add, zero-add}
 use native.Mathlib.Numerals.{add-one}
 use native.Mathlib.Omega.{arith}
-use lib.ListN.{length, take, drop, getD, set, length-append}
+use lib.ListN.{length, take, drop, getD, set, length-append, drop-of-length-le}
 use lib.Seq.{sets, drop-cons}
 use Rattle.bits.specs.Bits.{over}
 use Rattle.opener.specs.Wrote.{Wrote, Printed}
@@ -25,15 +25,9 @@ sets-next out at i l h =
     ∙ ap (λ (k : ℕ). sets (set out (at + i) (getD l i 0)) k (drop (suc i) l)) (add-suc at i)
     ∙ ap (λ (r : List ℕ). sets out (at + i) r) (sym (drop-cons l i 0 h))
 
-drop-all : (i : ℕ) (l : List ℕ) → length l ≤ i → drop i l ≡ []
-drop-all zero [] h = refl
-drop-all zero (x ∷ l) h = absurd (omega arith)
-drop-all (suc i) [] h = refl
-drop-all (suc i) (x ∷ l) h = drop-all i l (omega arith)
-
 -- nothing is left
 pub sets-none : (out : List ℕ) (at i : ℕ) (l : List ℕ) → length l ≤ i → sets out at (drop i l) ≡ out
-sets-none out at i l h = ap (sets out at) (drop-all i l h)
+sets-none out at i l h = ap (sets out at) (drop-of-length-le l h)
 
 -- one part behind another
 pub joined : (a b : List ℕ) {out mid after : List ℕ} {at next end : ℕ} → Wrote a out at next mid → Wrote b mid next end after

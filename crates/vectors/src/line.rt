@@ -1,7 +1,9 @@
 // The fields of a line, with a blank between two, and the buffers that they tell of.
-ghost use Prim.Native.Nat.{_≤_, _<_};
-ghost use lib.ListN.{length};
+ghost use mathlib.Core.Path.{_≡_};
+ghost use Prim.Native.Nat.{_+_, _*_, _≤_, _<_, min};
+ghost use lib.ListN.{length, getD};
 ghost use Rattle.io.specs.Counts.{Counts};
+ghost use Rattle.vectors.specs.Lines.{endOf, startOf, digitOf, numberOf, refusedOf, noBytes, withByte, bytesOf, outputOf, byteOrFiller, holdsOf};
 
 // The most bytes of a field.
 pub const SIZE: usize = 64;
@@ -17,7 +19,8 @@ pub struct Bytes {
 
 // The count, at most the number of the bytes.
 pub fn size(bytes: &[u8], count: usize) -> usize
-    ensures { λ r. ⌜ Counts r (now (bytes .entry)) ⌝ }
+    ensures value { λ r. ⌜ r ≡ min count (length (now (bytes .entry))) ⌝ }
+    ensures counts { λ r. ⌜ Counts r (now (bytes .entry)) ⌝ }
 {
     if count < bytes.len() {
         count
@@ -27,13 +30,16 @@ pub fn size(bytes: &[u8], count: usize) -> usize
 }
 
 // The byte at i, and 0 past the end.
-pub fn letter(line: &[u8], i: usize) -> u8 {
+pub fn letter(line: &[u8], i: usize) -> u8
+    ensures { λ r. ⌜ r ≡ getD (now (line .entry)) i 0 ⌝ }
+{
     if i < line.len() { line[i] } else { 0 }
 }
 
 // The place where field k starts, or the end.
 pub fn start(line: &[u8], k: u8) -> usize
-    ensures { λ r. ⌜ r ≤ length (now (line .entry)) ⌝ }
+    ensures place { λ r. ⌜ r ≡ startOf (now (line .entry)) k ⌝ }
+    ensures within { λ r. ⌜ r ≤ length (now (line .entry)) ⌝ }
 {
     let mut left = k;
     let mut i = 0;
@@ -51,7 +57,8 @@ pub fn start(line: &[u8], k: u8) -> usize
 
 // The value of a hexadecimal digit: 0 is 48 and a is 97.
 pub fn digit(b: u8) -> u8
-    ensures { λ r. ⌜ r < 16 ⌝ }
+    ensures value { λ r. ⌜ r ≡ digitOf b ⌝ }
+    ensures below { λ r. ⌜ r < 16 ⌝ }
 {
     if b < b'a' {
         return b % 16;
@@ -62,19 +69,24 @@ pub fn digit(b: u8) -> u8
 // The byte whose two digits start at i.
 fn byte(line: &[u8], i: usize) -> u8
     requires { ⌜ i ≤ length (now line) ⌝ }
+    ensures { λ r. ⌜ r ≡ 16 * digitOf (getD (now (line .entry)) i 0) + digitOf (getD (now (line .entry)) (i + 1) 0) ⌝ }
 {
     16 * digit(letter(line, i)) + digit(letter(line, i + 1))
 }
 
 // A byte behind the others.
-fn with(mut b: Bytes, x: u8) -> Bytes {
+fn with(mut b: Bytes, x: u8) -> Bytes
+    ensures { λ r. ⌜ r ≡ withByte b x ⌝ }
+{
     let i = b.count % SIZE;
     b.bytes[i] = x;
     b.count = i + 1;
     b
 }
 
-pub fn no_bytes() -> Bytes {
+pub fn no_bytes() -> Bytes
+    ensures { λ r. ⌜ r ≡ noBytes ⌝ }
+{
     Bytes {
         bytes: [0; SIZE],
         count: 0,
@@ -82,7 +94,9 @@ pub fn no_bytes() -> Bytes {
 }
 
 // The bytes of field k, two digits each; `-` says none.
-pub fn bytes_of(line: &[u8], k: u8) -> Bytes {
+pub fn bytes_of(line: &[u8], k: u8) -> Bytes
+    ensures { λ r. ⌜ r ≡ bytesOf (now (line .entry)) k ⌝ }
+{
     let mut b = no_bytes();
     let mut i = start(line, k);
     while i + 1 < line.len() {
@@ -96,7 +110,9 @@ pub fn bytes_of(line: &[u8], k: u8) -> Bytes {
 }
 
 // The number that field k says in decimal, and 0 where there is no such field.
-pub fn number_of(line: &[u8], k: u8) -> u16 {
+pub fn number_of(line: &[u8], k: u8) -> u16
+    ensures { λ r. ⌜ r ≡ numberOf (now (line .entry)) k ⌝ }
+{
     let mut x: u16 = 0;
     let mut i = start(line, k);
     while i < line.len() {
@@ -110,7 +126,9 @@ pub fn number_of(line: &[u8], k: u8) -> u16 {
 }
 
 // The number that field k and the next say: 0 for `ok`.
-pub fn refused(line: &[u8], k: u8) -> u16 {
+pub fn refused(line: &[u8], k: u8) -> u16
+    ensures { λ r. ⌜ r ≡ refusedOf (now (line .entry)) k ⌝ }
+{
     if letter(line, start(line, k)) == b'r' {
         return number_of(line, k % 100 + 1);
     }
@@ -118,7 +136,9 @@ pub fn refused(line: &[u8], k: u8) -> u16 {
 }
 
 // The output that field k and the next say: none where field k is `refused`.
-pub fn output(line: &[u8], k: u8) -> Bytes {
+pub fn output(line: &[u8], k: u8) -> Bytes
+    ensures { λ r. ⌜ r ≡ outputOf (now (line .entry)) k ⌝ }
+{
     if refused(line, k) != 0 {
         return no_bytes();
     }
@@ -128,12 +148,15 @@ pub fn output(line: &[u8], k: u8) -> Bytes {
 // The byte at i, and filler past the end.
 fn byte_or_filler(b: Bytes, i: usize) -> u8
     requires { ⌜ i < 64 ⌝ }
+    ensures { λ r. ⌜ r ≡ byteOrFiller b i ⌝ }
 {
     if i < b.count { b.bytes[i] } else { FILLER }
 }
 
 // The buffer starts with the bytes and is filler past them.
-pub fn holds(buffer: &[u8; 64], b: Bytes) -> bool {
+pub fn holds(buffer: &[u8; 64], b: Bytes) -> bool
+    ensures { λ r. ⌜ r ≡ holdsOf (now (buffer .entry)) b ⌝ }
+{
     let mut i = 0;
     while i < SIZE {
         if buffer[i] != byte_or_filler(b, i) {
@@ -146,7 +169,8 @@ pub fn holds(buffer: &[u8; 64], b: Bytes) -> bool {
 
 // The place of the text's first newline, or its end.
 pub fn end(text: &[u8]) -> usize
-    ensures { λ r. ⌜ r ≤ length (now (text .entry)) ⌝ }
+    ensures place { λ r. ⌜ r ≡ endOf (now (text .entry)) ⌝ }
+    ensures within { λ r. ⌜ r ≤ length (now (text .entry)) ⌝ }
 {
     let mut i = 0;
     while i < text.len() {

@@ -1,5 +1,7 @@
 // Agreements and differences of cases of several kinds.
 use libc::STDOUT_FILENO;
+ghost use mathlib.Core.Path.{_≡_};
+ghost use Rattle.vectors.specs.Tallies.{noCases, countedOf};
 
 // The kinds at most.
 const KINDS: usize = 8;
@@ -10,7 +12,9 @@ pub struct Tally {
 }
 
 // No case yet.
-pub fn none() -> Tally {
+pub fn none() -> Tally
+    ensures { λ r. ⌜ r ≡ noCases ⌝ }
+{
     Tally {
         agree: [0; KINDS],
         differ: [0; KINDS],
@@ -18,7 +22,9 @@ pub fn none() -> Tally {
 }
 
 // One case more.
-pub fn counted(mut t: Tally, kind: usize, agrees: bool) -> Tally {
+pub fn counted(mut t: Tally, kind: usize, agrees: bool) -> Tally
+    ensures { λ r. ⌜ r ≡ countedOf t kind agrees ⌝ }
+{
     let k = kind % KINDS;
     if agrees {
         t.agree[k] = t.agree[k] % 1000000 + 1;
@@ -28,7 +34,7 @@ pub fn counted(mut t: Tally, kind: usize, agrees: bool) -> Tally {
     t
 }
 
-// Writes the kind's numbers behind its name.
+// Writes the kind's numbers behind its name, to standard output, of which no contract can speak.
 pub fn print(t: Tally, kind: usize, name: &[u8]) {
     let k = kind % KINDS;
     io::write_all(STDOUT_FILENO, name);

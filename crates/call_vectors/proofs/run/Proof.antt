@@ -35,7 +35,7 @@ end-requires : tie.Need-end-requires Inv-loop μ-loop
 end-requires c κs = search needs
 
 slice-aggregate-step : tie.Need-slice-aggregate-step Inv-loop μ-loop
-slice-aggregate-step c = sym (length-take-le _ _ (c .before .end .ensures))
+slice-aggregate-step c = sym (length-take-le _ _ (c .before .end .ensures .1))
 
 step-requires : tie.Need-step-requires Inv-loop μ-loop
 step-requires c κs = search needs

@@ -32,7 +32,7 @@ end-requires : tie.Need-end-requires Inv-loop μ-loop
 end-requires c κs = search needs
 
 slice-aggregate-agrees : tie.Need-slice-aggregate-agrees Inv-loop μ-loop
-slice-aggregate-agrees c = sym (length-take-le _ _ (c .before .end .ensures))
+slice-aggregate-agrees c = sym (length-take-le _ _ (c .before .end .ensures .1))
 
 agrees-requires : tie.Need-agrees-requires Inv-loop μ-loop
 agrees-requires c κs = search needs

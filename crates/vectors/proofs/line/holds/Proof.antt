@@ -1,17 +1,21 @@
--- `vectors::line::holds` is safe and ends: i stays within the buffer. Assumes nothing.
+-- The invariant: the places from i on decide. Assumes nothing.
+use mathlib.Core.Path.{_≡_, sym, _∙_}
 use Prim.Native.Nat.{_-_, _≤_}
+use native.Mathlib.Omega.{arith}
 use borrow.Author.Needs.{needs}
+use Rattle.vectors.specs.Lines.{holdsOf}
+use Rattle.vectors.proofs.Fields.{holdsFrom, holds-all, holds-end, holds-next, holds-stop}
 use Rattle.vectors.proofs.line.holds.Statement.{statement}
 use Rattle.vectors.proofs.line.holds.Tie as tie
 
 abbrev Inv-loop : tie.InvT-loop
-Inv-loop buffer b i₀ i = i ≤ 64
+Inv-loop buffer b i₀ i = (i ≤ 64) × (holdsFrom buffer b i ≡ holdsOf buffer b)
 
 abbrev μ-loop : tie.MeasureT-loop
 μ-loop buffer b i₀ i = 64 - i
 
 loop-holds : tie.Need-loop-holds Inv-loop μ-loop
-loop-holds c = search needs
+loop-holds c = let a = c .args in (omega arith, holds-all (a .buffer .now) (a .b))
 
 element-copy-out-if1 : tie.Need-element-copy-out-if1 Inv-loop μ-loop
 element-copy-out-if1 c = search needs
@@ -20,7 +24,10 @@ byte-or-filler-requires : tie.Need-byte-or-filler-requires Inv-loop μ-loop
 byte-or-filler-requires c κs = search needs
 
 returns : tie.Need-returns Inv-loop μ-loop
-returns c = search needs
+returns c =
+    let l = c .before .before .before .before .loop in
+    let a = c .before .before .before .before .before .args in
+    sym (holds-stop (a .buffer .now) (a .b) (l .i) (c .before .byte-or-filler .ensures) (omega arith) (c .if1 .taken)) ∙ l .inv .1
 
 add-i : tie.Need-add-i Inv-loop μ-loop
 add-i c = search needs
@@ -29,10 +36,16 @@ loop-less : tie.Need-loop-less Inv-loop μ-loop
 loop-less c = search needs
 
 loop-again : tie.Need-loop-again Inv-loop μ-loop
-loop-again c = search needs
+loop-again c =
+    let l = c .before .before .before .before .loop in
+    let a = c .before .before .before .before .before .args in
+    (omega arith, sym (holds-next (a .buffer .now) (a .b) (l .i) (c .before .byte-or-filler .ensures) (omega arith) (c .if1 .left)) ∙ l .inv .1)
 
 returns-2 : tie.Need-returns-2 Inv-loop μ-loop
-returns-2 c = search needs
+returns-2 c =
+    let l = c .before .loop in
+    let a = c .before .before .args in
+    sym (holds-end (a .buffer .now) (a .b) (l .i) (c .loop-test .left)) ∙ l .inv .1
 
 pub holds-spec : {M : Type 1} → statement M
 holds-spec =
