@@ -46,6 +46,6 @@ keyText TooLarge text = tooLarge
 unfoldable pub isFour : Key → Bool
 isFour k = eqb (k .m) 4 && inLimits 4 (k .n) (k .t)
 
--- the lines of the capsules in the input's first 65,536 bytes; none under a key of another width
+-- the lines of the capsules in the input's first 65,536 bytes; none under a key of another shape
 unfoldable pub capsuleLines : Station → List ℕ → List ℕ
 capsuleLines s input = cond (isFour (s .key)) (opened s (take 65536 input)) []

@@ -1,5 +1,5 @@
 // The text that the program prints, from a key file and capsules (document 01, 'Bench keys').
-// Each function writes its part from place `at` of the output on, as far as that reaches, and gives the place behind it.
+// A function with a place `at` writes its part from there on, as far as the output reaches, and gives the place behind it.
 use station::Reply;
 use station::Station;
 ghost use mathlib.Core.Path.{_≡_};
@@ -243,7 +243,7 @@ pub fn key_text(answer: KeyAnswer, out: &mut [u8]) -> usize
     }
 }
 
-// The key is one of width 4.
+// m is 4, and the key's shape is within its limits.
 fn is_four(station: Station) -> bool
     ensures { λ r. ⌜ r ≡ isFour (view station .key) ⌝ }
 {
@@ -254,7 +254,7 @@ fn is_four(station: Station) -> bool
     key::shape::in_limits(4, key.n, key.t)
 }
 
-// The lines of the capsules in the first 65,536 bytes of the input; none under a key of another width.
+// The lines of the capsules in the first 65,536 bytes of the input; none under a key of another shape.
 pub fn open_lines(station: Station, input: &[u8], out: &mut [u8]) -> usize
     ensures { λ r. ⌜ Printed (capsuleLines (view station) (now (input .entry))) (now (out .entry)) r (now (out .exit)) ⌝ }
 {
