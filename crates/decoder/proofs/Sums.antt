@@ -9,11 +9,10 @@ use native.Mathlib.Nat.{zero-add}
 use native.Mathlib.Omega.{arith}
 use lib.ListN.{length, getD}
 use lib.Pow.{pow-pos}
-use borrow.Author.Tests.{lt-ltb}
 use Rattle.bits.specs.Xor.{_⊕_}
 use Rattle.bits.specs.Bits.{Row, from, every, xorRow, dot}
 use Rattle.bits.proofs.Xor.{xor-self, xor-eq}
-use Rattle.bits.proofs.Lists.{length-map-from, map-from, map-from-at, every-all}
+use Rattle.bits.proofs.Lists.{length-map-from, map-from, map-from-at}
 use Rattle.bits.proofs.Rows.{row-xorRow}
 use Rattle.bits.proofs.Product.{dot-xorRow}
 use Rattle.algebra.proofs.Points.{pow, powerSum}

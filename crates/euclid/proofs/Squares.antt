@@ -5,14 +5,13 @@ use mathlib.Core.List.{List, [], _∷_, _++_}
 use Prim.Native.Nat.{ℕ, zero, suc, _-_, _≤_, _<_}
 use native.Mathlib.Omega.{arith}
 use native.Mathlib.Decide.{decLt}
-use borrow.Author.Tests.{lt-leb, le-leb, lt-ltb}
+use borrow.Author.Tests.{lt-leb, le-leb}
 use lib.Dec.{leb}
 use lib.Pow.{pow-pos}
 use lib.ListN.{length, replicate}
 use Rattle.bits.proofs.Padded.{length-padded}
 use Rattle.bits.specs.Bits.{every, padded}
 use Rattle.bits.proofs.Bits.{zeros-at}
-use Rattle.bits.proofs.Lists.{every-all}
 use Rattle.algebra.proofs.Ring.{ring, mul-zero}
 use Rattle.algebra.proofs.Field.{Field}
 use Rattle.algebra.proofs.Series as S

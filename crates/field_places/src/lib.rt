@@ -1,8 +1,8 @@
 // Products and inverses in GF(2^m) at each place of a list. The loop over places vectorises.
 ghost use mathlib.Core.Path.{_≡_};
 ghost use mathlib.Core.Bool.{true};
-ghost use Prim.Native.Nat.{_*_, _%_, _≤_, _<_};
-ghost use lib.ListN.{length, take};
+ghost use Prim.Native.Nat.{_*_, _%_, _<_};
+ghost use lib.ListN.{take};
 ghost use Rattle.bits.specs.Bits.{padded};
 ghost use Rattle.field.specs.Field.{isWidth, inv};
 ghost use Rattle.field.specs.Poly.{hornerEach, ofEach};

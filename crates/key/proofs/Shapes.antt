@@ -1,6 +1,6 @@
 -- Every shape of the standard's table has a width and is in the limits, by one computed test of the table. Assumes nothing.
 use Prim.Native.Nat.{ℕ, _*_, _^_, _≤_, _<_, _-_}
-use mathlib.Core.Path.{_≡_, refl}
+use mathlib.Core.Path.{_≡_}
 use mathlib.Core.Bool.{Bool, true, _&&_, _||_}
 use native.Mathlib.Omega.{arith}
 use lib.Dec.{leb, ltb}
