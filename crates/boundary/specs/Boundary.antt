@@ -1,11 +1,8 @@
--- The answers of the crates below as a C caller's structs and numbers. Assumes nothing.
-use Prim.Native.Nat.{ℕ}
+-- The answers of the crates below as a C caller's structs. Assumes nothing.
 use Rattle.field.specs.declared.Answer.{Answer}
 use Rattle.field.specs.declared.Answer.the-variants as answers
 use Rattle.key.specs.declared.shape.ShapeAnswer.{ShapeAnswer}
 use Rattle.key.specs.declared.shape.ShapeAnswer.the-variants as shapes
-use Rattle.locking.specs.declared.Locked.{Locked}
-use Rattle.locking.specs.declared.Locked.the-variants as locks
 use Rattle.boundary.specs.declared.Element.{Element}
 use Rattle.boundary.specs.declared.Shape.{Shape}
 
@@ -18,7 +15,3 @@ asElement (answers.Refused n) = record { refused = n; value = 0 }
 unfoldable pub asShape : ShapeAnswer → Shape
 asShape (shapes.Sizes s) = record { refused = 0; m = s .m; n = s .n; t = s .t }
 asShape (shapes.Refused x) = record { refused = x; m = 0; n = 0; t = 0 }
-
-unfoldable pub lockedNumber : Locked → ℕ
-lockedNumber locks.Done = 0
-lockedNumber (locks.Refused x) = x

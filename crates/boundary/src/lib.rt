@@ -1,7 +1,7 @@
-// The answers of the crates below as structs and numbers of C callers.
+// The answers of the crates below as structs of C callers.
 use key::shape::ShapeAnswer;
 ghost use mathlib.Core.Path.{_≡_};
-ghost use Rattle.boundary.specs.Boundary.{asElement, asShape, lockedNumber};
+ghost use Rattle.boundary.specs.Boundary.{asElement, asShape};
 
 // The element, or the number of a refusal with value 0.
 #[repr(C)]
@@ -52,15 +52,5 @@ pub fn as_shape(answer: ShapeAnswer) -> Shape
             n: 0,
             t: 0,
         },
-    }
-}
-
-// The number of lock's refusal, and 0 where the capsule is written.
-pub fn locked_number(answer: locking::Locked) -> u8
-    ensures { λ r. ⌜ r ≡ lockedNumber answer ⌝ }
-{
-    match answer {
-        locking::Locked::Done => 0,
-        locking::Locked::Refused(x) => x,
     }
 }

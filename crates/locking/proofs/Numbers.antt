@@ -1,8 +1,8 @@
 -- Lock's numbers, in the order of their conditions. Assumes nothing.
-use mathlib.Core.Path.{_≡_, refl, sym, ap, _∙_}
+use mathlib.Core.Path.{_≡_, sym, ap}
 use mathlib.Core.Bool.{Bool, true, false, not, cond, _&&_}
 use mathlib.Core.List.{List}
-use Prim.Native.Nat.{ℕ, zero, suc, _-_, _*_, _≤_, _<_}
+use Prim.Native.Nat.{ℕ, _-_, _*_, _≤_, _<_}
 use lib.Dec.{eqb, ltb}
 use lib.ListN.{length}
 use borrow.Author.Tests.{eq-eqb, ne-eqb, eqb-true, lt-ltb, le-ltb, ltb-false, not-false}
@@ -16,8 +16,6 @@ use Rattle.key.proofs.Shapes.{limits}
 use Rattle.key.proofs.Conditions.{limits-fit}
 use Rattle.code.specs.Lock.{rowOf, lockNumber, lockOutput}
 use Rattle.code.specs.Lock as Lock
-use Rattle.locking.specs.Locking.{lockedOf}
-use Rattle.locking.specs.declared.Locked.the-variants.{Done, Refused}
 
 -- the bytes of the public key
 abbrev pub publicSize : ℕ → ℕ → ℕ → ℕ
@@ -115,16 +113,7 @@ module _ (m n t : ℕ) (public pattern out : List ℕ) where
         room = ltb-false (length out) (bytesFor (m * t)) (k .0);
       }
 
-  -- the answer and the output by the number
-  pub output-kept : (x : ℕ) → x ≡ lockNumber m n t public pattern out → (x ≡ 0 → ⊥) → out ≡ lockOutput m n t public pattern out
+  -- the output where something is refused
+  pub output-kept : (lockNumber m n t public pattern out ≡ 0 → ⊥) → out ≡ lockOutput m n t public pattern out
   unfolding lockOutput
-  output-kept x e z = ap (λ (b : Bool). cond b (over (Lock.lock m n t public pattern) out) out) (sym (ne-eqb (lockNumber m n t public pattern out) 0 (λ q. z (e ∙ q))))
-
-pub refused : (x y : ℕ) → x ≡ y → (x ≡ 0 → ⊥) → Refused x ≡ lockedOf y
-unfolding lockedOf
-refused zero y e z = absurd (z refl)
-refused (suc x) y e z = ap lockedOf e
-
-pub done : (y : ℕ) → y ≡ 0 → Done ≡ lockedOf y
-unfolding lockedOf
-done y e = ap lockedOf (sym e)
+  output-kept z = ap (λ (b : Bool). cond b (over (Lock.lock m n t public pattern) out) out) (sym (ne-eqb (lockNumber m n t public pattern out) 0 z))

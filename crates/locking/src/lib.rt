@@ -1,64 +1,60 @@
 // Locking a pattern under a shape and a public key (document 01, 'Code and public key').
+use field::Verdict;
 ghost use mathlib.Core.Path.{_≡_};
 ghost use mathlib.Core.List.{map};
 ghost use Prim.Native.Nat.{_*_, _≤_, _<_};
 ghost use lib.ListN.{length, drop, replicate};
 ghost use Rattle.bits.specs.Bits.{from, every, bytesFor, bitAt, pack, fillerClear, over, rowProduct};
+ghost use Rattle.field.specs.Verdicts.{verdictOf};
 ghost use Rattle.code.specs.Lock.{rowOf, lockNumber, lockOutput};
-ghost use Rattle.locking.specs.Locking.{lockedOf, capsuleBit};
+ghost use Rattle.locking.specs.Locking.{capsuleBit};
 
-// What the call answers: the capsule is written, or the number of a refusal.
-pub enum Locked {
-    Done,
-    Refused(u8),
-}
-
-// The capsule of a pattern with exactly t ones, from the start of out.
-pub fn lock(m: u8, n: u16, t: u16, public: &[u8], pattern: &[u8], out: &mut [u8]) -> Locked
-    ensures { λ r. ⌜ r ≡ lockedOf (lockNumber m n t (now (public .entry)) (now (pattern .entry)) (now (out .entry))) ⌝ }
+// The capsule of a pattern with exactly t ones, from the start of out; 1, 3, 8, 9, 12 or 10 on refusal.
+pub fn lock(m: u8, n: u16, t: u16, public: &[u8], pattern: &[u8], out: &mut [u8]) -> Verdict
+    ensures { λ r. ⌜ r ≡ verdictOf (lockNumber m n t (now (public .entry)) (now (pattern .entry)) (now (out .entry))) ⌝ }
     ensures { λ _. ⌜ now (out .exit) ≡ lockOutput m n t (now (public .entry)) (now (pattern .entry)) (now (out .entry)) ⌝ }
 {
-    let x = refusal(m, n, t, public, pattern, &out[..]);
-    if x != 0 {
-        return Locked::Refused(x);
-    }
+    let x = check(m, n, t, public, pattern, &out[..]);
+    let Verdict::Accepted = x else {
+        return x;
+    };
     let rows = (m as usize) * (t as usize);
     let capsule = capsule_of(public, pattern, rows, n as usize - rows);
     packed::write_row(out, &capsule, 0, rows as u32);
-    Locked::Done
+    Verdict::Accepted
 }
 
-// The number of the refusal, and 0 where there is none.
-fn refusal(m: u8, n: u16, t: u16, public: &[u8], pattern: &[u8], out: &[u8]) -> u8
-    ensures { λ r. ⌜ r ≡ lockNumber m n t (now (public .entry)) (now (pattern .entry)) (now (out .entry)) ⌝ }
+// Whether a pattern can be locked: 1, 3, 8, 9, 12 or 10 on refusal.
+fn check(m: u8, n: u16, t: u16, public: &[u8], pattern: &[u8], out: &[u8]) -> Verdict
+    ensures { λ r. ⌜ r ≡ verdictOf (lockNumber m n t (now (public .entry)) (now (pattern .entry)) (now (out .entry))) ⌝ }
 {
     if field::modulus(m) == 0 {
-        return 1;
+        return Verdict::Refused(1);
     }
     if !key::shape::in_limits(m, n, t) {
-        return 3;
+        return Verdict::Refused(3);
     }
     let rows = (m as usize) * (t as usize);
     let w = n as usize - rows;
     if public.len() != rows * bits::bytes_for(w) {
-        return 8;
+        return Verdict::Refused(8);
     }
     if pattern.len() != bits::bytes_for(n as usize) {
-        return 8;
+        return Verdict::Refused(8);
     }
     if !fillers_clear(public, rows, w) {
-        return 9;
+        return Verdict::Refused(9);
     }
     if !bits::filler_clear(pattern, n as usize) {
-        return 9;
+        return Verdict::Refused(9);
     }
     if bits::weight(pattern, n as usize) != t as usize {
-        return 12;
+        return Verdict::Refused(12);
     }
     if out.len() < bits::bytes_for(rows) {
-        return 10;
+        return Verdict::Refused(10);
     }
-    0
+    Verdict::Accepted
 }
 
 // The filler of each row of w bits is 0.

@@ -4,7 +4,6 @@ use boundary::Element;
 use boundary::Shape;
 use boundary::as_element;
 use boundary::as_shape;
-use boundary::locked_number;
 use station::Reply;
 use station::Station;
 ghost use mathlib.Core.Path.{_≡_};
@@ -70,7 +69,7 @@ pub extern "C" fn shearcotter_lock(
     ensures number { λ r. ⌜ r ≡ lockNumber m n t (now (public .entry)) (now (pattern .entry)) (now (out .entry)) ⌝ }
     ensures output { λ _. ⌜ now (out .exit) ≡ lockOutput m n t (now (public .entry)) (now (pattern .entry)) (now (out .entry)) ⌝ }
 {
-    locked_number(locking::lock(m, n, t, public, pattern, out))
+    field::number(locking::lock(m, n, t, public, pattern, out))
 }
 
 // The empty station.

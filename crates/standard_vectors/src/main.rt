@@ -2,7 +2,6 @@
 // compared with the public key byte for byte, the capsule opened and read, the pattern locked, a changed capsule refused.
 ghost use Rattle.io.specs.Counts.{Counts};
 use libc::STDOUT_FILENO;
-use locking::Locked;
 use station::Reply;
 use station::Station;
 
@@ -73,10 +72,8 @@ fn locks(m: u8, n: u16, t: u16, name: &[u8], pattern: &[u8], capsule: &[u8]) {
     let mut public = [0u8; PUBLIC];
     let k = read_file(name, &mut public);
     let mut out = [0u8; 256];
-    match locking::lock(m, n, t, &public[..k], pattern, &mut out) {
-        Locked::Done => print(b"locked", same(&out, capsule, capsule.len())),
-        Locked::Refused(_) => print(b"locked", false),
-    }
+    let x = field::number(locking::lock(m, n, t, &public[..k], pattern, &mut out));
+    print(b"locked", x == 0 && same(&out, capsule, capsule.len()));
 }
 
 // Open gives the pattern with t ones.

@@ -4,8 +4,6 @@
 // four with `refused NUMBER` from `ok` on. Bytes are in hexadecimal, and `-` is none.
 use key::kept::Key;
 use libc::STDOUT_FILENO;
-use locking::Locked;
-use publishing::Published;
 use reading::Answer;
 use station::Reply;
 use station::Station;
@@ -56,20 +54,6 @@ fn outcome_of(a: Answer) -> Outcome {
     }
 }
 
-fn published(p: Published) -> u8 {
-    match p {
-        Published::Done => 0,
-        Published::Refused(x) => x,
-    }
-}
-
-fn locked(l: Locked) -> u8 {
-    match l {
-        Locked::Done => 0,
-        Locked::Refused(x) => x,
-    }
-}
-
 // The key of a line, loaded.
 fn key_of(line: &[u8]) -> Reply {
     let b = bytes_of(line, 1);
@@ -82,7 +66,7 @@ fn key_of(line: &[u8]) -> Reply {
 fn publishes(key: Key, public: Bytes, line: &[u8]) -> bool {
     let mut out = [FILLER; 64];
     let mut work = [0u8; 64];
-    let x = published(publishing::publish(
+    let x = field::number(publishing::publish(
         key.m,
         key.n,
         key.t,
@@ -142,7 +126,7 @@ fn locks(key: Key, public: Bytes, line: &[u8]) -> bool {
     let n = size(&pattern, b.count);
     let t = public.bytes;
     let l = size(&t, public.count);
-    let x = locked(locking::lock(key.m, key.n, key.t, &t[..l], &pattern[..n], &mut out));
+    let x = field::number(locking::lock(key.m, key.n, key.t, &t[..l], &pattern[..n], &mut out));
     x as u16 == refused(line, 2) && holds(&out, output(line, 2))
 }
 

@@ -4,13 +4,14 @@ use Prim.Native.Nat.{ℕ, _-_, _*_, _≤_}
 use native.Mathlib.Nat.{mul-le-mul}
 use native.Mathlib.Omega.{arith}
 use Rattle.bits.proofs.Parts.{row-size}
+use Rattle.field.proofs.Verdicts.{refuses, accepts}
 use Rattle.field.proofs.Table.{modulus-none, modulus-some}
 use Rattle.key.proofs.Order.{failed, passed}
 use Rattle.key.proofs.Shapes.{limits}
 use Rattle.key.proofs.Conditions.{limits-fit}
 use Rattle.locking.proofs.Numbers.{publicSize, lock-1, lock-3, lock-8-public, lock-8-pattern, lock-9-public, lock-9-pattern, lock-12, lock-10, lock-0}
-use Rattle.locking.proofs.refusal.Statement.{statement}
-use Rattle.locking.proofs.refusal.Tie as tie
+use Rattle.locking.proofs.check.Statement.{statement}
+use Rattle.locking.proofs.check.Tie as tie
 
 modulus-requires : tie.Need-modulus-requires
 modulus-requires c κs = tt
@@ -18,7 +19,7 @@ modulus-requires c κs = tt
 returns : tie.Need-returns
 returns c =
     let a = c .before .before .before .before .before .args in
-    lock-1 (a .m) (a .n) (a .t) (a .public .now) (a .pattern .now) (a .out .now) (modulus-none _ (c .before .modulus .ensures) (c .if1 .taken))
+    refuses (lock-1 (a .m) (a .n) (a .t) (a .public .now) (a .pattern .now) (a .out .now) (modulus-none _ (c .before .modulus .ensures) (c .if1 .taken)))
 
 in-limits-requires : tie.Need-in-limits-requires
 in-limits-requires c κs = tt
@@ -26,7 +27,7 @@ in-limits-requires c κs = tt
 returns-2 : tie.Need-returns-2
 returns-2 c =
     let a = c .before .before .before .before .before .before .before .args in
-    lock-3 (a .m) (a .n) (a .t) (a .public .now) (a .pattern .now) (a .out .now) (modulus-some _ (c .before .before .before .modulus .ensures) (c .before .before .if1 .left)) (failed (c .before .in-limits .ensures) (c .if2 .taken))
+    refuses (lock-3 (a .m) (a .n) (a .t) (a .public .now) (a .pattern .now) (a .out .now) (modulus-some _ (c .before .before .before .modulus .ensures) (c .before .before .if1 .left)) (failed (c .before .in-limits .ensures) (c .if2 .taken)))
 
 mul-rows : tie.Need-mul-rows
 mul-rows c =
@@ -52,7 +53,7 @@ returns-3 : tie.Need-returns-3
 returns-3 c =
     let a = c .before .before .before .before .before .before .before .before .before .args in
     let size : a .m * a .t * c .before .bytes-for .result ≡ publicSize (a .m) (a .n) (a .t) = ap (λ (x : ℕ). a .m * a .t * x) (c .before .bytes-for .ensures) in
-    lock-8-public (a .m) (a .n) (a .t) (a .public .now) (a .pattern .now) (a .out .now) (modulus-some _ (c .before .before .before .before .before .modulus .ensures) (c .before .before .before .before .if1 .left)) (passed (c .before .before .before .in-limits .ensures) (c .before .before .if2 .left)) (λ e. omega (arith, size))
+    refuses (lock-8-public (a .m) (a .n) (a .t) (a .public .now) (a .pattern .now) (a .out .now) (modulus-some _ (c .before .before .before .before .before .modulus .ensures) (c .before .before .before .before .if1 .left)) (passed (c .before .before .before .in-limits .ensures) (c .before .before .if2 .left)) (λ e. omega (arith, size)))
 
 bytes-for-requires-2 : tie.Need-bytes-for-requires-2
 bytes-for-requires-2 c κs = tt
@@ -61,7 +62,7 @@ returns-4 : tie.Need-returns-4
 returns-4 c =
     let a = c .before .before .before .before .before .before .before .before .before .before .before .args in
     let size : a .m * a .t * c .before .before .before .bytes-for .result ≡ publicSize (a .m) (a .n) (a .t) = ap (λ (x : ℕ). a .m * a .t * x) (c .before .before .before .bytes-for .ensures) in
-    lock-8-pattern (a .m) (a .n) (a .t) (a .public .now) (a .pattern .now) (a .out .now) (modulus-some _ (c .before .before .before .before .before .before .before .modulus .ensures) (c .before .before .before .before .before .before .if1 .left)) (passed (c .before .before .before .before .before .in-limits .ensures) (c .before .before .before .before .if2 .left)) (omega (arith, size)) (λ e. omega arith)
+    refuses (lock-8-pattern (a .m) (a .n) (a .t) (a .public .now) (a .pattern .now) (a .out .now) (modulus-some _ (c .before .before .before .before .before .before .before .modulus .ensures) (c .before .before .before .before .before .before .if1 .left)) (passed (c .before .before .before .before .before .in-limits .ensures) (c .before .before .before .before .if2 .left)) (omega (arith, size)) (λ e. omega arith))
 
 fillers-clear-requires : tie.Need-fillers-clear-requires
 fillers-clear-requires c κs =
@@ -73,7 +74,7 @@ returns-5 : tie.Need-returns-5
 returns-5 c =
     let a = c .before .before .before .before .before .before .before .before .before .before .before .before .before .args in
     let size : a .m * a .t * c .before .before .before .before .before .bytes-for .result ≡ publicSize (a .m) (a .n) (a .t) = ap (λ (x : ℕ). a .m * a .t * x) (c .before .before .before .before .before .bytes-for .ensures) in
-    lock-9-public (a .m) (a .n) (a .t) (a .public .now) (a .pattern .now) (a .out .now) (modulus-some _ (c .before .before .before .before .before .before .before .before .before .modulus .ensures) (c .before .before .before .before .before .before .before .before .if1 .left)) (passed (c .before .before .before .before .before .before .before .in-limits .ensures) (c .before .before .before .before .before .before .if2 .left)) (omega (arith, size)) (omega arith) (failed (c .before .fillers-clear .ensures) (c .if5 .taken))
+    refuses (lock-9-public (a .m) (a .n) (a .t) (a .public .now) (a .pattern .now) (a .out .now) (modulus-some _ (c .before .before .before .before .before .before .before .before .before .modulus .ensures) (c .before .before .before .before .before .before .before .before .if1 .left)) (passed (c .before .before .before .before .before .before .before .in-limits .ensures) (c .before .before .before .before .before .before .if2 .left)) (omega (arith, size)) (omega arith) (failed (c .before .fillers-clear .ensures) (c .if5 .taken)))
 
 filler-clear-requires : tie.Need-filler-clear-requires
 filler-clear-requires c κs = tt
@@ -82,7 +83,7 @@ returns-6 : tie.Need-returns-6
 returns-6 c =
     let a = c .before .before .before .before .before .before .before .before .before .before .before .before .before .before .before .args in
     let size : a .m * a .t * c .before .before .before .before .before .before .before .bytes-for .result ≡ publicSize (a .m) (a .n) (a .t) = ap (λ (x : ℕ). a .m * a .t * x) (c .before .before .before .before .before .before .before .bytes-for .ensures) in
-    lock-9-pattern (a .m) (a .n) (a .t) (a .public .now) (a .pattern .now) (a .out .now) (modulus-some _ (c .before .before .before .before .before .before .before .before .before .before .before .modulus .ensures) (c .before .before .before .before .before .before .before .before .before .before .if1 .left)) (passed (c .before .before .before .before .before .before .before .before .before .in-limits .ensures) (c .before .before .before .before .before .before .before .before .if2 .left)) (omega (arith, size)) (omega arith) (passed (c .before .before .before .fillers-clear .ensures) (c .before .before .if5 .left)) (failed (c .before .filler-clear .ensures) (c .if6 .taken))
+    refuses (lock-9-pattern (a .m) (a .n) (a .t) (a .public .now) (a .pattern .now) (a .out .now) (modulus-some _ (c .before .before .before .before .before .before .before .before .before .before .before .modulus .ensures) (c .before .before .before .before .before .before .before .before .before .before .if1 .left)) (passed (c .before .before .before .before .before .before .before .before .before .in-limits .ensures) (c .before .before .before .before .before .before .before .before .if2 .left)) (omega (arith, size)) (omega arith) (passed (c .before .before .before .fillers-clear .ensures) (c .before .before .if5 .left)) (failed (c .before .filler-clear .ensures) (c .if6 .taken)))
 
 weight-requires : tie.Need-weight-requires
 weight-requires c κs = tt
@@ -91,7 +92,7 @@ returns-7 : tie.Need-returns-7
 returns-7 c =
     let a = c .before .before .before .before .before .before .before .before .before .before .before .before .before .before .before .before .before .args in
     let size : a .m * a .t * c .before .before .before .before .before .before .before .before .before .bytes-for .result ≡ publicSize (a .m) (a .n) (a .t) = ap (λ (x : ℕ). a .m * a .t * x) (c .before .before .before .before .before .before .before .before .before .bytes-for .ensures) in
-    lock-12 (a .m) (a .n) (a .t) (a .public .now) (a .pattern .now) (a .out .now) (modulus-some _ (c .before .before .before .before .before .before .before .before .before .before .before .before .before .modulus .ensures) (c .before .before .before .before .before .before .before .before .before .before .before .before .if1 .left)) (passed (c .before .before .before .before .before .before .before .before .before .before .before .in-limits .ensures) (c .before .before .before .before .before .before .before .before .before .before .if2 .left)) (omega (arith, size)) (omega arith) (passed (c .before .before .before .before .before .fillers-clear .ensures) (c .before .before .before .before .if5 .left)) (passed (c .before .before .before .filler-clear .ensures) (c .before .before .if6 .left)) (λ e. omega arith)
+    refuses (lock-12 (a .m) (a .n) (a .t) (a .public .now) (a .pattern .now) (a .out .now) (modulus-some _ (c .before .before .before .before .before .before .before .before .before .before .before .before .before .modulus .ensures) (c .before .before .before .before .before .before .before .before .before .before .before .before .if1 .left)) (passed (c .before .before .before .before .before .before .before .before .before .before .before .in-limits .ensures) (c .before .before .before .before .before .before .before .before .before .before .if2 .left)) (omega (arith, size)) (omega arith) (passed (c .before .before .before .before .before .fillers-clear .ensures) (c .before .before .before .before .if5 .left)) (passed (c .before .before .before .filler-clear .ensures) (c .before .before .if6 .left)) (λ e. omega arith))
 
 bytes-for-requires-3 : tie.Need-bytes-for-requires-3
 bytes-for-requires-3 c κs = tt
@@ -100,16 +101,16 @@ returns-8 : tie.Need-returns-8
 returns-8 c =
     let a = c .before .before .before .before .before .before .before .before .before .before .before .before .before .before .before .before .before .before .before .args in
     let size : a .m * a .t * c .before .before .before .before .before .before .before .before .before .before .before .bytes-for .result ≡ publicSize (a .m) (a .n) (a .t) = ap (λ (x : ℕ). a .m * a .t * x) (c .before .before .before .before .before .before .before .before .before .before .before .bytes-for .ensures) in
-    lock-10 (a .m) (a .n) (a .t) (a .public .now) (a .pattern .now) (a .out .now) (modulus-some _ (c .before .before .before .before .before .before .before .before .before .before .before .before .before .before .before .modulus .ensures) (c .before .before .before .before .before .before .before .before .before .before .before .before .before .before .if1 .left)) (passed (c .before .before .before .before .before .before .before .before .before .before .before .before .before .in-limits .ensures) (c .before .before .before .before .before .before .before .before .before .before .before .before .if2 .left)) (omega (arith, size)) (omega arith) (passed (c .before .before .before .before .before .before .before .fillers-clear .ensures) (c .before .before .before .before .before .before .if5 .left)) (passed (c .before .before .before .before .before .filler-clear .ensures) (c .before .before .before .before .if6 .left)) (omega arith) (omega arith)
+    refuses (lock-10 (a .m) (a .n) (a .t) (a .public .now) (a .pattern .now) (a .out .now) (modulus-some _ (c .before .before .before .before .before .before .before .before .before .before .before .before .before .before .before .modulus .ensures) (c .before .before .before .before .before .before .before .before .before .before .before .before .before .before .if1 .left)) (passed (c .before .before .before .before .before .before .before .before .before .before .before .before .before .in-limits .ensures) (c .before .before .before .before .before .before .before .before .before .before .before .before .if2 .left)) (omega (arith, size)) (omega arith) (passed (c .before .before .before .before .before .before .before .fillers-clear .ensures) (c .before .before .before .before .before .before .if5 .left)) (passed (c .before .before .before .before .before .filler-clear .ensures) (c .before .before .before .before .if6 .left)) (omega arith) (omega arith))
 
 returns-9 : tie.Need-returns-9
 returns-9 c =
     let a = c .before .before .before .before .before .before .before .before .before .before .before .before .before .before .before .before .before .before .before .args in
     let size : a .m * a .t * c .before .before .before .before .before .before .before .before .before .before .before .bytes-for .result ≡ publicSize (a .m) (a .n) (a .t) = ap (λ (x : ℕ). a .m * a .t * x) (c .before .before .before .before .before .before .before .before .before .before .before .bytes-for .ensures) in
-    lock-0 (a .m) (a .n) (a .t) (a .public .now) (a .pattern .now) (a .out .now) (modulus-some _ (c .before .before .before .before .before .before .before .before .before .before .before .before .before .before .before .modulus .ensures) (c .before .before .before .before .before .before .before .before .before .before .before .before .before .before .if1 .left)) (passed (c .before .before .before .before .before .before .before .before .before .before .before .before .before .in-limits .ensures) (c .before .before .before .before .before .before .before .before .before .before .before .before .if2 .left)) (omega (arith, size)) (omega arith) (passed (c .before .before .before .before .before .before .before .fillers-clear .ensures) (c .before .before .before .before .before .before .if5 .left)) (passed (c .before .before .before .before .before .filler-clear .ensures) (c .before .before .before .before .if6 .left)) (omega arith) (omega arith)
+    accepts (lock-0 (a .m) (a .n) (a .t) (a .public .now) (a .pattern .now) (a .out .now) (modulus-some _ (c .before .before .before .before .before .before .before .before .before .before .before .before .before .before .before .modulus .ensures) (c .before .before .before .before .before .before .before .before .before .before .before .before .before .before .if1 .left)) (passed (c .before .before .before .before .before .before .before .before .before .before .before .before .before .in-limits .ensures) (c .before .before .before .before .before .before .before .before .before .before .before .before .if2 .left)) (omega (arith, size)) (omega arith) (passed (c .before .before .before .before .before .before .before .fillers-clear .ensures) (c .before .before .before .before .before .before .if5 .left)) (passed (c .before .before .before .before .before .filler-clear .ensures) (c .before .before .before .before .if6 .left)) (omega arith) (omega arith))
 
-pub refusal-spec : {M : Type 1} → statement M
-refusal-spec =
+pub check-spec : {M : Type 1} → statement M
+check-spec =
     tie.close
     (tie.spec
     modulus-requires
