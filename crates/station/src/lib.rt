@@ -68,7 +68,7 @@ impl Station {
     pub const PUBLISHED: u8 = 2;
 
     // The limit on t, 128.
-    pub const MOST_ERRORS: u16 = Key::MOST_ERRORS;
+    pub const MOST_ERRORS: usize = Key::MOST_ERRORS;
 
     // The limit on the register's list, 256.
     pub const LONGEST: usize = register::Registered::LONGEST;
@@ -113,8 +113,8 @@ impl Station {
         if !is_empty(state) {
             return self.refuse(22);
         }
-        let mut support = [0u16; 8192];
-        let mut g = [0u16; 128];
+        let mut support = [0u16; Key::MOST_PLACES];
+        let mut g = [0u16; Key::MOST_ERRORS];
         let answer = key_file::load(file, &mut support, &mut g);
         let ShapeAnswer::Sizes(s) = answer else {
             return self.refuse(loaded_number(answer));
