@@ -69,13 +69,21 @@ fn loads(station: Station, line: &[u8]) -> Outcome {
     outcome_of(station.load(&file[..n]), line, 3, true)
 }
 
-// The bytes of the workspace that are free: those it needs at m = 4, m·t·ceil(n/8), once the checks before 23 have passed.
+// The bytes of the workspace that are free: m·t·ceil(n/8), once the checks before 23 have passed. The lists' keys have t at most 3
+// and n at most 16.
 fn free_bytes(key: Key, number: u8) -> usize {
     if number != 0 && number != 23 {
         return 0;
     }
-    let rows = 4 * ((key.t % 4) as usize);
-    if key.n <= 8 { rows } else { 2 * rows }
+    let m = key.m as usize;
+    let rows = if key.t == 1 {
+        m
+    } else if key.t == 2 {
+        2 * m
+    } else {
+        3 * m
+    };
+    if key.n <= 8 { rows } else { 2 * (rows % 32) }
 }
 
 // The bytes of the workspace that are not free keep their filler.
