@@ -1,4 +1,5 @@
 // The answers of the crates below as structs of C callers.
+use field::Answer;
 use key::shape::ShapeAnswer;
 ghost use mathlib.Core.Path.{_≡_};
 ghost use Rattle.boundary.specs.Boundary.{asElement, asShape};
@@ -19,19 +20,29 @@ pub struct Shape {
     pub t: u16,
 }
 
-// A field answer as a struct.
-pub fn as_element(answer: field::Answer) -> Element
-    ensures { λ r. ⌜ r ≡ asElement answer ⌝ }
+// The number of a field answer's refusal, and 0 for an element.
+fn element_number(answer: Answer) -> u8
+    ensures { λ r. ⌜ r ≡ asElement answer .refused ⌝ }
 {
     match answer {
-        field::Answer::Value(v) => Element {
-            refused: 0,
-            value: v,
-        },
-        field::Answer::Refused(n) => Element {
-            refused: n,
+        Answer::Value(_) => 0,
+        Answer::Refused(x) => x,
+    }
+}
+
+// A field answer as a struct.
+pub fn as_element(answer: Answer) -> Element
+    ensures { λ r. ⌜ r ≡ asElement answer ⌝ }
+{
+    let Answer::Value(v) = answer else {
+        return Element {
+            refused: element_number(answer),
             value: 0,
-        },
+        };
+    };
+    Element {
+        refused: 0,
+        value: v,
     }
 }
 
@@ -39,18 +50,18 @@ pub fn as_element(answer: field::Answer) -> Element
 pub fn as_shape(answer: ShapeAnswer) -> Shape
     ensures { λ r. ⌜ r ≡ asShape answer ⌝ }
 {
-    match answer {
-        ShapeAnswer::Sizes(s) => Shape {
-            refused: 0,
-            m: s.m,
-            n: s.n,
-            t: s.t,
-        },
-        ShapeAnswer::Refused(x) => Shape {
-            refused: x,
+    let ShapeAnswer::Sizes(s) = answer else {
+        return Shape {
+            refused: key::shape::number(answer),
             m: 0,
             n: 0,
             t: 0,
-        },
+        };
+    };
+    Shape {
+        refused: 0,
+        m: s.m,
+        n: s.n,
+        t: s.t,
     }
 }

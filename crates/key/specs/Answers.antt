@@ -14,6 +14,11 @@ unfoldable pub shapeAnswer : ℕ → (ℕ × ℕ × ℕ) → ShapeAnswer
 shapeAnswer zero s = variants.Sizes (sizes s)
 shapeAnswer (suc x) s = variants.Refused (suc x)
 
+-- the number of a refusal, and 0 for a shape
+unfoldable pub answerNumber : ShapeAnswer → ℕ
+answerNumber (variants.Sizes s) = 0
+answerNumber (variants.Refused x) = x
+
 -- what the call for a position answers
 unfoldable pub shapeOf : ℕ → ShapeAnswer
 shapeOf p = shapeAnswer (shapeNumber p) (shapeAt p)

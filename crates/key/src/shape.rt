@@ -2,7 +2,7 @@
 use super::kept::Key;
 ghost use mathlib.Core.Path.{_≡_};
 ghost use Rattle.key.specs.Shapes.{inLimits};
-ghost use Rattle.key.specs.Answers.{shapeOf};
+ghost use Rattle.key.specs.Answers.{answerNumber, shapeOf};
 
 pub struct Sizes {
     pub m: u8,
@@ -14,6 +14,16 @@ pub struct Sizes {
 pub enum ShapeAnswer {
     Sizes(Sizes),
     Refused(u8),
+}
+
+// The number of a refusal, and 0 for a shape.
+pub fn number(answer: ShapeAnswer) -> u8
+    ensures { λ r. ⌜ r ≡ answerNumber answer ⌝ }
+{
+    match answer {
+        ShapeAnswer::Sizes(_) => 0,
+        ShapeAnswer::Refused(x) => x,
+    }
 }
 
 // mceliece348864, 460896, 6688128, 6960119, 8192128.

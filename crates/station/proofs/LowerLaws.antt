@@ -13,7 +13,7 @@ use Rattle.field.specs.declared.Verdict.the-variants as verdicts
 use Rattle.field.proofs.Verdicts.{verdict-accepted, verdict-refused, verdict-number}
 use Rattle.key.specs.Keys.{Key, parse}
 use Rattle.key.specs.Kept.{kept, keep, parts}
-use Rattle.key.specs.Answers.{sizes, shapeAnswer}
+use Rattle.key.specs.Answers.{sizes, shapeAnswer, answerNumber as loadedNumber}
 use Rattle.key.specs.declared.kept.Key as Kept
 use Rattle.key.specs.declared.shape.Sizes.{Sizes}
 use Rattle.key.specs.declared.shape.ShapeAnswer.{ShapeAnswer}
@@ -30,7 +30,7 @@ use Rattle.ledger.specs.Station.{loaded, published as isPublished, isEmpty, isU
 use Rattle.ledger.specs.Calls.{Call, load, publish, open-capsule, read-word}
 use Rattle.ledger.specs.Demands.{outputOf}
 use Rattle.ledger.proofs.StepLaws.{step-free, freed}
-use Rattle.station.specs.Replies.{stateOf, byteOf, view, loadedNumber, answerNumber, refusal, acceptance, moved, handed}
+use Rattle.station.specs.Replies.{stateOf, byteOf, view, answerNumber, refusal, acceptance, moved, handed}
 use Rattle.station.specs.declared.Station.{Station}
 use Rattle.station.proofs.ReplyLaws.{stop, lower, tally, bytes, lower-refused, lower-accepted, lower-output}
 

@@ -4,8 +4,6 @@ use Prim.Native.Nat.{ℕ, zero, suc}
 use mathlib.Core.List.{List}
 use Rattle.key.specs.Keys.{parse}
 use Rattle.key.specs.Kept.{kept, keep, noKey}
-use Rattle.key.specs.declared.shape.ShapeAnswer.{ShapeAnswer}
-use Rattle.key.specs.declared.shape.ShapeAnswer.the-variants as shapes
 use Rattle.reading.specs.declared.calls.Answer.{Answer}
 use Rattle.reading.specs.declared.calls.Answer.the-variants as answers
 use Rattle.ledger.specs.Station.{Outcome}
@@ -31,11 +29,7 @@ byteOf Definition.published = 2
 unfoldable pub view : Station → Definition.Station
 view s = record { state = stateOf (s .state); key = kept (s .key) }
 
--- the number in a lower answer, and 0 where it is no refusal
-unfoldable pub loadedNumber : ShapeAnswer → ℕ
-loadedNumber (shapes.Sizes s) = 0
-loadedNumber (shapes.Refused n) = n
-
+-- the number of a refusal to open or read, and 0 where the pattern is written
 unfoldable pub answerNumber : Answer → ℕ
 answerNumber (answers.Ones w) = 0
 answerNumber (answers.Refused n) = n

@@ -8,7 +8,7 @@ ghost use mathlib.Core.Bool.{not};
 ghost use lib.ListN.{drop};
 ghost use Rattle.ledger.specs.Station.{isEmpty, isUnpublished};
 ghost use Rattle.ledger.specs.Calls.{load, publish, open-capsule, read-word, drop-key};
-ghost use Rattle.station.specs.Replies.{stateOf, loadedNumber, answerNumber, freshStation, refusal, acceptance, handed};
+ghost use Rattle.station.specs.Replies.{stateOf, answerNumber, freshStation, refusal, acceptance, handed};
 
 // One slot: the state and the key, the key of zeros where it is empty. State 0 is no key, 1 a key, any other a published key.
 #[repr(C)]
@@ -37,16 +37,6 @@ fn is_published(state: u8) -> bool
     ensures { λ r. ⌜ r ≡ not (isUnpublished (stateOf state)) ⌝ }
 {
     Station::LOADED < state
-}
-
-// The number of load's refusal, and 0 where there is a shape.
-fn loaded_number(answer: ShapeAnswer) -> u8
-    ensures { λ r. ⌜ r ≡ loadedNumber answer ⌝ }
-{
-    match answer {
-        ShapeAnswer::Sizes(_) => 0,
-        ShapeAnswer::Refused(n) => n,
-    }
 }
 
 // The number of a refusal to open or read, and 0 where the pattern is written.
@@ -117,7 +107,7 @@ impl Station {
         let mut g = [0u16; Key::MOST_ERRORS];
         let answer = key_file::load(file, &mut support, &mut g);
         let ShapeAnswer::Sizes(s) = answer else {
-            return self.refuse(loaded_number(answer));
+            return self.refuse(key::shape::number(answer));
         };
         let key = Key {
             m: s.m,

@@ -32,8 +32,8 @@ enum-known-answer c = search needs
 enum-told : tie.Need-enum-told
 enum-told c = search needs
 
-loaded-number-requires : tie.Need-loaded-number-requires
-loaded-number-requires c κs = tt
+number-requires : tie.Need-number-requires
+number-requires c κs = tt
 
 refuse-requires-2 : tie.Need-refuse-requires-2
 refuse-requires-2 c κs = tt
@@ -44,7 +44,7 @@ returns-2 c =
     let e = p .before .before .before in
     let a = e .before .before .before .args in
     c .refuse2 .ensures
-    ∙ ap (refusal (a .self)) (c .before .loaded-number .ensures)
+    ∙ ap (refusal (a .self)) (c .before .number .ensures)
     ∙ load-refused (a .self) (a .file .now) (sym (e .before .is-empty .ensures) ∙ not-false _ (e .if1 .left)) _ (p .load .ensures .0) (c .before .before .enum-told .given .1)
 
 returns-3 : tie.Need-returns-3
@@ -66,7 +66,7 @@ load-spec =
     load-requires
     enum-known-answer
     enum-told
-    loaded-number-requires
+    number-requires
     refuse-requires-2
     returns-2
     returns-3)
