@@ -28,14 +28,14 @@ enum shearcotter_limit {
 /* KiB of stack that a call takes, its argument and reply in the caller included: as measured at (13, 8192, 128), rounded up; the
  * calls of the field and shape_at take less than one. */
 enum shearcotter_stack_kib {
-    SHEARCOTTER_STACK_FRESH = 57,
-    SHEARCOTTER_STACK_LOAD = 140,
-    SHEARCOTTER_STACK_PUBLISH = 171,
-    SHEARCOTTER_STACK_LOCK = 8,
-    SHEARCOTTER_STACK_OPEN = 192,
-    SHEARCOTTER_STACK_READ = 192,
-    SHEARCOTTER_STACK_DROP = 70,
-    SHEARCOTTER_STACK_REGISTER = 41
+    SHEARCOTTER_STACK_FRESH = 36,
+    SHEARCOTTER_STACK_LOAD = 118,
+    SHEARCOTTER_STACK_PUBLISH = 150,
+    SHEARCOTTER_STACK_LOCK = 4,
+    SHEARCOTTER_STACK_OPEN = 172,
+    SHEARCOTTER_STACK_READ = 172,
+    SHEARCOTTER_STACK_DROP = 49,
+    SHEARCOTTER_STACK_REGISTER = 4
 };
 
 /* Byte lengths for the shape (m, n, t), with m*t < n. */

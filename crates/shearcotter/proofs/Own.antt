@@ -2,9 +2,10 @@
 use Prim.Native.Nat.{ℕ, zero, suc}
 use mathlib.Core.Path.{_≡_, refl, sym, ap, _∙_}
 use mathlib.Core.List.{List}
+use native.Mathlib.Omega.{arith}
 use Rattle.key.specs.declared.kept.Key.{Key}
-use Rattle.ledger.specs.Calls.{Call, publish, step}
-use Rattle.station.specs.Replies.{view, refusal, acceptance, moved, replyOf, handed}
+use Rattle.ledger.specs.Calls.{Call, load, publish, step}
+use Rattle.station.specs.Replies.{byteOf, view, refusal, acceptance, moved, replyOf, handed}
 use Rattle.station.specs.declared.Station.{Station}
 use Rattle.station.specs.declared.Reply.{Reply}
 use Rattle.station.proofs.StepView.{refused-reply}
@@ -30,6 +31,20 @@ module _ (s : Station) (c : Call) (r : Reply) (e : r ≡ handed s c .reply) wher
       go : (n : ℕ) → replyOf n s (moved s c) (step (view s) c .count) .station ≡ s
       go zero = m
       go (suc n) = refl
+
+-- an accepted load leaves a station that is not empty
+full : (s : Station) (file : List ℕ) (n w : ℕ) → replyOf n s (moved s (load file)) w .refused ≡ 0 → replyOf n s (moved s (load file)) w .station .state ≡ 0 → ⊥
+unfolding replyOf acceptance refusal moved byteOf
+full s file zero w z h = omega arith
+full s file (suc n) w z h = omega arith
+
+module _ (s : Station) (file : List ℕ) (r : Reply) (e : r ≡ handed s (load file) .reply) where
+  pub own-empty : r .station .state ≡ 0 → refusal s (r .refused) ≡ handed s (load file) .reply
+  unfolding handed
+  own-empty h =
+      own-refused s (load file) r e (λ z.
+      full s file (step (view s) (load file) .number) (step (view s) (load file) .count)
+      (ap (λ (q : Reply). q .refused) (sym e) ∙ z) (ap (λ (q : Reply). q .station .state) (sym e) ∙ h))
 
 -- publish leaves the key
 module _ (s : Station) (out work : List ℕ) (r : Reply) (e : r ≡ handed s (publish out work) .reply) where
