@@ -11,16 +11,6 @@ unfolding numberOf verdictOf
 number-verdict zero = refl
 number-verdict (suc q) = refl
 
--- a refusal has a number that is not 0
-pub refused-verdict : (x : ℕ) → (x ≡ 0 → ⊥) → Refused x ≡ verdictOf x
-unfolding verdictOf
-refused-verdict zero h = absurd (h refl)
-refused-verdict (suc x) h = refl
-
-pub accepted-verdict : Accepted ≡ verdictOf 0
-unfolding verdictOf
-accepted-verdict = refl
-
 -- a check's answer, by the number q of its first condition that holds
 pub refuses : {x q : ℕ} → suc x ≡ q → Refused (suc x) ≡ verdictOf q
 unfolding verdictOf
