@@ -17,7 +17,7 @@
 //! # Ok::<(), shearcotter::Refusal>(())
 //! ```
 //!
-//! A call needs up to 210 KiB of stack, since the station passes by value. Each call touches [`raw::STACK`] bytes of
+//! A call takes up to 172 KiB of stack, since the station passes by value. Each call touches [`raw::STACK`] bytes of
 //! stack first, so that a thread with less ends at its guard page and nowhere else.
 
 #![deny(missing_docs)]

@@ -11,7 +11,7 @@ pub const MOST_ERRORS: usize = 128;
 pub const LONGEST: usize = 256;
 /// Coefficients of a register's connection polynomial.
 pub const COEFFICIENTS: usize = LONGEST + 1;
-/// Bytes of stack that each safe call makes sure of; the calls need at most 210 KiB, the station's argument counted.
+/// Bytes of stack that each safe call makes sure of; the calls take at most 172 KiB, the station's argument and reply counted.
 pub const STACK: usize = 256 * 1024;
 
 /// `state` of an empty station.

@@ -44,7 +44,8 @@ impl Station {
     }
 
     /// Writes T from the start of `out`: refused with the first that applies of 21, 10, 11, 23. What the
-    /// workspace holds afterwards is free where it was long enough, else unchanged.
+    /// first [`Shape::workspace_length`] bytes of the workspace hold afterwards is free once 21, 10 and 11
+    /// are passed; every other byte of it stays.
     pub fn publish_into(&mut self, out: &mut [u8], workspace: &mut [u8]) -> Result<(), Refusal> {
         calls::publish(&mut self.raw, out, workspace)
     }
