@@ -1,5 +1,5 @@
 -- The check of the places found, and the kept key. Assumes nothing.
-use mathlib.Core.Path.{_≡_, refl, sym, ap, _∙_}
+use mathlib.Core.Path.{_≡_, refl, sym, ap, ap₂, _∙_}
 use mathlib.Core.Bool.{true, false, true≢false}
 use mathlib.Core.List.{List, []}
 use mathlib.Core.Option.{none}
@@ -73,11 +73,11 @@ module _ (m : ℕ) (support g : List ℕ) (wide : Width m) (few : length g ≤ 1
             true≢false (sym (eq-same own s (own-sums ∙ ap (padded 256) e ∙ sym es)) ∙ h))))
 
         -- the word's
-        pub found-pattern : same own s ≡ true
-            → _≡_ {A = Found} record { found = true; pattern = pattern } (foundOf (explained (keyOf m support g) (unpack (length support) word)))
+        pub found-pattern : same own s ≡ true → (w : ℕ) → w ≡ weight (length support) pattern
+            → _≡_ {A = Found} record { found = true; ones = w; pattern = pattern } (foundOf (explained (keyOf m support g) (unpack (length support) word)))
         unfolding keyOf foundOf
-        found-pattern h =
-            ap (λ (p : List ℕ). record { found = true; pattern = p }) pattern-located
+        found-pattern h w ew =
+            ap₂ (λ (i : ℕ) (p : List ℕ). record { found = true; ones = i; pattern = p }) (ew ∙ pattern-weight) pattern-located
             ∙ ap foundOf (sym (explained-some (keyOf m support g) c (omega (arith, pattern-weight, least))
             (sym (take-padded 256 _ (2 * length g) (length-squareSums (keyOf m support g) (located (keyOf m support g) c)))
             ∙ ap (take (2 * length g)) (sym own-sums ∙ same-eq own s h)

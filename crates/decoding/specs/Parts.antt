@@ -5,7 +5,7 @@ use mathlib.Core.Option.{Option, none, some}
 use Prim.Native.Nat.{ℕ, _*_}
 use lib.Dec.{eqb, leb}
 use lib.ListN.{length, replicate}
-use Rattle.bits.specs.Bits.{from, pack, padded}
+use Rattle.bits.specs.Bits.{from, pack, ones, padded}
 use Rattle.field.specs.Field.{isWidth}
 use Rattle.poly.specs.Polynomials.{sum}
 use Rattle.key.specs.Keys.{Key, keyOf}
@@ -28,7 +28,7 @@ mark v = cond (eqb v 0) 1 0
 unfoldable pub packed : List ℕ → List ℕ
 packed e = padded 1024 (pack e)
 
--- the pattern packed, or zeros where there is none
+-- the pattern packed and its number of ones, or zeros where there is none
 unfoldable pub foundOf : Option (List ℕ) → Found
-foundOf none = record { found = false; pattern = replicate 1024 0 }
-foundOf (some e) = record { found = true; pattern = packed e }
+foundOf none = record { found = false; ones = 0; pattern = replicate 1024 0 }
+foundOf (some e) = record { found = true; ones = ones e; pattern = packed e }

@@ -15,9 +15,10 @@ ghost use Rattle.key.specs.Kept.{kept, parts};
 ghost use Rattle.decoder.specs.Decoding.{explained};
 ghost use Rattle.decoding.specs.Parts.{decoded, foundOf};
 
-// A packed pattern of n bits with zeros behind it; zeros only where none is found.
+// A packed pattern of n bits with zeros behind it, and its number of ones; zeros only where none is found.
 pub struct Found {
     pub found: bool,
+    pub ones: u16,
     pub pattern: [u8; 1024],
 }
 
@@ -27,6 +28,7 @@ fn nothing() -> Found
 {
     Found {
         found: false,
+        ones: 0,
         pattern: [0u8; 1024],
     }
 }
@@ -39,7 +41,8 @@ fn explain(m: u8, support: &[u16], g: &[u16], word: &[u8]) -> Found
     let s = word_sums(m, support, g, word);
     let k = 2 * g.len();
     let pattern = located(m, support, &s[..k]);
-    if g.len() < bits::weight(&pattern, support.len()) {
+    let ones = bits::weight(&pattern, support.len());
+    if g.len() < ones {
         return nothing();
     }
     let own = word_sums(m, support, g, &pattern);
@@ -48,6 +51,7 @@ fn explain(m: u8, support: &[u16], g: &[u16], word: &[u8]) -> Found
     }
     Found {
         found: true,
+        ones: ones as u16,
         pattern,
     }
 }

@@ -7,7 +7,7 @@ use Prim.Native.Nat.{ℕ, zero, suc, _+_, _-_, _*_, _≤_}
 use native.Mathlib.Omega.{arith}
 use borrow.Author.Tests.{eq-eqb, ne-eqb}
 use lib.ListN.{length, replicate}
-use Rattle.bits.specs.Bits.{Row, from, bytesFor, bitAt, unpack, pack, ones, weight, wellFormed, over, rowWritten}
+use Rattle.bits.specs.Bits.{Row, from, bytesFor, bitAt, unpack, pack, ones, wellFormed, over, rowWritten}
 use Rattle.bits.proofs.Lists.{map-from}
 use Rattle.bits.proofs.PutBits.{written-row}
 use Rattle.bits.proofs.Pack.{length-unpack, unpack-add, well-formed-past}
@@ -22,7 +22,7 @@ use Rattle.decoder.specs.Calls.{found, isNone, patternOutput, openNumber, readN
 use Rattle.decoder.proofs.Sanity.{reading-sound}
 use Rattle.decoding.specs.Parts.{packed, decoded, foundOf}
 use Rattle.decoding.specs.declared.decoding.Found.{Found}
-use Rattle.decoding.proofs.Packed.{unpack-packed, weight-packed}
+use Rattle.decoding.proofs.Packed.{unpack-packed}
 use Rattle.decoding.proofs.Explained.{decoded-reading}
 use Rattle.reading.specs.Answers.{answerOf, readOf, openOf, readChecks, openChecks, countedOf}
 use Rattle.reading.specs.declared.calls.Answer.{Answer}
@@ -52,17 +52,17 @@ pub record Counted (n w : ℕ) (o : Option (List ℕ)) (f : Found) : Type 0 wher
   pub bits : unpack n (f .pattern) ≡ e
 
 module _ (n : ℕ) where
-  pub counted-none : (o : Option (List ℕ)) {x : ℕ} → countedOf (foundOf o) n ≡ Refused x → o ≡ none
+  pub counted-none : (o : Option (List ℕ)) {x : ℕ} → countedOf (foundOf o) ≡ Refused x → o ≡ none
   unfolding countedOf foundOf
   counted-none none h = refl
   counted-none (some e) h = let z : _≡_ {A = ℕ} 0 1 = cc in absurd (omega arith)
 
-  pub counted-some : (o : Option (List ℕ)) {w : ℕ} → ((e : List ℕ) → o ≡ some e → Row n e) → countedOf (foundOf o) n ≡ Ones w → Counted n w o (foundOf o)
+  pub counted-some : (o : Option (List ℕ)) {w : ℕ} → ((e : List ℕ) → o ≡ some e → Row n e) → countedOf (foundOf o) ≡ Ones w → Counted n w o (foundOf o)
   unfolding countedOf foundOf
   counted-some none r h = let z : _≡_ {A = ℕ} 0 1 = cc in absurd (omega arith)
   counted-some (some e) {w} r h =
-      let c : weight n (packed e) ≡ w = cc in
-      record { e = e; is = refl; count = sym c ∙ weight-packed (r e refl); bits = unpack-packed (r e refl) }
+      let c : ones e ≡ w = cc in
+      record { e = e; is = refl; count = sym c; bits = unpack-packed (r e refl) }
 
 -- its bits written as a row
 give-row : {n w : ℕ} {o : Option (List ℕ)} {f : Found} (out : List ℕ) (c : Counted n w o f) → bytesFor n ≤ length out
@@ -71,19 +71,19 @@ unfolding unpack
 give-row {n} {f} out c h = written-row (f .pattern) 0 n out h ∙ ap (λ (e : List ℕ). over (pack e) out) (c .bits)
 
 -- what is found in a word at a kept key
-module _ (k : Key) (word : List ℕ) (z : keyNumber (kept k) ≡ 0) (f : Found) (ed : f ≡ foundOf (decoded (kept k) (unpack (k .n) word))) (r : Answer) (er : r ≡ countedOf f (k .n)) where
+module _ (k : Key) (word : List ℕ) (z : keyNumber (kept k) ≡ 0) (f : Found) (ed : f ≡ foundOf (decoded (kept k) (unpack (k .n) word))) (r : Answer) (er : r ≡ countedOf f) where
   ef : f ≡ foundOf (reading (kept k) (unpack (k .n) word))
   ef = ed ∙ ap foundOf (decoded-reading k word z)
 
-  counted : countedOf (foundOf (reading (kept k) (unpack (k .n) word))) (k .n) ≡ r
-  counted = sym (er ∙ ap (λ (x : Found). countedOf x (k .n)) ef)
+  counted : countedOf (foundOf (reading (kept k) (unpack (k .n) word))) ≡ r
+  counted = sym (er ∙ ap countedOf ef)
 
   pub reading-none : {x : ℕ} → r ≡ Refused x → reading (kept k) (unpack (k .n) word) ≡ none
   reading-none h = counted-none (k .n) _ (counted ∙ h)
 
   pub refused-none : reading (kept k) (unpack (k .n) word) ≡ none → r ≡ Refused 14
   unfolding countedOf foundOf
-  refused-none h = sym counted ∙ ap (λ (o : Option (List ℕ)). countedOf (foundOf o) (k .n)) h
+  refused-none h = sym counted ∙ ap (λ (o : Option (List ℕ)). countedOf (foundOf o)) h
 
   pub reading-some : {w : ℕ} → r ≡ Ones w → Counted (k .n) w (reading (kept k) (unpack (k .n) word)) f
   unfolding kept

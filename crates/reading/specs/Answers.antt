@@ -4,7 +4,7 @@ use mathlib.Core.List.{List, [], _∷_}
 use Prim.Native.Nat.{ℕ, zero, suc}
 use lib.Dec.{eqb, ltb}
 use lib.ListN.{length}
-use Rattle.bits.specs.Bits.{bytesFor, unpack, ones, weight, fillerClear}
+use Rattle.bits.specs.Bits.{bytesFor, unpack, ones, fillerClear}
 use Rattle.key.specs.Keys.{Key, unsound}
 use Rattle.code.specs.Publish.{capsuleBits}
 use Rattle.decoder.specs.Reading.{reading, opening}
@@ -38,6 +38,6 @@ readChecks k word len = (unsound k, 25) ∷ bufferChecks (k .n) (k .n) word len
 unfoldable pub openChecks : Bool → Key → List ℕ → ℕ → List (Bool × ℕ)
 openChecks unpublished k capsule len = (unsound k, 25) ∷ (unpublished, 24) ∷ bufferChecks (capsuleBits k) (k .n) capsule len
 
--- the ones among the first n bits of a pattern that is found, else 14
-unfoldable pub countedOf : Found → ℕ → Answer
-countedOf e n = cond (e .found) (variants.Ones (weight n (e .pattern))) (variants.Refused 14)
+-- the ones of a pattern that is found, else 14
+unfoldable pub countedOf : Found → Answer
+countedOf e = cond (e .found) (variants.Ones (e .ones)) (variants.Refused 14)

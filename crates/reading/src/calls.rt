@@ -78,14 +78,13 @@ fn check_capsule<'a>(
 }
 
 // The number of ones of the pattern found, or 14 where there is none.
-fn counted(e: Found, n: u16) -> Answer
-    ensures { λ r. ⌜ r ≡ countedOf e n ⌝ }
+fn counted(e: Found) -> Answer
+    ensures { λ r. ⌜ r ≡ countedOf e ⌝ }
 {
     if !e.found {
         return Answer::Refused(14);
     }
-    let p = e.pattern;
-    Answer::Ones(bits::weight(&p, n as usize) as u16)
+    Answer::Ones(e.ones)
 }
 
 // The pattern's n bits from the output's start; nothing where it has no room.
@@ -114,7 +113,7 @@ pub fn read<'a>(
         return Answer::Refused(field::number(x));
     };
     let e = decode(m, n, t, support, g, word);
-    let answer = counted(e, n);
+    let answer = counted(e);
     let Answer::Ones(w) = answer else {
         return answer;
     };
@@ -141,7 +140,7 @@ pub fn open<'a>(
         return Answer::Refused(field::number(x));
     };
     let e = decode(m, n, t, support, g, capsule);
-    let answer = counted(e, n);
+    let answer = counted(e);
     let Answer::Ones(ones) = answer else {
         return Answer::Refused(13);
     };

@@ -93,6 +93,9 @@ returns-2 c =
     ∙ found-other (a .m) (a .support .now) (a .g .now) (b .pre .0) (b .pre .2) (a .word .now) _ (s .word-sums .ensures) _ (p .located .ensures)
     (rw (sym (w .before .weight .ensures)) (w .if1 .left)) _ (o .word-sums2 .ensures) (failed (c .before .before .same .ensures) (c .before .if2 .taken))
 
+cast-t25 : tie.Need-cast-t25
+cast-t25 c = let b = c .before .before .before .before .before .before .before .before .before .before .before .before .before .before .before in omega (arith, b .pre .2)
+
 returns-3 : tie.Need-returns-3
 returns-3 c =
     let o = c .before .before .before .before in
@@ -103,6 +106,7 @@ returns-3 c =
     let a = b .args in
     found-pattern (a .m) (a .support .now) (a .g .now) (b .pre .0) (b .pre .2) (a .word .now) _ (s .word-sums .ensures) _ (p .located .ensures)
     (rw (sym (w .before .weight .ensures)) (w .if1 .left)) _ (o .word-sums2 .ensures) (passed (c .before .same .ensures) (c .if2 .left))
+    _ (w .before .weight .ensures)
 
 pub explain-spec : {M : Type 1} → statement M
 explain-spec =
@@ -124,4 +128,5 @@ explain-spec =
     same-requires
     nothing-requires-2
     returns-2
+    cast-t25
     returns-3)
