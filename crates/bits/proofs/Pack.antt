@@ -3,7 +3,7 @@ use mathlib.Core.Path.{_≡_, refl, sym, ap, ap₂, _∙_}
 use mathlib.Core.Bool.{true, _&&_}
 use mathlib.Core.List.{List, [], _∷_, _++_, map}
 use Prim.Native.Nat.{ℕ, zero, suc, _+_, _-_, _*_, _/_, _%_, _^_, _≤_, _<_}
-use native.Mathlib.Nat.{zero-add, suc-add, mod-lt, zero-lt-suc, zero-div, zero-mod, pow-suc, min-le-left, le-refl, le-of-suc-le-suc, not-suc-le-zero}
+use native.Mathlib.Nat.{zero-add, suc-add, mod-lt, zero-lt-suc, zero-div, zero-mod, pow-suc, mul-assoc, mul-comm, min-le-left, le-refl, le-of-suc-le-suc, not-suc-le-zero}
 use native.Mathlib.Decide.{ℕ-discrete, decLt}
 use native.Mathlib.Omega.{arith}
 use borrow.Author.Tests.{eqb-true, eq-eqb}
@@ -13,7 +13,7 @@ use lib.ListN.{length, getD, take, drop, set, replicate, length-take, length-set
 use lib.Seq.{take-at, getD-take, getD-drop, getD-set-same, getD-set-other, ext-getD}
 use Rattle.bits.specs.Xor.{_⊕_}
 use Rattle.bits.specs.Bits.{Bytes, Row, end, off, on, from, bytesFor, bitAt, unpack, number, pack, setBit, fillerClear, wellFormed, eachWith, xorRow, over}
-use Rattle.bits.proofs.Xor.{Digit, xor-self}
+use Rattle.bits.proofs.Xor.{Digit, xor-comm, xor-self, xor-shifted}
 use Rattle.bits.proofs.Xor as xor
 use Rattle.bits.proofs.Lists.{and-left, and-right, length-map-from, map-from-at, map-from-past, map-from, map-append, from-add, every-from-at, every-from-all, every-from, take-below, drop-below}
 use Rattle.bits.proofs.Bits.{bit-digit, bit-past, bit-zeros, bit-of-byte, digit-suc, bits-determine, length-setBit, set-bit-same, set-bit-other}
@@ -80,6 +80,14 @@ unpack-ext n s u h = map-from (bitAt s) (bitAt u) 0 0 n (λ i l. rw zero-add (h 
 
 pub unpack-bits : (n : ℕ) (s u : List ℕ) → unpack n s ≡ unpack n u → (i : ℕ) → i < n → bitAt s i ≡ bitAt u i
 unpack-bits n s u e i h = sym (unpack-at n s i 0 h) ∙ ap (λ (l : List ℕ). getD l i 0) e ∙ unpack-at n u i 0 h
+
+-- the bits of the bytes from q on
+pub bit-drop : (q : ℕ) (s : List ℕ) (i : ℕ) → bitAt (drop q s) i ≡ bitAt s (8 * q + i)
+unfolding bitAt
+bit-drop q s i =
+    let e : q + i / 8 ≡ (8 * q + i) / 8 = omega arith in
+    let f : i % 8 ≡ (8 * q + i) % 8 = omega arith in
+    ap₂ (λ (x k : ℕ). x / 2 ^ k % 2) (getD-drop q s (i / 8) 0 ∙ ap (λ (j : ℕ). getD s j 0) e) f
 
 -- the bits of the first k bytes
 pub bit-take : (k : ℕ) (s : List ℕ) (i : ℕ) → i / 8 < k → bitAt (take k s) i ≡ bitAt s i
@@ -148,6 +156,27 @@ number-digit (b ∷ e) (suc k) h =
     digit-suc (b + 2 * number e) k
     ∙ ap (λ (x : ℕ). x / 2 ^ k % 2) (high-digits b (number e) (h 0))
     ∙ number-digit e k (λ k. h (suc k))
+
+-- one digit more
+number-snoc : (e : List ℕ) (b : ℕ) → number (e ++ b ∷ []) ≡ b * 2 ^ length e + number e
+unfolding number
+number-snoc [] b = omega arith
+number-snoc (x ∷ e) b =
+    let p : b * 2 ^ suc (length e) ≡ 2 * (b * 2 ^ length e) = ap (_*_ b) (pow-suc 2 (length e)) ∙ sym (mul-assoc b (2 ^ length e) 2) ∙ mul-comm (b * 2 ^ length e) 2 in
+    let i : number (e ++ b ∷ []) ≡ b * 2 ^ length e + number e = number-snoc e b in
+    omega (arith, p, i)
+
+pub number-more : (f : ℕ → ℕ) → ((i : ℕ) → Digit (f i)) → (k : ℕ) → number (map f (from 0 k)) ⊕ f k * 2 ^ k ≡ number (map f (from 0 (k + 1)))
+unfolding from
+number-more f h k =
+    let e : List ℕ = map f (from 0 k) in
+    let l : length e ≡ k = length-map-from f 0 k in
+    xor-comm (number e) (f k * 2 ^ k)
+    ∙ xor-shifted (f k) k (number e) (number-lt k e (row-lt (row-map f h 0 k)) (omega arith))
+    ∙ ap (λ (n : ℕ). f k * 2 ^ n + number e) (sym l)
+    ∙ sym (number-snoc e (f k))
+    ∙ ap (λ (i : ℕ). number (e ++ f i ∷ [])) (sym (zero-add k))
+    ∙ ap number (sym (ap (map f) (from-add 0 k 1) ∙ map-append f (from 0 k) ((0 + k) ∷ [])))
 
 -- pack
 pub bytes-enough : (n : ℕ) → n ≤ 8 * bytesFor n

@@ -3,20 +3,21 @@ use mathlib.Core.Path.{_≡_, refl, sym, ap, ap₂, _∙_}
 use mathlib.Core.Bool.{true}
 use mathlib.Core.List.{List, [], _∷_, _++_, map}
 use Prim.Native.Nat.{ℕ, zero, suc, _+_, _-_, _*_, _/_, _%_, _^_, _≤_, _<_}
-use native.Mathlib.Nat.{mul-comm, zero-mul, mul-zero, add-mod-mod, div-one, pow-suc, suc-inj, suc-ne-zero}
+use native.Mathlib.Nat.{zero-add, mul-comm, zero-mul, one-mul, mul-zero, add-mod-mod, mod-eq-of-lt, div-one, suc-inj, suc-ne-zero}
 use native.Mathlib.Omega.{arith}
-use lib.Arith.{lt-one, bin-ind}
-use lib.Bits.{bitAnd, and-shr, and-mod}
+use lib.Arith.{bin-ind}
+use lib.Bits.{bitAnd}
+use lib.Pow.{pow-lt, shr-shr}
 use lib.Count.{ones-step}
 use lib.Count as count
-use lib.ListN.{length, getD, replicate}
+use lib.ListN.{length, drop, replicate}
 use Rattle.bits.specs.Xor.{_⊕_}
-use Rattle.bits.specs.Bits.{Row, end, off, on, from, bytesFor, bitAt, unpack, fillerClear, eachWith, xorRow, dot, rowProduct}
-use Rattle.bits.proofs.Xor.{Digit, low, xor-assoc, xor-self, xor-zero, zero-xor, xor-shr, xor-mod, xor-four}
+use Rattle.bits.specs.Bits.{Row, end, off, on, from, bytesFor, bitAt, unpack, number, fillerClear, eachWith, xorRow, dot, rowProduct}
+use Rattle.bits.proofs.Xor.{Digit, low, digit-lt, xor-assoc, xor-self, xor-zero, zero-xor, xor-shr, xor-mod, xor-four}
 use Rattle.bits.proofs.Xor as xor
 use Rattle.bits.proofs.Lists.{map-from}
-use Rattle.bits.proofs.Bits.{bit-past, digits-tail}
-use Rattle.bits.proofs.Pack.{row-unpack, length-unpack, unpack-add, unpack-byte, unpack-xorRow, bytes-enough, clear-at}
+use Rattle.bits.proofs.Bits.{bit-past, bit-digit}
+use Rattle.bits.proofs.Pack.{row-unpack, length-unpack, unpack-add, unpack-xorRow, bit-drop, number-more, bytes-enough, clear-at}
 use Rattle.bits.proofs.Ones.{no-ones}
 
 -- the product of two lists
@@ -154,29 +155,63 @@ digit-and xor.off q = sym (zero-mul _)
 digit-and xor.on xor.off = refl
 digit-and xor.on xor.on = refl
 
-parity-and : (m x y : ℕ) → x < 2 ^ m
-    → dot (map (λ i. x / 2 ^ i % 2) (from 0 m)) (map (λ i. y / 2 ^ i % 2) (from 0 m)) ≡ count.ones (bitAnd x y) % 2
-unfolding dot from
-parity-and zero x y h = sym (ap (λ (k : ℕ). count.ones (bitAnd k y) % 2) (lt-one h) ∙ ap (_% 2) no-ones)
-parity-and (suc m) x y h =
-    ap₂ _⊕_
-    (ap₂ (λ (a b : ℕ). a % 2 * (b % 2)) (div-one x) (div-one y) ∙ sym (and-mod x y 1 ∙ digit-and (low x) (low y)))
-    (ap₂ dot (digits-tail x m) (digits-tail y m)
-    ∙ parity-and m (x / 2) (y / 2) (omega (arith, pow-suc 2 m))
-    ∙ ap (λ (k : ℕ). count.ones k % 2) (sym (and-shr x y 1)))
-    ∙ sym (parity-step (bitAnd x y))
+-- the sum of a byte's bits, bit after bit
+pub parity-start : (d : ℕ) → 0 ⊕ count.ones (d / 2 ^ 0) % 2 ≡ count.ones d % 2
+parity-start d = zero-xor (count.ones (d / 1) % 2) ∙ ap (λ (x : ℕ). count.ones x % 2) (div-one d)
 
--- one byte more of a product
-pub row-product-byte : (row pat : List ℕ) (acc i : ℕ) → getD row i 0 < 256
-    → count.ones acc % 2 ≡ dot (unpack (8 * i) row) (unpack (8 * i) pat)
-    → count.ones (acc ⊕ bitAnd (getD row i 0) (getD pat i 0)) % 2 ≡ dot (unpack (8 * (i + 1)) row) (unpack (8 * (i + 1)) pat)
-row-product-byte row pat acc i h e =
-    let x : ℕ = getD row i 0 in
-    let y : ℕ = getD pat i 0 in
-    let f : 8 * (i + 1) ≡ 8 * i + 8 = omega arith in
-    parity-xor acc (bitAnd x y)
-    ∙ ap₂ _⊕_ e (sym (ap₂ dot (unpack-byte row i) (unpack-byte pat i) ∙ parity-and 8 x y h))
+pub parity-next : (s d k : ℕ) → s ⊕ d / 2 ^ k % 2 ⊕ count.ones (d / 2 ^ (k + 1)) % 2 ≡ s ⊕ count.ones (d / 2 ^ k) % 2
+parity-next s d k =
+    xor-assoc s (d / 2 ^ k % 2) (count.ones (d / 2 ^ (k + 1)) % 2)
+    ∙ ap (_⊕_ s)
+    (ap (λ (x : ℕ). d / 2 ^ k % 2 ⊕ count.ones x % 2) (sym (shr-shr d k 1)) ∙ sym (parity-step (d / 2 ^ k)))
+
+pub parity-end : (s d : ℕ) → d < 256 → s ⊕ count.ones (d / 2 ^ 8) % 2 ≡ s
+parity-end s d h =
+    let e : d / 256 ≡ 0 = omega arith in
+    ap (λ (x : ℕ). s ⊕ count.ones x % 2) e ∙ ap (λ (x : ℕ). s ⊕ x % 2) no-ones ∙ xor-zero s
+
+digit-product : {x y : ℕ} → Digit x → Digit y → Digit (x * y)
+digit-product xor.off q = rw zero-mul xor.off
+digit-product xor.on q = rw one-mul q
+
+digit-below : {x : ℕ} → Digit x → x < 2
+digit-below xor.off = omega arith
+digit-below xor.on = omega arith
+
+shifted : {x y : ℕ} (k : ℕ) → Digit x → Digit y → k < 8 → (bitAnd x y * 2 ^ k) % 2 ^ 8 ≡ x * y * 2 ^ k
+shifted k p q h = ap (λ (z : ℕ). (z * 2 ^ k) % 2 ^ 8) (digit-and p q) ∙ mod-eq-of-lt (digit-lt (digit-product p q) (pow-lt h))
+
+-- the products of bits as the digits of a number: one more, and their sum
+module _ (a b : ℕ → ℕ) (ha : (i : ℕ) → Digit (a i)) (hb : (i : ℕ) → Digit (b i)) where
+  pub products-next : (k : ℕ) → k < 8
+      → number (map (λ i. a i * b i) (from 0 k)) ⊕ (bitAnd (a k) (b k) * 2 ^ k) % 2 ^ 8 ≡ number (map (λ i. a i * b i) (from 0 (k + 1)))
+  products-next k h =
+      ap (_⊕_ (number (map (λ i. a i * b i) (from 0 k)))) (shifted k (ha k) (hb k) h)
+      ∙ number-more (λ i. a i * b i) (λ i. digit-product (ha i) (hb i)) k
+
+  pub parity-products : (l : List ℕ) → count.ones (number (map (λ i. a i * b i) l)) % 2 ≡ dot (map a l) (map b l)
+  unfolding number dot
+  parity-products [] = ap (_% 2) no-ones
+  parity-products (i ∷ l) =
+      let n : ℕ = number (map (λ i. a i * b i) l) in
+      let d : a i * b i < 2 = digit-below (digit-product (ha i) (hb i)) in
+      let e : (a i * b i + 2 * n) % 2 ≡ a i * b i = omega arith in
+      let f : (a i * b i + 2 * n) / 2 ≡ n = omega arith in
+      parity-step (a i * b i + 2 * n) ∙ ap₂ (λ (x y : ℕ). x ⊕ count.ones y % 2) e f ∙ ap (_⊕_ (a i * b i)) (parity-products l)
+
+-- eight bits more of a product
+pub row-product-byte : (row pat : List ℕ) (d q : ℕ) → count.ones d % 2 ≡ dot (unpack (8 * q) row) (unpack (8 * q) pat)
+    → count.ones (d ⊕ number (map (λ k. bitAt (drop q row) k * bitAt (drop q pat) k) (from 0 8))) % 2
+    ≡ dot (unpack (8 * (q + 1)) row) (unpack (8 * (q + 1)) pat)
+row-product-byte row pat d q e =
+    let f : 8 * (q + 1) ≡ 8 * q + 8 = omega arith in
+    parity-xor d (number (map (λ k. bitAt (drop q row) k * bitAt (drop q pat) k) (from 0 8)))
+    ∙ ap₂ _⊕_ e
+    (parity-products (bitAt (drop q row)) (bitAt (drop q pat)) (bit-digit (drop q row)) (bit-digit (drop q pat)) (from 0 8) ∙ ap₂ dot (moved row) (moved pat))
     ∙ sym (ap (λ (k : ℕ). dot (unpack k row) (unpack k pat)) f
-    ∙ ap₂ dot (unpack-add (8 * i) 8 row) (unpack-add (8 * i) 8 pat)
-    ∙ dot-append (unpack (8 * i) row) (unpack (8 * i) pat) (map (bitAt row) (from (8 * i) 8)) (map (bitAt pat) (from (8 * i) 8))
-    (length-unpack (8 * i) row ∙ sym (length-unpack (8 * i) pat)))
+    ∙ ap₂ dot (unpack-add (8 * q) 8 row) (unpack-add (8 * q) 8 pat)
+    ∙ dot-append (unpack (8 * q) row) (unpack (8 * q) pat) (map (bitAt row) (from (8 * q) 8)) (map (bitAt pat) (from (8 * q) 8))
+    (length-unpack (8 * q) row ∙ sym (length-unpack (8 * q) pat)))
+  where
+    moved : (s : List ℕ) → map (bitAt (drop q s)) (from 0 8) ≡ map (bitAt s) (from (8 * q) 8)
+    moved s = map-from (bitAt (drop q s)) (bitAt s) 0 (8 * q) 8 (λ i l. bit-drop q s (0 + i) ∙ ap (λ (k : ℕ). bitAt s (8 * q + k)) (zero-add i))

@@ -1,10 +1,10 @@
 // Packed rows added, multiplied and written.
 ghost use mathlib.Core.Path.{_≡_};
 ghost use mathlib.Core.List.{map};
-ghost use Prim.Native.Nat.{_+_, _%_, _^_, _≤_, _<_};
+ghost use Prim.Native.Nat.{_+_, _*_, _%_, _^_, _≤_, _<_};
 ghost use lib.Count.{ones};
 ghost use lib.ListN.{length, replicate};
-ghost use Rattle.bits.specs.Bits.{from, bitAt, putBits, over, rowWritten, xorRow, rowProduct};
+ghost use Rattle.bits.specs.Bits.{from, bitAt, number, putBits, over, rowWritten, xorRow, rowProduct};
 
 // The bytes of src added to those of dst, as far as both go.
 pub fn xor_row(dst: &mut [u8], src: &[u8])
@@ -18,18 +18,45 @@ pub fn xor_row(dst: &mut [u8], src: &[u8])
     }
 }
 
-// The parity of the and of the row and the pattern, over the pattern's bytes.
+// The sum of the products of the bits of the row and the pattern, over the pattern's bytes. Bit k of `sums` is the sum for the
+// places k, k + 8, k + 16 and so on.
 pub fn row_product(row: &[u8], pat: &[u8]) -> u8
     ensures { λ r. ⌜ r ≡ rowProduct (now (row .entry)) (now (pat .entry)) ⌝ }
 {
     let n = bits::smaller(row.len(), pat.len());
-    let mut acc: u8 = 0;
-    let mut i = 0;
-    while i < n {
-        acc ^= row[i] & pat[i];
-        i += 1;
+    let mut sums: u8 = 0;
+    let mut q = 0;
+    while q < n {
+        sums ^= products(&row[q..], &pat[q..]);
+        q += 1;
     }
-    parity(acc)
+    parity(sums)
+}
+
+// The products of the first eight bits of two rows, that of the bits k as bit k.
+fn products(row: &[u8], pat: &[u8]) -> u8
+    ensures { λ r. ⌜ r ≡ number (map (λ k. bitAt (now (row .entry)) k * bitAt (now (pat .entry)) k) (from 0 8)) ⌝ }
+{
+    let mut d: u8 = 0;
+    let mut k = 0;
+    while k < 8 {
+        d ^= (bits::bit_at(row, k) & bits::bit_at(pat, k)) << k;
+        k += 1;
+    }
+    d
+}
+
+// The sum of the eight bits of d.
+fn parity(d: u8) -> u8
+    ensures { λ r. ⌜ r ≡ ones d % 2 ⌝ }
+{
+    let mut s: u8 = 0;
+    let mut k: usize = 0;
+    while k < 8 {
+        s ^= (d >> k) & 1;
+        k += 1;
+    }
+    s
 }
 
 // The w bits of s from bit b on become a packed row at the start of out, with zero filler; nothing where it has no room.
@@ -66,11 +93,4 @@ fn copy_bits(out: &mut [u8], s: &[u8], b: usize, w: usize)
         bits::set_bit(out, j, bits::bit_at(s, b + j));
         j += 1;
     }
-}
-
-// The number of ones, modulo 2.
-fn parity(x: u8) -> u8
-    ensures { λ r. ⌜ r ≡ ones x % 2 ⌝ }
-{
-    (u32::count_ones(x as u32) & 1) as u8
 }

@@ -1,51 +1,72 @@
--- The loop's invariant: the parity of acc is the product of the first i bytes. Assumes nothing.
-use mathlib.Core.Path.{_≡_, sym, ap, _∙_}
-use Prim.Native.Nat.{_-_, _*_, _%_, _≤_}
+-- The loop's invariant: the sum of the bits of `sums` is the product of the first q bytes. Assumes nothing.
+use mathlib.Core.Path.{_≡_, sym, ap, ap₂, _∙_}
+use mathlib.Core.List.{List, map}
+use Prim.Native.Nat.{ℕ, _-_, _*_, _%_, _≤_}
 use native.Mathlib.Omega.{arith}
 use borrow.Author.Needs.{needs}
-use lib.Count as count
+use lib.Count.{ones}
 use Rattle.bits.specs.Xor.{_⊕_}
-use Rattle.bits.specs.Bits.{unpack, dot, from}
-use Rattle.bits.proofs.Product.{row-product-byte, row-product-short}
+use Rattle.bits.specs.Bits.{from, bitAt, number, unpack, dot}
 use Rattle.bits.proofs.Ones.{no-ones}
+use Rattle.bits.proofs.Parts.{part-all}
+use Rattle.bits.proofs.Product.{row-product-byte, row-product-short}
 use Rattle.packed.proofs.row_product.Statement.{statement}
 use Rattle.packed.proofs.row_product.Tie as tie
 
 abbrev Inv-loop : tie.InvT-loop
-Inv-loop row pat n acc₀ i₀ acc i = (i ≤ n) × (count.ones acc % 2 ≡ dot (unpack (8 * i) row) (unpack (8 * i) pat))
+Inv-loop row pat n sums₀ q₀ sums q = (q ≤ n) × (ones sums % 2 ≡ dot (unpack (8 * q) row) (unpack (8 * q) pat))
 
 abbrev μ-loop : tie.MeasureT-loop
-μ-loop row pat n acc₀ i₀ acc i = n - i
+μ-loop row pat n sums₀ q₀ sums q = n - q
 
 smaller-requires : tie.Need-smaller-requires Inv-loop μ-loop
-smaller-requires c κs = search needs
+smaller-requires c κs = tt
 
 loop-holds : tie.Need-loop-holds Inv-loop μ-loop
 unfolding unpack dot from
 loop-holds c = (omega arith, ap (_% 2) no-ones)
 
-shared-slice-read-acc : tie.Need-shared-slice-read-acc Inv-loop μ-loop
-shared-slice-read-acc c = search needs
+sub-products : tie.Need-sub-products Inv-loop μ-loop
+sub-products c = search needs
 
-shared-slice-read-acc-2 : tie.Need-shared-slice-read-acc-2 Inv-loop μ-loop
-shared-slice-read-acc-2 c = search needs
+part-products-start : tie.Need-part-products-start Inv-loop μ-loop
+part-products-start c = search needs
 
-add-i : tie.Need-add-i Inv-loop μ-loop
-add-i c = search needs
+part-products-end : tie.Need-part-products-end Inv-loop μ-loop
+part-products-end c = search needs
+
+sub-products-2 : tie.Need-sub-products-2 Inv-loop μ-loop
+sub-products-2 c = search needs
+
+part-products-start-2 : tie.Need-part-products-start-2 Inv-loop μ-loop
+part-products-start-2 c = search needs
+
+part-products-end-2 : tie.Need-part-products-end-2 Inv-loop μ-loop
+part-products-end-2 c = search needs
+
+products-requires : tie.Need-products-requires Inv-loop μ-loop
+products-requires c κs = tt
+
+add-q : tie.Need-add-q Inv-loop μ-loop
+add-q c = omega arith
 
 loop-less : tie.Need-loop-less Inv-loop μ-loop
-loop-less c = search needs
+loop-less c = omega arith
 
 loop-again : tie.Need-loop-again Inv-loop μ-loop
 unfolding _⊕_
 loop-again c =
-    let l = c .before .before .before .loop in
-    let a = c .before .before .before .before .before .before .before .args in
-    let fits = c .before .shared-slice-known3 .given (l .i) .fits in
-    (omega arith, row-product-byte (a .row .now) (a .pat .now) (l .acc) (l .i) fits (l .inv .1))
+    let l = c .before .before .before .before .loop in
+    let a = c .before .before .before .before .before .before .before .before .args in (
+      omega arith,
+      ap (λ (x : ℕ). ones (l .sums ⊕ x) % 2)
+          (c .products .ensures
+          ∙ ap₂ (λ (r p : List ℕ). number (map (λ k. bitAt r k * bitAt p k) (from 0 8))) (part-all (l .q) (a .row .now)) (part-all (l .q) (a .pat .now)))
+          ∙ row-product-byte (a .row .now) (a .pat .now) (l .sums) (l .q) (l .inv .1),
+    )
 
 parity-requires : tie.Need-parity-requires Inv-loop μ-loop
-parity-requires c κs = search needs
+parity-requires c κs = tt
 
 returns : tie.Need-returns Inv-loop μ-loop
 returns c =
@@ -53,7 +74,7 @@ returns c =
     let a = c .before .before .before .before .before .before .args in
     c .parity .ensures
     ∙ l .inv .1
-    ∙ sym (row-product-short (l .i) (a .row .now) (a .pat .now) (omega arith) (λ h. omega arith))
+    ∙ sym (row-product-short (l .q) (a .row .now) (a .pat .now) (omega arith) (λ h. omega arith))
 
 pub row-product-spec : {M : Type 1} → statement M
 row-product-spec =
@@ -63,9 +84,14 @@ row-product-spec =
     μ-loop
     smaller-requires
     loop-holds
-    shared-slice-read-acc
-    shared-slice-read-acc-2
-    add-i
+    sub-products
+    part-products-start
+    part-products-end
+    sub-products-2
+    part-products-start-2
+    part-products-end-2
+    products-requires
+    add-q
     loop-less
     loop-again
     parity-requires
