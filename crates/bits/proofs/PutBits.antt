@@ -11,7 +11,7 @@ use lib.ListN.{length, getD, drop, set, replicate, length-replicate, drop-of-len
 use lib.Seq.{drop-cons, ext-getD, set-append-left}
 use Rattle.bits.specs.Bits.{Bytes, Row, bytesFor, bitAt, withBit, setBit, putBits, unpack, pack, over, from, rowWritten}
 use Rattle.bits.proofs.Bits.{bit-zeros, bytes-zeros, bits-determine, length-setBit, bytes-setBit, set-bit-same, set-bit-other}
-use Rattle.bits.proofs.Pack.{row-lt, row-length, length-unpack, unpack-at, bytes-enough, length-pack, bytes-pack, bit-pack}
+use Rattle.bits.proofs.Pack.{row-lt, row-length, length-unpack, unpack-at, unpack-ext, bytes-enough, length-pack, bytes-pack, bit-pack, pack-unpack, well-formed-zeros}
 
 -- as a loop over a list of bits writes them: one more, and none left
 pub put-next : (l : List ℕ) (j : ℕ) (s : List ℕ) → j < length l
@@ -107,16 +107,6 @@ put-over {n} {bs} out r =
     put-append bs 0 zeros (drop (length zeros) out) (omega (arith, bytes-enough n))
     ∙ ap₂ (λ (x : List ℕ) (k : ℕ). x ++ drop k out) (put-zeros r) (e ∙ sym (length-pack bs ∙ ap bytesFor l))
 
--- in zeros the packed row is followed by zeros
-over-zeros : (n k : ℕ) → n ≤ k → over (replicate n 0) (replicate k 0) ≡ replicate k 0
-unfolding over
-over-zeros zero k h = refl
-over-zeros (suc n) zero h = absurd (not-suc-le-zero h)
-over-zeros (suc n) (suc k) h = ap (_∷_ 0) (over-zeros n k (le-of-suc-le-suc h))
-
-pub put-fresh : {n : ℕ} {bs : List ℕ} (k : ℕ) → Row n bs → bytesFor n ≤ k → putBits bs 0 (replicate k 0) ≡ over (pack bs) (replicate k 0)
-put-fresh {n} {bs} k r h = ap (putBits bs 0) (sym (over-zeros (bytesFor n) k h)) ∙ put-over (replicate k 0) r
-
 -- a row where there is room, and where there is none
 pub written-none : (s : List ℕ) (b w : ℕ) (out : List ℕ) → length out < bytesFor w → rowWritten s b w out ≡ out
 unfolding rowWritten
@@ -125,3 +115,13 @@ written-none s b w out h = rw (lt-leb (bytesFor w) (length out) h)
 pub written-row : (s : List ℕ) (b w : ℕ) (out : List ℕ) → bytesFor w ≤ length out → rowWritten s b w out ≡ over (pack (map (bitAt s) (from b w))) out
 unfolding rowWritten
 written-row s b w out h = rw (le-leb (bytesFor w) (length out) h)
+
+-- a row of zeros
+pub written-zeros : (w : ℕ) (out : List ℕ) → bytesFor w ≤ length out → rowWritten [] 0 w out ≡ over (replicate (bytesFor w) 0) out
+unfolding unpack
+written-zeros w out h =
+    let zeros : List ℕ = replicate (bytesFor w) 0 in
+    written-row [] 0 w out h
+    ∙ ap (λ (s : List ℕ). over s out)
+    (ap pack (unpack-ext w [] zeros (λ i l. bit-zeros 0 i ∙ sym (bit-zeros (bytesFor w) i)))
+    ∙ pack-unpack w zeros (bytes-zeros (bytesFor w)) (well-formed-zeros w))

@@ -2,7 +2,7 @@
 use mathlib.Core.Path.{_≡_, refl, sym, ap, ap₂, _∙_}
 use mathlib.Core.List.{List, [], _∷_, _++_, map, zipWith}
 use Prim.Native.Nat.{ℕ, _+_, _-_, _*_, _≤_, _<_}
-use native.Mathlib.Nat.{zero-add, le-refl}
+use native.Mathlib.Nat.{zero-add}
 use native.Mathlib.Omega.{arith}
 use lib.ListN.{length, getD, take, drop, replicate, length-map}
 use lib.Seq.{take-at, drop-at}
@@ -11,7 +11,7 @@ use Rattle.bits.specs.Bits.{Row, from, bytesFor, bitAt, unpack, pack, fillerCle
 use Rattle.bits.proofs.Xor.{digit-xor}
 use Rattle.bits.proofs.Lists.{cons-eq, from-at, length-from}
 use Rattle.bits.proofs.Bits.{bit-digit}
-use Rattle.bits.proofs.Pack.{row-map, row-unpack, row-length, length-pack, length-unpack, unpack-add, unpack-pack, unpack-take, filler-take, well-formed-clear, well-formed-pack}
+use Rattle.bits.proofs.Pack.{row-map, row-unpack, row-length, length-pack, length-unpack, unpack-add, unpack-pack, filler-take, well-formed-clear, well-formed-pack}
 use Rattle.bits.proofs.Product.{dot-digit, row-product-bits}
 use Rattle.bits.proofs.Parts.{part-all}
 use Rattle.code.specs.Lock.{locked, rowOf, rowsOf}
@@ -30,16 +30,17 @@ row-filler rows w public r h at e =
 -- the product of row r with the pattern's packed tail
 pub product-tail : (w rows : ℕ) (public pattern : List ℕ) (r at size : ℕ) (tail : List ℕ) → at ≡ r * bytesFor w → size ≡ bytesFor w
     → tail ≡ over (pack (map (bitAt pattern) (from rows w))) (replicate 1024 0)
-    → rowProduct (drop at public) (take size tail) ≡ dot (unpack w (rowOf w public r)) (map (bitAt pattern) (from rows w))
+    → rowProduct (take (length (take size tail)) (drop at public)) (take size tail) ≡ dot (unpack w (rowOf w public r)) (map (bitAt pattern) (from rows w))
 unfolding rowOf over
 product-tail w rows public pattern r at size tail e f g =
     let bits : List ℕ = map (bitAt pattern) (from rows w) in
     let row : Row w bits = row-map (bitAt pattern) (bit-digit pattern) rows w in
     let long : length (pack bits) ≡ bytesFor w = length-pack bits ∙ ap bytesFor (row-length row) in
     let part : take size tail ≡ pack bits = ap₂ take f g ∙ take-at (pack bits) _ (bytesFor w) long in
-    ap₂ (λ (i : ℕ) (t : List ℕ). rowProduct (drop i public) t) e part
-    ∙ row-product-bits w (drop (r * bytesFor w) public) (pack bits) long (well-formed-clear w (pack bits) (well-formed-pack row))
-    ∙ ap₂ dot (sym (unpack-take w (bytesFor w) (drop (r * bytesFor w) public) (le-refl (bytesFor w)))) (unpack-pack row)
+    ap₂ (λ (i : ℕ) (t : List ℕ). rowProduct (take (length t) (drop i public)) t) e part
+    ∙ ap (λ (n : ℕ). rowProduct (take n (drop (r * bytesFor w) public)) (pack bits)) long
+    ∙ row-product-bits w (rowOf w public r) (pack bits) long (well-formed-clear w (pack bits) (well-formed-pack row))
+    ∙ ap (dot (unpack w (rowOf w public r))) (unpack-pack row)
 
 -- the capsule's bits
 pub row-capsule : (w rows : ℕ) (public pattern : List ℕ) → Row rows (map (capsuleBit w rows public pattern) (from 0 rows))

@@ -2,9 +2,9 @@
 use field::Verdict;
 ghost use mathlib.Core.Path.{_≡_};
 ghost use mathlib.Core.List.{map};
-ghost use Prim.Native.Nat.{_*_, _≤_, _<_};
-ghost use lib.ListN.{length, drop, replicate};
-ghost use Rattle.bits.specs.Bits.{from, every, bytesFor, bitAt, pack, fillerClear, over, rowProduct};
+ghost use Prim.Native.Nat.{_+_, _*_, _≤_};
+ghost use lib.ListN.{length, take, drop, replicate};
+ghost use Rattle.bits.specs.Bits.{from, every, bytesFor, bitAt, putBits, pack, fillerClear, over, rowProduct};
 ghost use Rattle.field.specs.Verdicts.{verdictOf};
 ghost use Rattle.code.specs.Lock.{rowOf, lockNumber, lockOutput};
 ghost use Rattle.locking.specs.Locking.{capsuleBit};
@@ -19,8 +19,8 @@ pub fn lock(m: u8, n: u16, t: u16, public: &[u8], pattern: &[u8], out: &mut [u8]
         return x;
     };
     let rows = (m as usize) * (t as usize);
-    let capsule = capsule_of(public, pattern, rows, n as usize - rows);
-    packed::write_row(out, &capsule, 0, rows as u32);
+    packed::clear_row(out, rows as u32);
+    put_capsule(out, public, pattern, rows, n as usize - rows);
     Verdict::Accepted
 }
 
@@ -75,26 +75,24 @@ fn fillers_clear(public: &[u8], rows: usize, w: usize) -> bool
     true
 }
 
-// [I|T]·e, bit after bit: T has rows of w bits, and the pattern e has rows + w bits.
-fn capsule_of(public: &[u8], pattern: &[u8], rows: usize, w: usize) -> [u8; 1024]
+// [I|T]·e becomes the first bits of out: T has rows of w bits, and the pattern e has rows + w bits.
+fn put_capsule(out: &mut [u8], public: &[u8], pattern: &[u8], rows: usize, w: usize)
     requires { ⌜ (rows * bytesFor w ≤ length (now public)) × (rows ≤ 8192) × (w ≤ 8192) ⌝ }
-    ensures { λ c. ⌜ c ≡ over (pack (map (capsuleBit w rows (now (public .entry)) (now (pattern .entry))) (from 0 rows))) (replicate 1024 0) ⌝ }
+    ensures { λ _. ⌜ now (out .exit) ≡ putBits (map (capsuleBit w rows (now (public .entry)) (now (pattern .entry))) (from 0 rows)) 0 (now (out .entry)) ⌝ }
 {
     let size = bits::bytes_for(w);
     let tail = tail_of(pattern, rows, w);
-    let mut c = [0u8; 1024];
     let mut at = 0;
     let mut r = 0;
     while r < rows {
         bits::set_bit(
-            &mut c,
+            out,
             r,
             bits::bit_at(pattern, r) ^ row_bit(public, at, &tail[..size]),
         );
         at += size;
         r += 1;
     }
-    c
 }
 
 // The pattern's bits behind the first `rows`, packed.
@@ -109,8 +107,9 @@ fn tail_of(pattern: &[u8], rows: usize, w: usize) -> [u8; 1024]
 
 // The product of the tail with the row whose first byte is at `at`.
 fn row_bit(public: &[u8], at: usize, tail: &[u8]) -> u8
-    requires { ⌜ at ≤ length (now public) ⌝ }
-    ensures { λ r. ⌜ r ≡ rowProduct (drop at (now (public .entry))) (now (tail .entry)) ⌝ }
+    requires { ⌜ at + length (now tail) ≤ length (now public) ⌝ }
+    ensures { λ r. ⌜ r ≡ rowProduct (take (length (now (tail .entry))) (drop at (now (public .entry)))) (now (tail .entry)) ⌝ }
 {
-    packed::row_product(&public[at..], tail)
+    let end = at + tail.len();
+    packed::row_product(&public[at..end], tail)
 }

@@ -1,6 +1,6 @@
 // Packed rows added, multiplied and written.
 ghost use mathlib.Core.Path.{_≡_};
-ghost use mathlib.Core.List.{map};
+ghost use mathlib.Core.List.{[], map};
 ghost use Prim.Native.Nat.{_+_, _*_, _%_, _^_, _≤_, _<_};
 ghost use lib.Count.{ones};
 ghost use lib.ListN.{length, replicate};
@@ -69,6 +69,17 @@ pub fn write_row(out: &mut [u8], s: &[u8], b: u32, w: u32)
     }
     clear_bytes(out, n);
     copy_bits(out, s, b as usize, w as usize);
+}
+
+// The row of w bits at the start of out becomes 0; nothing where it has no room.
+pub fn clear_row(out: &mut [u8], w: u32)
+    ensures { λ _. ⌜ now (out .exit) ≡ rowWritten [] 0 w (now (out .entry)) ⌝ }
+{
+    let n = bits::bytes_for(w as usize);
+    if out.len() < n {
+        return;
+    }
+    clear_bytes(out, n);
 }
 
 // The first n bytes become 0.
