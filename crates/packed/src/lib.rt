@@ -75,11 +75,11 @@ pub fn write_row(out: &mut [u8], s: &[u8], b: u32, w: u32)
 pub fn clear_row(out: &mut [u8], w: u32)
     ensures { λ _. ⌜ now (out .exit) ≡ rowWritten [] 0 w (now (out .entry)) ⌝ }
 {
-    let n = bits::bytes_for(w as usize);
-    if out.len() < n {
+    let size = bits::bytes_for(w as usize);
+    if out.len() < size {
         return;
     }
-    clear_bytes(out, n);
+    clear_bytes(out, size);
 }
 
 // The first n bytes become 0.
