@@ -4,6 +4,7 @@ use boundary::Element;
 use boundary::Shape;
 use boundary::as_element;
 use boundary::as_shape;
+use field::Verdict;
 use station::Reply;
 use station::Station;
 ghost use mathlib.Core.Path.{_≡_};
@@ -69,7 +70,11 @@ pub extern "C" fn shearcotter_lock(
     ensures number { λ r. ⌜ r ≡ lockNumber m n t (now (public .entry)) (now (pattern .entry)) (now (out .entry)) ⌝ }
     ensures output { λ _. ⌜ now (out .exit) ≡ lockOutput m n t (now (public .entry)) (now (pattern .entry)) (now (out .entry)) ⌝ }
 {
-    field::number(locking::lock(m, n, t, public, pattern, out))
+    let x = locking::lock(m, n, t, public, pattern, out);
+    let Verdict::Accepted = x else {
+        return field::number(x);
+    };
+    0
 }
 
 // The empty station.

@@ -1,0 +1,31 @@
+//! Opens the capsules of a file with a key file: a line for each, as the opening program prints it.
+
+use std::error::Error;
+use std::{env, fs};
+
+use shearcotter::{wipe, Station};
+
+fn main() -> Result<(), Box<dyn Error>> {
+    let names: Vec<String> = env::args().skip(1).collect();
+    let [key, capsules] = &names[..] else {
+        return Err("usage: open KEY CAPSULES".into());
+    };
+    let mut file = fs::read(key)?;
+    let mut station = Station::fresh();
+    let loaded = station.load(&file);
+    wipe(&mut file);
+    loaded?;
+    station.publish()?;
+    let length = station.shape().map_or(1, |shape| shape.capsule_length());
+    for (position, capsule) in (1..).zip(fs::read(capsules)?.chunks(length)) {
+        match station.open(capsule) {
+            Ok(pattern) => println!("{position} open{}", places(pattern.places())),
+            Err(refusal) => println!("{position} refused {}", refusal.number()),
+        }
+    }
+    Ok(())
+}
+
+fn places(rising: impl Iterator<Item = usize>) -> String {
+    rising.map(|place| format!(" {place}")).collect()
+}
