@@ -6,8 +6,8 @@ use Prim.Native.Nat.{ℕ, zero, suc, _+_, _≤_, _<_, suc-le-suc, zero-le}
 use native.Mathlib.Nat.{add-zero, zero-add, suc-add, zero-lt-suc, le-of-suc-le-suc, not-suc-le-zero, lt-of-le-of-lt}
 use native.Mathlib.Numerals.{add-one}
 use native.Mathlib.Omega.{arith}
-use lib.ListN.{length, getD, take, drop, length-map, drop-of-length-le, List·getD-eq-default}
-use lib.Seq.{getD-drop, drop-cons}
+use lib.ListN.{length, getD, take, drop, length-map, length-drop, drop-of-length-le, List·getD-eq-default}
+use lib.Seq.{getD-take, getD-drop, drop-cons, length-take-le, ext-getD}
 use Rattle.bits.specs.Bits.{from, every}
 
 pub cons-eq : {x y : ℕ} {l r : List ℕ} → x ≡ y → l ≡ r → x ∷ l ≡ y ∷ r
@@ -57,6 +57,21 @@ map-from-at f k (suc n) (suc i) d h = map-from-at f (suc k) n i d (le-of-suc-le-
 
 pub map-from-past : (f : ℕ → ℕ) (k n i d : ℕ) → n ≤ i → getD (map f (from k n)) i d ≡ d
 map-from-past f k n i d h = List·getD-eq-default (map f (from k n)) d (rw length-map-from h)
+
+pub map-from-part : (f : ℕ → ℕ) (k n j m : ℕ) → j + m ≤ n → take m (drop j (map f (from k n))) ≡ map f (from (k + j) m)
+map-from-part f k n j m h =
+    let l : List ℕ = map f (from k n) in
+    let e : length l ≡ n = length-map-from f k n in
+    let c : length (take m (drop j l)) ≡ m = length-take-le m (drop j l) (omega (arith, length-drop j l)) in
+    ext-getD 0 (take m (drop j l)) (map f (from (k + j) m)) (c ∙ sym (length-map-from f (k + j) m))
+    (λ i b.
+    let b : i < m = rw c at b in
+    let s : k + (j + i) ≡ k + j + i = omega arith in
+    getD-take m (drop j l) i 0 b
+    ∙ getD-drop j l i 0
+    ∙ map-from-at f k n (j + i) 0 (omega arith)
+    ∙ ap f s
+    ∙ sym (map-from-at f (k + j) m i 0 b))
 
 pub map-from : {A : Type 0} (f g : ℕ → A) (k j n : ℕ) → ((i : ℕ) → i < n → f (k + i) ≡ g (j + i)) → map f (from k n) ≡ map g (from j n)
 unfolding from

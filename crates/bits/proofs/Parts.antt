@@ -1,11 +1,12 @@
 -- Rows of a lent list, one behind another: where row r lies, and the part from a place on. Assumes nothing.
 use mathlib.Core.Path.{_≡_, sym, ap, _∙_}
-use mathlib.Core.List.{List}
+use mathlib.Core.List.{List, _++_, append-nil}
+use borrow.Rule.Slice.PartMut.{putMid}
 use Prim.Native.Nat.{ℕ, _+_, _-_, _*_, _≤_, _<_}
 use native.Mathlib.Nat.{suc-mul, le-trans, le-of-eq, mul-le-mul-right}
 use native.Mathlib.Numerals.{add-one}
 use native.Mathlib.Omega.{arith}
-use lib.ListN.{length, take, drop, length-drop}
+use lib.ListN.{length, take, drop, length-drop, drop-of-length-le}
 use lib.Seq.{take-all}
 use Rattle.bits.specs.Bits.{bytesFor}
 
@@ -24,3 +25,9 @@ row-size n h = omega arith
 -- the part from `at` to the end
 pub part-all : (at : ℕ) (l : List ℕ) → take (length l - at) (drop at l) ≡ drop at l
 part-all at l = take-all (length l - at) (drop at l) (omega (arith, length-drop at l))
+
+-- that part is lent, and comes back as y
+pub part-back : (at : ℕ) (l y : List ℕ) → putMid at (length l - at) l y ≡ take at l ++ y
+part-back at l y =
+    ap (λ (t : List ℕ). take at l ++ (y ++ t)) (drop-of-length-le (drop at l) {i = length l - at} (omega (arith, length-drop at l)))
+    ∙ ap (λ (t : List ℕ). take at l ++ t) (append-nil y)

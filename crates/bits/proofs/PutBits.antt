@@ -7,8 +7,8 @@ use native.Mathlib.Numerals.{add-one}
 use native.Mathlib.Decide.{decLt}
 use native.Mathlib.Omega.{arith}
 use borrow.Author.Tests.{le-leb, lt-leb}
-use lib.ListN.{length, getD, drop, set, replicate, length-replicate, drop-of-length-le, List·getD-append, List·getD-eq-default}
-use lib.Seq.{drop-cons, ext-getD, set-append-left}
+use lib.ListN.{length, getD, take, drop, set, replicate, length-replicate, length-drop, take-append-drop, drop-of-length-le, List·getD-append, List·getD-eq-default}
+use lib.Seq.{drop-cons, drop-drop, length-take-le, ext-getD, set-append-left}
 use Rattle.bits.specs.Bits.{Bytes, Row, bytesFor, bitAt, withBit, setBit, putBits, unpack, pack, over, from, rowWritten}
 use Rattle.bits.proofs.Bits.{bit-zeros, bytes-zeros, bits-determine, length-setBit, bytes-setBit, set-bit-same, set-bit-other}
 use Rattle.bits.proofs.Pack.{row-lt, row-length, length-unpack, unpack-at, unpack-ext, bytes-enough, length-pack, bytes-pack, bit-pack, pack-unpack, well-formed-zeros}
@@ -22,6 +22,53 @@ put-next l j s h = rw (add-one, drop-cons l j 0)
 pub put-end : (l : List ℕ) (j : ℕ) (s : List ℕ) → length l ≤ j → putBits (drop j l) j s ≡ s
 unfolding putBits
 put-end l j s h = rw (drop-of-length-le l h)
+
+-- several bits at once: those from j to j + k, and then those behind them
+put-both : (l r : List ℕ) (i : ℕ) (s : List ℕ) → putBits (l ++ r) i s ≡ putBits r (i + length l) (putBits l i s)
+unfolding putBits
+put-both [] r i s = ap (λ (j : ℕ). putBits r j s) (sym (add-zero i))
+put-both (b ∷ l) r i s =
+    let e : suc i + length l ≡ i + suc (length l) = omega arith in
+    put-both l r (suc i) (setBit s i b) ∙ ap (λ (j : ℕ). putBits r j (putBits l (suc i) (setBit s i b))) e
+
+put-more : (l : List ℕ) (j k : ℕ) (s : List ℕ) → j + k ≤ length l
+    → putBits (drop (j + k) l) (j + k) (putBits (take k (drop j l)) j s) ≡ putBits (drop j l) j s
+put-more l j k s h =
+    let n : length (take k (drop j l)) ≡ k = length-take-le k (drop j l) (omega (arith, length-drop j l)) in
+    ap₂ (λ (r : List ℕ) (i : ℕ). putBits r i (putBits (take k (drop j l)) j s)) (sym (drop-drop k j l)) (ap (_+_ j) (sym n))
+    ∙ sym (put-both (take k (drop j l)) (drop k (drop j l)) j s)
+    ∙ ap (λ (r : List ℕ). putBits r j s) (take-append-drop k (drop j l))
+
+-- bits put behind the first bytes: into the part that starts there
+set-behind : (x : ℕ) (s : List ℕ) (i v : ℕ) → setBit (x ∷ s) (8 + i) v ≡ x ∷ setBit s i v
+unfolding setBit
+set-behind x s i v =
+    let q : (8 + i) / 8 ≡ suc (i / 8) = omega arith in
+    let k : (8 + i) % 8 ≡ i % 8 = omega arith in
+    ap₂ (λ (j n : ℕ). set (x ∷ s) j (withBit (getD (x ∷ s) j 0) n (v % 2))) q k
+
+put-behind : (bs : List ℕ) (x : ℕ) (s : List ℕ) (i : ℕ) → putBits bs (8 + i) (x ∷ s) ≡ x ∷ putBits bs i s
+unfolding putBits
+put-behind [] x s i = refl
+put-behind (b ∷ bs) x s i =
+    let e : suc (8 + i) ≡ 8 + suc i = omega arith in
+    ap₂ (λ (j : ℕ) (l : List ℕ). putBits bs j l) e (set-behind x s i b) ∙ put-behind bs x (setBit s i b) (suc i)
+
+put-part : (bs : List ℕ) (q : ℕ) (s : List ℕ) → q ≤ length s → putBits bs (8 * q) s ≡ take q s ++ putBits bs 0 (drop q s)
+put-part bs zero s h = refl
+put-part bs (suc q) [] h = absurd (not-suc-le-zero h)
+put-part bs (suc q) (x ∷ s) h =
+    let e : 8 * suc q ≡ 8 + 8 * q = omega arith in
+    ap (λ (j : ℕ). putBits bs j (x ∷ s)) e ∙ put-behind bs x s (8 * q) ∙ ap (_∷_ x) (put-part bs q s (le-of-suc-le-suc h))
+
+-- k bits more, put into the part from byte q on, which is lent and comes back as y
+pub put-lent : (l : List ℕ) (q k : ℕ) (s y : List ℕ) → q ≤ length s → 8 * q + k ≤ length l
+    → y ≡ putBits (take k (drop (8 * q) l)) 0 (drop q s)
+    → putBits (drop (8 * q + k) l) (8 * q + k) (take q s ++ y) ≡ putBits (drop (8 * q) l) (8 * q) s
+put-lent l q k s y h m e =
+    ap (putBits (drop (8 * q + k) l) (8 * q + k))
+    (ap (λ (t : List ℕ). take q s ++ t) e ∙ sym (put-part (take k (drop (8 * q) l)) q s h))
+    ∙ put-more l (8 * q) k s m
 
 pub length-putBits : (bs : List ℕ) (i : ℕ) (s : List ℕ) → length (putBits bs i s) ≡ length s
 unfolding putBits

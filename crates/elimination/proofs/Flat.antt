@@ -1,12 +1,11 @@
 -- Rows of n bits in a list of bytes: one by one, in a list's front, in a part that is lent, copied and moved. Assumes nothing.
 use mathlib.Core.Path.{_≡_, refl, sym, ap, ap₂, _∙_}
-use mathlib.Core.List.{List, [], _∷_, _++_, map, map-append, append-nil, append-assoc}
-use borrow.Rule.Slice.PartMut.{putMid}
+use mathlib.Core.List.{List, [], _∷_, _++_, map, map-append, append-assoc}
 use Prim.Native.Nat.{ℕ, zero, suc, _+_, _-_, _*_, _/_, _%_, _^_, _≤_, _<_}
 use native.Mathlib.Nat.{zero-add, zero-mul, one-mul, suc-mul, add-mul, add-suc, add-comm, le-trans}
 use native.Mathlib.Numerals.{add-one}
 use native.Mathlib.Omega.{arith}
-use lib.ListN.{length, getD, take, drop, set, length-map, length-drop, length-append, List·getD-append, take-append-drop, drop-of-length-le}
+use lib.ListN.{length, getD, take, drop, set, length-map, length-drop, length-append, List·getD-append, take-append-drop}
 use lib.Seq.{drop-drop, drop-append-le, drop-at, take-at, drop-cons, set-at, set-split, take-set-le, length-take-le, append-snoc, take-suc}
 use Rattle.bits.specs.Bits.{from, bytesFor, bitAt, unpack}
 use Rattle.bits.proofs.Lists.{length-from, from-add}
@@ -88,12 +87,6 @@ pub rows-front : (k n at : ℕ) (w y : List ℕ) → k * bytesFor n ≤ at → a
 rows-front k n at w y h l =
     let e : k * bytesFor n ≤ length (take at w) = omega (arith, length-take-le at w l) in
     rows-append k n (take at w) y e ∙ sym (rows-append k n (take at w) (drop at w) e) ∙ ap (rowsOf k n) (take-append-drop at w)
-
--- a part that goes to the end is lent, and comes back as y
-pub part-back : (at : ℕ) (l y : List ℕ) → putMid at (length l - at) l y ≡ take at l ++ y
-part-back at l y =
-    ap (λ (t : List ℕ). take at l ++ (y ++ t)) (drop-of-length-le (drop at l) {i = length l - at} (omega (arith, length-drop at l)))
-    ∙ ap (λ (t : List ℕ). take at l ++ t) (append-nil y)
 
 -- one byte more, copied
 pub copied-next : (i : ℕ) (s d : List ℕ) → i < length s → i < length d

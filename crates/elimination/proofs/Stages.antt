@@ -9,13 +9,13 @@ use lib.ListN.{length, take, drop, take-append-drop}
 use lib.Seq.{length-take-le, drop-at, drop-drop}
 use borrow.Rule.Slice.PartMut.{putMid}
 use Rattle.bits.specs.Bits.{from, bytesFor, unpack}
-use Rattle.bits.proofs.Parts.{rows-in, next-row, part-all}
+use Rattle.bits.proofs.Parts.{rows-in, next-row, part-all, part-back}
 use Rattle.bits.proofs.Pack.{unpack-take}
 use Rattle.code.specs.PublicKey.{Matrix, findPivot, clear, Echelon, withPivot}
 use Rattle.code.specs.Lock.{rowOf, rowsOf}
 use Rattle.code.proofs.Identity.{from-end}
 use Rattle.elimination.specs.Elimination.{firstRow, stage, pivoted, stepped, next}
-use Rattle.elimination.proofs.Flat.{rows-split, rows-snoc, rows-front, part-back}
+use Rattle.elimination.proofs.Flat.{rows-split, rows-snoc, rows-front}
 
 -- three equal parts
 echelon-eq : {x y : Matrix} {u v : Matrix} {p q : List ℕ} → x ≡ y → u ≡ v → p ≡ q

@@ -4,7 +4,7 @@ ghost use mathlib.Core.List.{[], map};
 ghost use Prim.Native.Nat.{_+_, _*_, _%_, _^_, _≤_, _<_};
 ghost use lib.Count.{ones};
 ghost use lib.ListN.{length, replicate};
-ghost use Rattle.bits.specs.Bits.{from, bitAt, number, putBits, over, rowWritten, xorRow, rowProduct};
+ghost use Rattle.bits.specs.Bits.{from, bytesFor, bitAt, number, putBits, over, rowWritten, xorRow, rowProduct};
 
 // The bytes of src added to those of dst, as far as both go.
 pub fn xor_row(dst: &mut [u8], src: &[u8])
@@ -68,7 +68,7 @@ pub fn write_row(out: &mut [u8], s: &[u8], b: u32, w: u32)
         return;
     }
     clear_bytes(out, n);
-    copy_bits(out, s, b as usize, w as usize);
+    copy_row(out, s, b as usize, w as usize);
 }
 
 // The row of w bits at the start of out becomes 0; nothing where it has no room.
@@ -92,6 +92,21 @@ fn clear_bytes(out: &mut [u8], n: usize)
         out[i] = 0;
         i += 1;
     }
+}
+
+// The w bits of s from bit b on become the first bits of out, which has their bytes. Eight at a time, so that the compiler knows the
+// place of each in its byte.
+fn copy_row(out: &mut [u8], s: &[u8], b: usize, w: usize)
+    requires { ⌜ (b + w < 2 ^ 64) × (bytesFor w ≤ length (now out)) ⌝ }
+    ensures { λ _. ⌜ now (out .exit) ≡ putBits (map (bitAt (now (s .entry))) (from b w)) 0 (now (out .entry)) ⌝ }
+{
+    let whole = w / 8;
+    let mut q = 0;
+    while q < whole {
+        copy_bits(&mut out[q..], s, b + 8 * q, 8);
+        q += 1;
+    }
+    copy_bits(&mut out[q..], s, b + 8 * q, w % 8);
 }
 
 // The w bits of s from bit b on become the first bits of out.

@@ -7,11 +7,11 @@ use borrow.Author.Needs.{needs}
 use borrow.Rule.Slice.PartMut.{putMid}
 use lib.ListN.{length, take, drop, length-drop}
 use Rattle.bits.specs.Bits.{bytesFor, unpack}
-use Rattle.bits.proofs.Parts.{rows-in, next-row, part-all}
+use Rattle.bits.proofs.Parts.{rows-in, next-row, part-all, part-back}
 use Rattle.code.specs.PublicKey.{clear}
 use Rattle.code.specs.Lock.{rowsOf}
 use Rattle.elimination.specs.Elimination.{stage}
-use Rattle.elimination.proofs.Flat.{rows-split, length-row, part-back}
+use Rattle.elimination.proofs.Flat.{rows-split, length-row}
 use Rattle.elimination.proofs.Stages.{around-stage, around-past}
 use Rattle.elimination.proofs.clear_around.Statement.{statement}
 use Rattle.elimination.proofs.clear_around.Tie as tie

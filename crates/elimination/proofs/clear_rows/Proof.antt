@@ -8,11 +8,10 @@ use borrow.Author.Needs.{needs}
 use borrow.Rule.Slice.PartMut.{putMid, same-len-mid}
 use lib.ListN.{length, take, drop}
 use Rattle.bits.specs.Bits.{from, bytesFor, unpack}
-use Rattle.bits.proofs.Parts.{rows-in, next-row, part-all}
+use Rattle.bits.proofs.Parts.{rows-in, next-row, part-all, part-back}
 use Rattle.code.specs.PublicKey.{clear}
 use Rattle.code.specs.Lock.{rowsOf}
 use Rattle.elimination.specs.Elimination.{clearFront}
-use Rattle.elimination.proofs.Flat.{part-back}
 use Rattle.elimination.proofs.Clearing.{clear-next, clear-rest}
 use Rattle.elimination.proofs.clear_rows.Statement.{statement}
 use Rattle.elimination.proofs.clear_rows.Tie as tie

@@ -21,8 +21,8 @@ returns c = let a = c .before .before .before .before .args in sym (written-none
 clear-bytes-requires : tie.Need-clear-bytes-requires
 clear-bytes-requires c κs = omega arith
 
-copy-bits-requires : tie.Need-copy-bits-requires
-copy-bits-requires c κs = omega arith
+copy-row-requires : tie.Need-copy-row-requires
+copy-row-requires c κs = omega arith
 
 same-length : tie.Need-same-length
 same-length c = search needs
@@ -32,7 +32,7 @@ returns-2 c =
     let b = c .before .before .before .before .before .before .before .before .before .before .before .before in
     let a = b .args in
     let bits : List ℕ = map (bitAt (a .s .now)) (from (a .b) (a .w)) in
-    c .before .before .copy-bits .ensures
+    c .before .before .copy-row .ensures
     ∙ ap (putBits bits 0)
     (c .before .before .before .before .before .before .clear-bytes .ensures
     ∙ ap (λ (n : ℕ). over (replicate n 0) (a .out .now)) (c .before .before .before .before .before .before .before .before .before .bytes-for .ensures))
@@ -42,4 +42,4 @@ returns-2 c =
 pub write-row-spec : {M : Type 1} → statement M
 write-row-spec =
     tie.close
-    (tie.spec bytes-for-requires returns clear-bytes-requires copy-bits-requires same-length returns-2)
+    (tie.spec bytes-for-requires returns clear-bytes-requires copy-row-requires same-length returns-2)

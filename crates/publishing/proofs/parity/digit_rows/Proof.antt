@@ -9,10 +9,10 @@ use lib.ListN.{length, take, drop, length-drop}
 use lib.Seq.{length-take-le}
 use Rattle.bits.specs.Bits.{bytesFor, putBits, unpack}
 use Rattle.bits.proofs.Pack.{bytes-enough}
-use Rattle.bits.proofs.Parts.{rows-in, next-row, part-all}
+use Rattle.bits.proofs.Parts.{rows-in, next-row, part-all, part-back}
 use Rattle.code.specs.PublicKey.{Matrix}
 use Rattle.code.specs.Lock.{rowsOf}
-use Rattle.elimination.proofs.Flat.{rows-one, part-back}
+use Rattle.elimination.proofs.Flat.{rows-one}
 use Rattle.publishing.specs.Rows.{digitRow, digitRows}
 use Rattle.publishing.proofs.DigitRows.{length-digitRow, unpack-digits, put-rest, part-rest, digitRows-none, digitRows-next, rows-placed}
 use Rattle.publishing.proofs.parity.digit_rows.Statement.{statement}

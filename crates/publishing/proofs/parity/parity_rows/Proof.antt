@@ -9,7 +9,7 @@ use borrow.Rule.Slice.PartMut.{putMid, same-len-mid}
 use lib.ListN.{length, take, drop, length-drop}
 use lib.Seq.{length-take-le}
 use Rattle.bits.specs.Bits.{from, bytesFor}
-use Rattle.bits.proofs.Parts.{next-row, row-size, part-all}
+use Rattle.bits.proofs.Parts.{next-row, row-size, part-all, part-back}
 use Rattle.field.specs.Field.{inv}
 use Rattle.field.specs.Poly.{ofEach}
 use Rattle.field.proofs.Places.{length-hornerEach, length-ofEach}
@@ -20,7 +20,6 @@ use Rattle.key.specs.Keys.{keyOf}
 use Rattle.code.specs.PublicKey.{Matrix}
 use Rattle.code.specs.Code.{entry, parityRow}
 use Rattle.code.specs.Lock.{rowsOf}
-use Rattle.elimination.proofs.Flat.{part-back}
 use Rattle.publishing.specs.Rows.{digitRows}
 use Rattle.publishing.proofs.DigitRows.{part-rest, rows-placed, group-next, group-in}
 use Rattle.publishing.proofs.Entries.{entries-start, entries-next, parity-none, parity-next, parity-all}

@@ -8,8 +8,7 @@ use borrow.Rule.Slice.PartMut.{same-len-mid}
 use lib.ListN.{length, take, drop, length-drop}
 use Rattle.bits.specs.Bits.{bytesFor, over, rowWritten}
 use Rattle.bits.proofs.PutBits.{written-row}
-use Rattle.bits.proofs.Parts.{rows-in, next-row, row-size, part-all}
-use Rattle.elimination.proofs.Flat.{part-back}
+use Rattle.bits.proofs.Parts.{rows-in, next-row, row-size, part-all, part-back}
 use Rattle.publishing.proofs.WrittenRows.{tails, tails-none, tails-over, row-place}
 use Rattle.publishing.proofs.rows.write_rows.Statement.{statement}
 use Rattle.publishing.proofs.rows.write_rows.Tie as tie
