@@ -1,64 +1,135 @@
--- The loop's invariant: the marks of the first i places are written. Assumes nothing.
-use mathlib.Core.Path.{_≡_, sym, ap, ap₂, _∙_}
-use mathlib.Core.List.{List, map}
-use Prim.Native.Nat.{ℕ, _-_, _≤_}
+-- The loop's invariant: the marks from place 8·q on are left to write. Assumes nothing.
+use mathlib.Core.Path.{_≡_, refl, sym, ap, _∙_}
+use mathlib.Core.List.{List, _++_, map}
+use Prim.Native.Nat.{ℕ, _+_, _-_, _*_, _≤_}
 use native.Mathlib.Omega.{arith}
 use borrow.Author.Needs.{needs}
-use lib.ListN.{length, take, length-map}
-use lib.Seq.{take-all}
-use Rattle.bits.specs.Bits.{setBit}
-use Rattle.decoding.specs.Parts.{mark, packed}
-use Rattle.decoding.proofs.Packed.{packed-none, packed-next, row-marks, map-at, row-take, length-packed}
+use borrow.Rule.Slice.PartMut.{putMid, same-len-mid}
+use lib.ListN.{length, take, drop, replicate, length-map}
+use Rattle.bits.specs.Bits.{putBits}
+use Rattle.bits.proofs.Parts.{part-all, part-back}
+use Rattle.bits.proofs.PutBits.{put-lent, put-end}
+use Rattle.decoding.specs.Parts.{mark}
+use Rattle.decoding.proofs.Packed.{packed-put, map-part, row-marks}
 use Rattle.decoding.proofs.places.marks.Statement.{statement}
 use Rattle.decoding.proofs.places.marks.Tie as tie
 
+-- what mark_bits leaves of the pattern's part from byte q on, with the marks of k values from `at` on
+part-put : (values pattern y : List ℕ) (q at k : ℕ) → at ≡ 8 * q → length pattern ≡ 1024
+    → y ≡ putBits (map mark (take k (drop at values))) 0 (take (1024 - q) (drop q pattern))
+    → y ≡ putBits (take k (drop (8 * q) (map mark values))) 0 (drop q pattern)
+part-put values pattern y q at k h n e =
+    e
+    ∙ ap (putBits (map mark (take k (drop at values))) 0)
+    (ap (λ (i : ℕ). take (i - q) (drop q pattern)) (sym n) ∙ part-all q pattern)
+    ∙ ap (λ (l : List ℕ). putBits l 0 (drop q pattern)) (map-part mark at k values ∙ ap (λ (i : ℕ). take k (drop i (map mark values))) h)
+
+-- the part comes back as y
+part-came : (pattern y : List ℕ) (q : ℕ) → length pattern ≡ 1024 → putMid q (1024 - q) pattern y ≡ take q pattern ++ y
+part-came pattern y q n = ap (λ (i : ℕ). putMid q (i - q) pattern y) (sym n) ∙ part-back q pattern y
+
 abbrev Inv-loop : tie.InvT-loop
-Inv-loop values pattern₀ i₀ pattern i = (i ≤ length values) × (pattern ≡ packed (take i (map mark values)))
+Inv-loop values whole pattern₀ q₀ at₀ pattern q at =
+    (q ≤ whole) × (at ≡ 8 * q) × (length pattern ≡ 1024)
+    × (putBits (drop (8 * q) (map mark values)) (8 * q) pattern ≡ putBits (map mark values) 0 (replicate 1024 0))
 
 abbrev μ-loop : tie.MeasureT-loop
-μ-loop values pattern₀ i₀ pattern i = length values - i
+μ-loop values whole pattern₀ q₀ at₀ pattern q at = whole - q
 
 loop-holds : tie.Need-loop-holds Inv-loop μ-loop
-loop-holds c = (omega arith, sym packed-none)
+loop-holds c = (omega arith, refl, refl, refl)
 
-slice-aggregate-set-bit : tie.Need-slice-aggregate-set-bit Inv-loop μ-loop
-slice-aggregate-set-bit c =
-    let b = c .before .before .before .before in
-    let l = c .before .before .loop in
-    sym (ap length (l .inv .1) ∙ length-packed (row-take (row-marks (b .args .values .now)) (l .i) (omega arith)) (omega arith))
+add-end : tie.Need-add-end Inv-loop μ-loop
+add-end c = omega arith
 
-mul-mark : tie.Need-mul-mark Inv-loop μ-loop
-mul-mark c = search needs
+sub-mark-bits : tie.Need-sub-mark-bits Inv-loop μ-loop
+sub-mark-bits c = omega arith
 
-shared-slice-read-mark : tie.Need-shared-slice-read-mark Inv-loop μ-loop
-shared-slice-read-mark c = search needs
+part-pattern-start : tie.Need-part-pattern-start Inv-loop μ-loop
+part-pattern-start c = omega arith
 
-mark-requires : tie.Need-mark-requires Inv-loop μ-loop
-mark-requires c κs = search needs
+part-pattern-end : tie.Need-part-pattern-end Inv-loop μ-loop
+part-pattern-end c = omega arith
 
-set-bit-requires : tie.Need-set-bit-requires Inv-loop μ-loop
-set-bit-requires c κs = search needs
+mul-mark-bits : tie.Need-mul-mark-bits Inv-loop μ-loop
+mul-mark-bits c = search needs
 
-add-i : tie.Need-add-i Inv-loop μ-loop
-add-i c = search needs
+sub-mark-bits-2 : tie.Need-sub-mark-bits-2 Inv-loop μ-loop
+sub-mark-bits-2 c = omega arith
+
+part-mark-bits-start : tie.Need-part-mark-bits-start Inv-loop μ-loop
+part-mark-bits-start c = omega arith
+
+part-mark-bits-end : tie.Need-part-mark-bits-end Inv-loop μ-loop
+part-mark-bits-end c = omega arith
+
+mark-bits-requires : tie.Need-mark-bits-requires Inv-loop μ-loop
+mark-bits-requires c κs = tt
+
+add-q : tie.Need-add-q Inv-loop μ-loop
+add-q c = omega arith
 
 loop-less : tie.Need-loop-less Inv-loop μ-loop
-loop-less c = search needs
+loop-less c = omega arith
 
 loop-again : tie.Need-loop-again Inv-loop μ-loop
 loop-again c =
-    let l = c .before .before .before .before .before .before .loop in
-    let a = c .before .before .before .before .before .before .before .before .args in (
+    let l = c .before .before .before .before .before .loop in
+    let a = c .before .before .before .before .before .before .before .args in
+    let h = c .before .mark-bits in
+    let bits : List ℕ = map mark (a .values .now) in
+    let size : length bits ≡ length (a .values .now) = length-map (a .values .now) mark in
+    let next : 8 * (l .q + 1) ≡ 8 * l .q + 8 = omega arith in
+    let eight : l .at + 8 - l .at ≡ 8 = omega arith in
+    let y = part-put (a .values .now) (l .pattern) (h .last .0) (l .q) (l .at) 8 (l .inv .1) (l .inv .2)
+    (h .ensures ∙ ap (λ (k : ℕ). putBits (map mark (take k (drop (l .at) (a .values .now)))) 0 (take (1024 - l .q) (drop (l .q) (l .pattern)))) eight) in (
       omega arith,
-      c .before .set-bit .ensures
-          ∙ ap₂ (λ (d : List ℕ) (v : ℕ). setBit d (l .i) v) (l .inv .1) (c .before .before .mark .ensures ∙ sym (map-at mark (a .values .now) (l .i) (omega arith)))
-          ∙ packed-next (row-marks (a .values .now)) (omega arith) (l .i) (omega arith),
+      omega arith,
+      same-len-mid (l .q) (1024 - l .q) (l .pattern) (h .last .0) (h .kept .0) ∙ l .inv .2,
+      ap (λ (i : ℕ). putBits (drop i bits) i (putMid (l .q) (1024 - l .q) (l .pattern) (h .last .0))) next
+          ∙ ap (putBits (drop (8 * l .q + 8) bits) (8 * l .q + 8)) (part-came (l .pattern) (h .last .0) (l .q) (l .inv .2))
+          ∙ put-lent bits (l .q) 8 (l .pattern) (h .last .0) (omega arith) (omega arith) y
+          ∙ l .inv .3,
     )
+
+sub-mark-bits-3 : tie.Need-sub-mark-bits-3 Inv-loop μ-loop
+sub-mark-bits-3 c = omega arith
+
+part-pattern-start-2 : tie.Need-part-pattern-start-2 Inv-loop μ-loop
+part-pattern-start-2 c = omega arith
+
+part-pattern-end-2 : tie.Need-part-pattern-end-2 Inv-loop μ-loop
+part-pattern-end-2 c = omega arith
+
+mul-mark-bits-2 : tie.Need-mul-mark-bits-2 Inv-loop μ-loop
+mul-mark-bits-2 c = search needs
+
+sub-mark-bits-4 : tie.Need-sub-mark-bits-4 Inv-loop μ-loop
+sub-mark-bits-4 c = omega arith
+
+part-mark-bits-start-2 : tie.Need-part-mark-bits-start-2 Inv-loop μ-loop
+part-mark-bits-start-2 c = omega arith
+
+part-mark-bits-end-2 : tie.Need-part-mark-bits-end-2 Inv-loop μ-loop
+part-mark-bits-end-2 c = omega arith
+
+mark-bits-requires-2 : tie.Need-mark-bits-requires-2 Inv-loop μ-loop
+mark-bits-requires-2 c κs = tt
 
 returns : tie.Need-returns Inv-loop μ-loop
 returns c =
-    let l = c .before .loop in
-    l .inv .1 ∙ ap packed (take-all (l .i) _ (rw length-map (omega arith)))
+    let l = c .before .before .before .before .before .loop in
+    let a = c .before .before .before .before .before .before .before .args in
+    let h = c .before .mark-bits2 in
+    let bits : List ℕ = map mark (a .values .now) in
+    let size : length bits ≡ length (a .values .now) = length-map (a .values .now) mark in
+    let k : ℕ = length (a .values .now) - l .at in
+    let y = part-put (a .values .now) (l .pattern) (h .last .0) (l .q) (l .at) k (l .inv .1) (l .inv .2) (h .ensures) in
+    part-came (l .pattern) (h .last .0) (l .q) (l .inv .2)
+    ∙ sym (put-end bits (8 * l .q + k) (take (l .q) (l .pattern) ++ h .last .0) (omega arith))
+    ∙ put-lent bits (l .q) k (l .pattern) (h .last .0) (omega arith) (omega arith) y
+    ∙ l .inv .3
+    ∙ packed-put (row-marks (a .values .now)) (omega arith)
 
 pub marks-spec : {M : Type 1} → statement M
 marks-spec =
@@ -67,12 +138,24 @@ marks-spec =
     Inv-loop
     μ-loop
     loop-holds
-    slice-aggregate-set-bit
-    mul-mark
-    shared-slice-read-mark
-    mark-requires
-    set-bit-requires
-    add-i
+    add-end
+    sub-mark-bits
+    part-pattern-start
+    part-pattern-end
+    mul-mark-bits
+    sub-mark-bits-2
+    part-mark-bits-start
+    part-mark-bits-end
+    mark-bits-requires
+    add-q
     loop-less
     loop-again
+    sub-mark-bits-3
+    part-pattern-start-2
+    part-pattern-end-2
+    mul-mark-bits-2
+    sub-mark-bits-4
+    part-mark-bits-start-2
+    part-mark-bits-end-2
+    mark-bits-requires-2
     returns)
