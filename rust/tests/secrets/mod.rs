@@ -1,6 +1,7 @@
 //! Secrets in memory: a child that uses a key is looked through from outside while it holds the secrets and after.
 
 mod child;
+mod freed;
 mod memory;
 mod parts;
 mod stack;
