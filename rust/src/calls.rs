@@ -11,7 +11,7 @@ use crate::{raw, wiping, Refusal};
 
 /// Bytes of stack that the functions here take beyond a C call's: frames, and copies of a station and a reply in builds
 /// without optimisation.
-const FRAMES: usize = 1024;
+const FRAMES: usize = 4096;
 const COPIES: usize = FRAMES + size_of::<raw::Station>() + size_of::<raw::Reply>();
 const _: () = assert!(raw::STACK_OPEN + COPIES + FRAMES <= raw::STACK && raw::STACK_OPEN == raw::STACK_READ);
 
