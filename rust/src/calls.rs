@@ -9,11 +9,14 @@ use std::mem::{size_of, MaybeUninit};
 
 use crate::{raw, wiping, Refusal};
 
-/// Bytes of stack that the functions here take beyond a C call's: frames, and copies of a station and a reply in builds
-/// without optimisation.
+/// Bytes of stack that the functions here take beyond a C call's.
 const FRAMES: usize = 4096;
+/// The same with the copies of station and reply that builds without optimisation make.
 const COPIES: usize = FRAMES + size_of::<raw::Station>() + size_of::<raw::Reply>();
-const _: () = assert!(raw::STACK_OPEN + COPIES + FRAMES <= raw::STACK && raw::STACK_OPEN == raw::STACK_READ);
+/// So much a C call may take, for all to lie in the stack that is made sure of.
+const MOST: usize = raw::STACK - COPIES - FRAMES;
+const _: () = assert!(raw::STACK_LOAD <= MOST && raw::STACK_PUBLISH <= MOST && raw::STACK_DROP <= MOST);
+const _: () = assert!(raw::STACK_OPEN <= MOST && raw::STACK_READ <= MOST && raw::STACK_LOCK <= MOST);
 
 /// Touches [`raw::STACK`] bytes of stack, page after page, so that a call that would not fit ends here.
 #[inline(never)]
