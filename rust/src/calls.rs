@@ -13,10 +13,12 @@ use crate::{raw, wiping, Refusal};
 const FRAMES: usize = 4096;
 /// The same with the copies of station and reply that builds without optimisation make.
 const COPIES: usize = FRAMES + size_of::<raw::Station>() + size_of::<raw::Reply>();
-/// So much a C call may take, for all to lie in the stack that is made sure of.
-const MOST: usize = raw::STACK - COPIES - FRAMES;
-const _: () = assert!(raw::STACK_LOAD <= MOST && raw::STACK_PUBLISH <= MOST && raw::STACK_DROP <= MOST);
-const _: () = assert!(raw::STACK_OPEN <= MOST && raw::STACK_READ <= MOST && raw::STACK_LOCK <= MOST);
+// All of it lies in the stack that is made sure of.
+const _: () = {
+    let most = raw::STACK - COPIES - FRAMES;
+    assert!(raw::STACK_LOAD <= most && raw::STACK_PUBLISH <= most && raw::STACK_DROP <= most);
+    assert!(raw::STACK_OPEN <= most && raw::STACK_READ <= most && raw::STACK_LOCK <= most);
+};
 
 /// Touches [`raw::STACK`] bytes of stack, page after page, so that a call that would not fit ends here.
 #[inline(never)]
