@@ -1,7 +1,8 @@
 //! The C interface as it is: the declarations of `include/shearcotter.h`.
 //!
 //! The functions are unsafe: pointers must be valid for their lengths and not null even with length 0, the buffers of
-//! one call must not overlap, and the thread must have [`STACK`] bytes of stack left.
+//! one call must not overlap, and the thread must have [`STACK`] bytes of stack left. They wipe nothing: stations, replies,
+//! and what a call leaves on the stack are the caller's.
 
 /// The most places of a key, 2^13.
 pub const MOST_PLACES: usize = 8192;
@@ -11,8 +12,20 @@ pub const MOST_ERRORS: usize = 128;
 pub const LONGEST: usize = 256;
 /// Coefficients of a register's connection polynomial.
 pub const COEFFICIENTS: usize = LONGEST + 1;
-/// Bytes of stack that each safe call makes sure of; the calls take at most 172 KiB, the station's argument and reply counted.
+/// Bytes of stack that each safe call makes sure of.
 pub const STACK: usize = 256 * 1024;
+/// Bytes of stack that `shearcotter_load` takes, its argument and reply in the caller included.
+pub const STACK_LOAD: usize = 118 * 1024;
+/// The same for `shearcotter_publish`.
+pub const STACK_PUBLISH: usize = 150 * 1024;
+/// Bytes of stack that `shearcotter_lock` takes.
+pub const STACK_LOCK: usize = 4 * 1024;
+/// The same as [`STACK_LOAD`] for `shearcotter_open`.
+pub const STACK_OPEN: usize = 172 * 1024;
+/// The same for `shearcotter_read`.
+pub const STACK_READ: usize = 172 * 1024;
+/// The same for `shearcotter_drop`.
+pub const STACK_DROP: usize = 49 * 1024;
 
 /// `state` of an empty station.
 pub const EMPTY: u8 = 0;
