@@ -19,7 +19,7 @@
 //!
 //! # Stack
 //!
-//! A call takes up to 172 KiB of stack, 189 without optimisation, since the station passes by value. Each call touches
+//! A call takes up to 171 KiB of stack, 189 without optimisation, since the station passes by value. Each call touches
 //! [`raw::STACK`] bytes of stack first, 256 KiB, so that a thread with less ends at its guard page and nowhere else.
 //!
 //! # Secrets
