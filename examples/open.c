@@ -1,5 +1,5 @@
-/* A key is loaded and published, a pattern locked, capsules opened: document 01's bench key K1, rows P1 to P5 and P7.
- * Prints a line for each row; exits with 1 where an answer is not the document's. Secrets are wiped at the end. */
+/* A key is loaded and published, a pattern locked, capsules opened: the bench key K1 of docs/FORMATS.md.
+ * Prints a line for each row; exits with 1 where an answer is not the expected one. Secrets are wiped at the end. */
 #include <stdio.h>
 #include <string.h>
 

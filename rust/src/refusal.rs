@@ -1,4 +1,4 @@
-//! Why a call is refused: document 01's numbers and conditions, under the names of `include/shearcotter.h`.
+//! Why a call is refused: numbers and conditions, under the names of `include/shearcotter.h`.
 
 use std::error::Error;
 use std::fmt;
