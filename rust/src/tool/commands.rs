@@ -1,14 +1,15 @@
 //! The commands.
 
-use std::ffi::OsString;
+use std::ffi::{OsStr, OsString};
 use std::io::{self, Write};
 use std::path::Path;
+use std::thread;
 
 use shearcotter::{lock, Pattern, Refusal, Shape, Station};
 
 use crate::failure::Failure;
 use crate::files;
-use crate::rows::{self, Rows};
+use crate::rows::{self, Answer, Rows};
 use crate::shapes;
 
 /// A command: its name, its operands (the last `optional` may be missing), its texts, and what it does.
@@ -111,9 +112,9 @@ Lists the standard's shapes with their positions, and the lengths of their files
     },
 ];
 
-fn load(key: &Path) -> Result<(Station, Shape), Failure> {
+fn load(key: &OsStr) -> Result<(Station, Shape), Failure> {
     let file = files::read(key, files::MOST_OF_A_KEY)?;
-    let refused = |refusal| Failure::refused(key, refusal);
+    let refused = |refusal| Failure::refused(Path::new(key), refusal);
     let mut station = Station::fresh();
     station.load(&file).map_err(refused)?;
     let shape = station.shape().ok_or(refused(Refusal::NoKey))?;
@@ -121,7 +122,7 @@ fn load(key: &Path) -> Result<(Station, Shape), Failure> {
 }
 
 fn check(operands: &[OsString]) -> Result<bool, Failure> {
-    let (_, shape) = load(Path::new(&operands[0]))?;
+    let (_, shape) = load(&operands[0])?;
     let name = shape.name().map_or(String::new(), |name| format!(" {name}"));
     let mut out = io::stdout().lock();
     writeln!(out, "accepted {shape}{name}")?;
@@ -130,17 +131,18 @@ fn check(operands: &[OsString]) -> Result<bool, Failure> {
 }
 
 fn publish(operands: &[OsString]) -> Result<bool, Failure> {
-    let (key, out) = (Path::new(&operands[0]), Path::new(&operands[1]));
+    let (key, out) = (&operands[0], &operands[1]);
     files::not_an_input(out, &[key])?;
     let (mut station, _) = load(key)?;
-    let public = station.publish().map_err(|refusal| Failure::refused(key, refusal))?;
-    files::replace(out, &public)?;
+    let public = station.publish().map_err(|refusal| Failure::refused(Path::new(key), refusal))?;
+    files::write(out, &public)?;
     Ok(true)
 }
 
 fn lock_pattern(operands: &[OsString]) -> Result<bool, Failure> {
     let shape = shapes::parse(&operands[0])?;
-    let [public, pattern, out] = [1, 2, 3].map(|i| Path::new(&operands[i]));
+    let [public, pattern, out] = [1, 2, 3].map(|i| operands[i].as_os_str());
+    files::one_standard_input(&[public, pattern])?;
     files::not_an_input(out, &[public, pattern])?;
     let lent = files::read(public, shape.public_length())?;
     let ones = files::read(pattern, shape.pattern_length())?;
@@ -148,7 +150,7 @@ fn lock_pattern(operands: &[OsString]) -> Result<bool, Failure> {
         let both = format!("{} with {}", pattern.display(), public.display());
         Failure::Refused(both, refusal)
     })?;
-    files::replace(out, &capsule)?;
+    files::write(out, &capsule)?;
     Ok(true)
 }
 
@@ -156,24 +158,47 @@ fn places(pattern: &Pattern) -> String {
     pattern.places().map(|place| format!(" {place}")).collect()
 }
 
+/// The rows of the second operand, or of standard input where there is none.
+fn rows_of(operands: &[OsString], length: usize, unit: &'static str) -> Result<Rows, Failure> {
+    let file = operands.get(1).map_or(OsStr::new(files::STANDARD), OsString::as_os_str);
+    Rows::new(file, length, unit, true)
+}
+
+fn one_standard_input(operands: &[OsString]) -> Result<(), Failure> {
+    let mut inputs: Vec<&OsStr> = operands.iter().map(OsString::as_os_str).collect();
+    inputs.resize(2, OsStr::new(files::STANDARD));
+    files::one_standard_input(&inputs)
+}
+
+fn jobs() -> usize {
+    thread::available_parallelism().map_or(1, usize::from)
+}
+
+fn answer(line: String, number: u8) -> Answer {
+    Answer { text: (line + "\n").into_bytes(), notes: String::new(), number }
+}
+
 fn open(operands: &[OsString]) -> Result<bool, Failure> {
-    let key = Path::new(&operands[0]);
-    let (mut station, shape) = load(key)?;
-    station.publish().map_err(|refusal| Failure::refused(key, refusal))?;
-    let rows = Rows::new(operands.get(1), shape.capsule_length(), "capsules")?;
-    rows::each(rows, |position, capsule| match station.open(capsule) {
-        Ok(pattern) => (format!("{position} open{}", places(&pattern)), true),
-        Err(refusal) => (format!("{position} refused {}", refusal.number()), false),
-    })
+    one_standard_input(operands)?;
+    let (mut station, shape) = load(&operands[0])?;
+    station.publish().map_err(|refusal| Failure::refused(Path::new(&operands[0]), refusal))?;
+    let rows = rows_of(operands, shape.capsule_length(), "capsules")?;
+    let counts = rows::each(rows, jobs(), move |position, capsule| match station.open(capsule) {
+        Ok(pattern) => answer(format!("{position} open{}", places(&pattern)), 0),
+        Err(refusal) => answer(format!("{position} refused {}", refusal.number()), refusal.number()),
+    })?;
+    Ok(counts.refused() == 0)
 }
 
 fn read(operands: &[OsString]) -> Result<bool, Failure> {
-    let (station, shape) = load(Path::new(&operands[0]))?;
-    let rows = Rows::new(operands.get(1), shape.pattern_length(), "words")?;
-    rows::each(rows, |_, word| match station.read(word) {
-        Ok(pattern) => (format!("read {}{}", pattern.ones(), places(&pattern)), true),
-        Err(refusal) => (format!("refused {}", refusal.number()), false),
-    })
+    one_standard_input(operands)?;
+    let (station, shape) = load(&operands[0])?;
+    let rows = rows_of(operands, shape.pattern_length(), "words")?;
+    let counts = rows::each(rows, jobs(), move |_, word| match station.read(word) {
+        Ok(pattern) => answer(format!("read {}{}", pattern.ones(), places(&pattern)), 0),
+        Err(refusal) => answer(format!("refused {}", refusal.number()), refusal.number()),
+    })?;
+    Ok(counts.refused() == 0)
 }
 
 fn list_shapes(_: &[OsString]) -> Result<bool, Failure> {
