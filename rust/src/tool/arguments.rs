@@ -43,7 +43,17 @@ fn is_option(word: &OsString) -> bool {
     word.as_encoded_bytes().starts_with(b"-") && word != "-"
 }
 
+/// Temporary, until options are parsed: commands look for these two themselves.
+fn without_temporary(mut words: Vec<OsString>) -> Vec<OsString> {
+    words.retain(|word| word != "--quiet");
+    if let Some(at) = words.iter().position(|word| word == "--jobs") {
+        words.drain(at..words.len().min(at + 2));
+    }
+    words
+}
+
 pub fn parse(words: Vec<OsString>) -> Result<Request, Failure> {
+    let words = without_temporary(words);
     let Some((first, rest)) = words.split_first() else {
         return Err(Failure::usage("no command"));
     };

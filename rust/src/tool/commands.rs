@@ -1,5 +1,6 @@
 //! The commands.
 
+use std::env;
 use std::ffi::{OsStr, OsString};
 use std::io::{self, Write};
 use std::path::Path;
@@ -161,7 +162,7 @@ fn places(pattern: &Pattern) -> String {
 /// The rows of the second operand, or of standard input where there is none.
 fn rows_of(operands: &[OsString], length: usize, unit: &'static str) -> Result<Rows, Failure> {
     let file = operands.get(1).map_or(OsStr::new(files::STANDARD), OsString::as_os_str);
-    Rows::new(file, length, unit, true)
+    Rows::new(file, length, unit, !quiet())
 }
 
 fn one_standard_input(operands: &[OsString]) -> Result<(), Failure> {
@@ -170,8 +171,15 @@ fn one_standard_input(operands: &[OsString]) -> Result<(), Failure> {
     files::one_standard_input(&inputs)
 }
 
+/// Temporary, until options are parsed.
 fn jobs() -> usize {
-    thread::available_parallelism().map_or(1, usize::from)
+    let named = env::args().skip_while(|word| word != "--jobs").nth(1);
+    named.and_then(|jobs| jobs.parse().ok()).unwrap_or(thread::available_parallelism().map_or(1, usize::from))
+}
+
+/// Temporary, until options are parsed.
+fn quiet() -> bool {
+    env::args().any(|word| word == "--quiet")
 }
 
 fn answer(line: String, number: u8) -> Answer {
