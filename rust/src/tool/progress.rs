@@ -62,21 +62,20 @@ fn text(done: u64, total: Option<u64>, unit: &str, elapsed: Duration) -> String 
     let Some(total) = total.filter(|total| *total > 0) else {
         return format!("{done} {unit}");
     };
-    let share = done.min(total) as f64 / total as f64;
-    let percent = (100.0 * share).floor();
-    let words = format!("{percent:3} % {done} of {total} {unit}{}", time_left(share, elapsed));
+    let reached = done.min(total);
+    let share = |whole: usize| (u128::from(reached) * whole as u128 / u128::from(total)) as usize;
+    let words = format!("{:3} % {done} of {total} {unit}{}", share(100), time_left(reached, total, elapsed));
     let width = LONGEST_BAR.min(COLUMNS.saturating_sub("[] ".len() + words.len()));
-    let filled = (share * width as f64) as usize;
-    let bar = format!("[{}{}] {words}", "#".repeat(filled), ".".repeat(width - filled));
+    let bar = format!("[{}{}] {words}", "#".repeat(share(width)), ".".repeat(width - share(width)));
     bar.chars().take(COLUMNS).collect()
 }
 
 /// From the rate so far, rounded up; nothing before the first row and behind the last.
-fn time_left(share: f64, elapsed: Duration) -> String {
-    if share <= 0.0 || share >= 1.0 {
+fn time_left(done: u64, total: u64, elapsed: Duration) -> String {
+    if done == 0 || done == total {
         return String::new();
     }
-    let seconds = elapsed.as_secs_f64() * (1.0 - share) / share;
+    let seconds = elapsed.as_secs_f64() * (total - done) as f64 / done as f64;
     let (count, unit) = match seconds / 60.0 {
         minutes if minutes > 90.0 => (minutes / 60.0, "h"),
         minutes if minutes > 1.5 => (minutes, "min"),
@@ -102,6 +101,7 @@ mod tests {
         assert_eq!(after(12, 3, 3), "[##############################] 100 % 3 of 3 words");
         assert_eq!(after(12, 4, 3), "[##############################] 100 % 4 of 3 words");
         assert!(after(12, 999, 1000).contains(" 99 % "));
+        assert!(after(12, 57, 100).contains(" 57 % "));
     }
 
     #[test]

@@ -357,3 +357,6 @@ impl Writer<'_> {
         self.streams.out.write_all(text)
     }
 }
+
+#[cfg(test)]
+mod tests;

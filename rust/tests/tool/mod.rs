@@ -3,6 +3,7 @@
 mod errors;
 mod outputs;
 mod streams;
+mod terminal;
 mod texts;
 
 use crate::bench_keys::K1;
