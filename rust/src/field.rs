@@ -1,7 +1,7 @@
 //! The fields of 2^m elements, m 4, 12 or 13; an element is a number below 2^m.
 //!
-//! Refused with [`Width`](crate::Refusal::Width) where m is no width, with [`Element`](crate::Refusal::Element)
-//! where an operand is 2^m or more.
+//! Refused with [`BadWidth`](crate::Refusal::BadWidth) where m is no width, with
+//! [`BadElement`](crate::Refusal::BadElement) where an operand is 2^m or more.
 
 use crate::{calls, Refusal};
 

@@ -32,6 +32,7 @@ mod refusal;
 mod register;
 mod shape;
 mod station;
+mod wiping;
 
 pub use locking::{lock, lock_into};
 pub use pattern::Pattern;
@@ -39,3 +40,4 @@ pub use refusal::Refusal;
 pub use register::{register, Register};
 pub use shape::Shape;
 pub use station::Station;
+pub use wiping::wipe;

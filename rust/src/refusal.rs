@@ -1,25 +1,44 @@
-//! Why a call is refused: document 01's numbers and conditions.
+//! Why a call is refused: document 01's numbers and conditions, under the names of `include/shearcotter.h`.
 
 use std::error::Error;
 use std::fmt;
 
 macro_rules! refusals {
     ($($name:ident $number:literal $condition:literal,)*) => {
-        /// Why a call is refused.
+        /// Why a call is refused. The conditions are plain ASCII, and those of `shearcotter_words` in C.
         #[derive(Clone, Copy, PartialEq, Eq, Hash, Debug)]
-        #[repr(u8)]
+        #[non_exhaustive]
         pub enum Refusal {
-            $(#[doc = concat!(stringify!($number), ": ", $condition, ".")] $name = $number,)*
+            $(#[doc = concat!(stringify!($number), ": ", $condition, ".")] $name,)*
+            /// A number that this version does not know: the archive is newer than the crate.
+            Other(u8),
         }
 
         impl Refusal {
-            /// All refusals, by number.
+            /// All refusals that this version knows, by number.
             pub const ALL: &'static [Refusal] = &[$(Refusal::$name),*];
+
+            /// The number.
+            pub const fn number(self) -> u8 {
+                match self {
+                    $(Refusal::$name => $number,)*
+                    Refusal::Other(number) => number,
+                }
+            }
 
             /// The condition in words.
             pub const fn condition(self) -> &'static str {
                 match self {
                     $(Refusal::$name => $condition,)*
+                    Refusal::Other(_) => "a number that this version does not know",
+                }
+            }
+
+            /// The refusal with a number, if this version knows it.
+            pub const fn from_number(number: u8) -> Option<Refusal> {
+                match number {
+                    $($number => Some(Refusal::$name),)*
+                    _ => None,
                 }
             }
         }
@@ -27,44 +46,33 @@ macro_rules! refusals {
 }
 
 refusals! {
-    Width 1 "width missing or not 4, 12, 13",
-    Length 2 "key file ends too early or too late; register list over 256",
-    Shape 3 "shape out of limits; position not 1 to 5",
-    Element 4 "element 2^m or more",
-    SupportTwice 5 "support element twice",
-    Square 6 "a square divides g",
-    Zero 7 "some g(α_i) is 0",
-    ByteLength 8 "word, capsule, pattern or public key of wrong byte length",
-    Filler 9 "filler bit set",
-    OutputShort 10 "output shorter than needed",
-    WorkspaceShort 11 "workspace shorter than needed",
-    Ones 12 "pattern to lock has not t ones",
+    BadWidth 1 "width missing or not 4, 12, 13",
+    BadLength 2 "key file ends too early or too late; register list over 256",
+    BadShape 3 "shape out of limits; position not 1 to 5",
+    BadElement 4 "element 2^m or more",
+    ElementTwice 5 "support element twice",
+    SquareFactor 6 "a square divides g",
+    RootInSupport 7 "some g(a_i) is 0",
+    BadBytes 8 "word, capsule, pattern or public key of wrong byte length",
+    FillerSet 9 "filler bit set",
+    ShortOutput 10 "output shorter than needed",
+    ShortWorkspace 11 "workspace shorter than needed",
+    NotTOnes 12 "pattern to lock has not t ones",
     NoPattern 13 "no pattern for the capsule",
     NoCodeWord 14 "no code word within t places",
     NoKey 21 "no key",
     KeyHeld 22 "a key is held already",
-    Dependent 23 "the first m·t columns are dependent",
+    DependentColumns 23 "the first m*t columns are dependent: no public key",
     NotPublished 24 "not published",
-    KeptKey 25 "the kept key isn't one that load accepts",
+    UnsoundKey 25 "the kept key is not one that load accepts",
 }
 
 impl Refusal {
-    /// The number.
-    pub const fn number(self) -> u8 {
-        self as u8
-    }
-
-    /// The refusal with a number, if there is one.
-    pub fn from_number(number: u8) -> Option<Refusal> {
-        Refusal::ALL.iter().copied().find(|refusal| refusal.number() == number)
-    }
-
-    /// What a call's number says: accepted for 0. The calls hand back no other number than the table's.
+    /// What a call's number says: accepted for 0.
     pub(crate) fn check(number: u8) -> Result<(), Refusal> {
-        match (number, Refusal::from_number(number)) {
-            (0, _) => Ok(()),
-            (_, Some(refusal)) => Err(refusal),
-            (_, None) => panic!("a call answered with number {number}, which no table has"),
+        match number {
+            0 => Ok(()),
+            _ => Err(Refusal::from_number(number).unwrap_or(Refusal::Other(number))),
         }
     }
 }
@@ -76,3 +84,20 @@ impl fmt::Display for Refusal {
 }
 
 impl Error for Refusal {}
+
+#[cfg(test)]
+mod tests {
+    use super::Refusal;
+
+    #[test]
+    fn every_number_has_an_answer() {
+        assert_eq!(Refusal::check(0), Ok(()));
+        for number in 1..=255 {
+            let expected = Refusal::from_number(number).unwrap_or(Refusal::Other(number));
+            assert_eq!(Refusal::check(number), Err(expected));
+            assert_eq!(expected.number(), number);
+        }
+        assert_eq!(Refusal::check(13), Err(Refusal::NoPattern));
+        assert_eq!(Refusal::check(99), Err(Refusal::Other(99)));
+    }
+}

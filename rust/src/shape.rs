@@ -33,17 +33,17 @@ impl Shape {
         Shape::MCELIECE8192128,
     ];
 
-    /// The shape (m, n, t), refused with [`Refusal::Width`] or [`Refusal::Shape`].
+    /// The shape (m, n, t), refused with [`Refusal::BadWidth`] or [`Refusal::BadShape`].
     pub fn new(m: u8, n: u16, t: u16) -> Result<Shape, Refusal> {
         if !matches!(m, 4 | 12 | 13) {
-            return Err(Refusal::Width);
+            return Err(Refusal::BadWidth);
         }
         let (width, places, errors) = (usize::from(m), usize::from(n), usize::from(t));
         let allowed = (1..=raw::MOST_ERRORS).contains(&errors) && width * errors < places && places <= 1 << width;
-        allowed.then_some(Shape { m, n, t }).ok_or(Refusal::Shape)
+        allowed.then_some(Shape { m, n, t }).ok_or(Refusal::BadShape)
     }
 
-    /// The standard's shape at position 1 to 5, else refused with [`Refusal::Shape`].
+    /// The standard's shape at position 1 to 5, else refused with [`Refusal::BadShape`].
     pub fn at(position: u8) -> Result<Shape, Refusal> {
         calls::shape_at(position).map(|shape| Shape { m: shape.m, n: shape.n, t: shape.t })
     }

@@ -2,11 +2,12 @@
 
 use std::fmt;
 
-use crate::{calls, raw, Pattern, Refusal, Shape};
+use crate::{calls, raw, wipe, wiping, Pattern, Refusal, Shape};
 
 /// A station: empty, loaded with a key, or published.
 ///
-/// Its calls take it as the C interface's calls do, by value inside; a refusal leaves it as it was.
+/// Its calls take it as the C interface's calls do, by value inside; a refusal leaves it as it was. The stack that a
+/// call used is wiped after it, and the station when it is dropped.
 pub struct Station {
     raw: Box<raw::Station>,
 }
@@ -29,7 +30,8 @@ impl Station {
         self.raw.state == raw::PUBLISHED
     }
 
-    /// Takes the key of a key file: refused with the first that applies of 22, 1, 2, 3, 4, 5, 6, 7.
+    /// Takes the key of a key file: refused with the first that applies of 22, 1, 2, 3, 4, 5, 6, 7. The file's bytes
+    /// are the caller's to [`wipe`].
     pub fn load(&mut self, file: &[u8]) -> Result<(), Refusal> {
         calls::load(&mut self.raw, file)
     }
@@ -39,13 +41,14 @@ impl Station {
         let shape = self.shape().ok_or(Refusal::NoKey)?;
         let mut public = vec![0; shape.public_length()];
         let mut workspace = vec![0; shape.workspace_length()];
-        self.publish_into(&mut public, &mut workspace)?;
-        Ok(public)
+        let answer = self.publish_into(&mut public, &mut workspace);
+        wipe(&mut workspace);
+        answer.map(|()| public)
     }
 
     /// Writes T from the start of `out`: refused with the first that applies of 21, 10, 11, 23. What the
     /// first [`Shape::workspace_length`] bytes of the workspace hold afterwards is free once 21, 10 and 11
-    /// are passed; every other byte of it stays.
+    /// are passed; every other byte of it stays. They are worked out from the key: the caller's to [`wipe`].
     pub fn publish_into(&mut self, out: &mut [u8], workspace: &mut [u8]) -> Result<(), Refusal> {
         calls::publish(&mut self.raw, out, workspace)
     }
@@ -84,6 +87,12 @@ impl Station {
 
     fn pattern_buffer(&self) -> Vec<u8> {
         vec![0; self.shape().map_or(0, Shape::pattern_length)]
+    }
+}
+
+impl Drop for Station {
+    fn drop(&mut self) {
+        wiping::wipe_station(&mut self.raw);
     }
 }
 

@@ -56,7 +56,7 @@ fn rows_of_k1() {
     assert_eq!(bytes_and_ones(station.read(&[0x13])), (vec![0x00], 0), "P8");
     assert_eq!(bytes_and_ones(station.read(&[0x24])), (vec![0x01], 1), "P9");
     assert_eq!(number(station.read(&[0x06])), 14, "P10");
-    assert_eq!(lock(shape, &public, &[0x00]), Err(Refusal::Ones), "K1 lock 00");
+    assert_eq!(lock(shape, &public, &[0x00]), Err(Refusal::NotTOnes), "K1 lock 00");
 }
 
 #[test]
@@ -64,7 +64,7 @@ fn rows_of_other_keys() {
     let mut twice = K1;
     twice[13] = 1;
     assert_eq!(load_number(&twice), 5, "P11");
-    assert_eq!(loaded(&K3).publish(), Err(Refusal::Dependent), "P12");
+    assert_eq!(loaded(&K3).publish(), Err(Refusal::DependentColumns), "P12");
     assert_eq!(field::multiply(4, 8, 15), Ok(1), "P13");
     let support: Vec<u16> = (0..16).collect();
     let k2 = loaded(&file(4, &support, &[8, 1]));

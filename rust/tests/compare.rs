@@ -37,7 +37,7 @@ fn shape(held: &Held) -> Shape {
 fn same_public_key(station: &mut Station, held: &Held) -> bool {
     let public = station.publish();
     assert_eq!(public.as_deref().ok(), held.public(), "{:?}", held.key);
-    assert_eq!(public.is_err(), public == Err(Refusal::Dependent));
+    assert_eq!(public.is_err(), public == Err(Refusal::DependentColumns));
     public.is_ok()
 }
 

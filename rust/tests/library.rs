@@ -26,7 +26,7 @@ fn positions_names_and_lengths() {
         assert_eq!(Shape::named(&shape.name().expect("a name")), Some(shape));
     }
     for position in [0, 6, 255] {
-        assert_eq!(Shape::at(position), Err(Refusal::Shape));
+        assert_eq!(Shape::at(position), Err(Refusal::BadShape));
     }
     assert_eq!(Shape::MCELIECE6960119.name().as_deref(), Some("mceliece6960119"));
     assert_eq!(Shape::MCELIECE6960119.public_length(), 1_047_319);
@@ -38,9 +38,9 @@ fn positions_names_and_lengths() {
 
 #[test]
 fn shapes_out_of_limits() {
-    assert_eq!(Shape::new(5, 6, 1), Err(Refusal::Width));
+    assert_eq!(Shape::new(5, 6, 1), Err(Refusal::BadWidth));
     for (m, n, t) in [(4, 4, 1), (4, 17, 1), (4, 6, 0), (13, 8192, 129), (12, 4097, 64), (12, 0, 0)] {
-        assert_eq!(Shape::new(m, n, t), Err(Refusal::Shape), "{m},{n},{t}");
+        assert_eq!(Shape::new(m, n, t), Err(Refusal::BadShape), "{m},{n},{t}");
     }
     assert!(Shape::new(4, 5, 1).is_ok() && Shape::new(12, 13, 1).is_ok());
 }
@@ -60,29 +60,29 @@ fn lent_buffers() {
     let mut station = Station::fresh();
     station.load(&K1).expect("load accepts");
     let (mut out, mut work) = ([7; 6], [7; 6]);
-    assert_eq!(station.publish_into(&mut out[..3], &mut work), Err(Refusal::OutputShort));
-    assert_eq!(station.publish_into(&mut out, &mut work[..3]), Err(Refusal::WorkspaceShort));
+    assert_eq!(station.publish_into(&mut out[..3], &mut work), Err(Refusal::ShortOutput));
+    assert_eq!(station.publish_into(&mut out, &mut work[..3]), Err(Refusal::ShortWorkspace));
     assert_eq!((out, work), ([7; 6], [7; 6]));
     assert_eq!(station.publish_into(&mut out, &mut work), Ok(()));
     assert_eq!((out, &work[4..]), ([3, 1, 2, 0, 7, 7], &[7; 2][..]));
     let mut dependent = Station::fresh();
     dependent.load(&K3).expect("load accepts");
     let (mut none, mut work) = ([7; 6], [7; 6]);
-    assert_eq!(dependent.publish_into(&mut none, &mut work), Err(Refusal::Dependent));
+    assert_eq!(dependent.publish_into(&mut none, &mut work), Err(Refusal::DependentColumns));
     assert_eq!((none, &work[4..]), ([7; 6], &[7; 2][..]));
     let mut pattern = [7; 2];
-    assert_eq!(station.open_into(&[3], &mut pattern[..0]), Err(Refusal::OutputShort));
-    assert_eq!(station.read_into(&[0x24], &mut pattern[..0]), Err(Refusal::OutputShort));
+    assert_eq!(station.open_into(&[3], &mut pattern[..0]), Err(Refusal::ShortOutput));
+    assert_eq!(station.read_into(&[0x24], &mut pattern[..0]), Err(Refusal::ShortOutput));
     assert_eq!(station.open_into(&[3], &mut pattern), Ok(1));
     assert_eq!(pattern, [0x10, 7]);
     assert_eq!(station.read_into(&[0x24], &mut pattern), Ok(1));
     assert_eq!(pattern, [0x01, 7]);
     let mut capsule = [7; 2];
-    assert_eq!(lock_into(4, 6, 1, &out[..4], &[0x10], &mut capsule[..0]), Err(Refusal::OutputShort));
+    assert_eq!(lock_into(4, 6, 1, &out[..4], &[0x10], &mut capsule[..0]), Err(Refusal::ShortOutput));
     assert_eq!(lock_into(4, 6, 1, &out[..4], &[0x10], &mut capsule), Ok(()));
     assert_eq!(capsule, [3, 7]);
-    assert_eq!(lock_into(3, 6, 1, &[], &[], &mut []), Err(Refusal::Width));
-    assert_eq!(lock_into(4, 4, 1, &[], &[], &mut []), Err(Refusal::Shape));
+    assert_eq!(lock_into(3, 6, 1, &[], &[], &mut []), Err(Refusal::BadWidth));
+    assert_eq!(lock_into(4, 4, 1, &[], &[], &mut []), Err(Refusal::BadShape));
 }
 
 #[test]
@@ -109,13 +109,13 @@ fn states() {
 fn field_and_register_numbers() {
     assert_eq!(field::add(4, 9, 15), Ok(6));
     assert_eq!(field::invert(13, 0), Ok(0));
-    assert_eq!(field::add(5, 0, 0), Err(Refusal::Width));
-    assert_eq!(field::multiply(12, 4096, 0), Err(Refusal::Element));
+    assert_eq!(field::add(5, 0, 0), Err(Refusal::BadWidth));
+    assert_eq!(field::multiply(12, 4096, 0), Err(Refusal::BadElement));
     let found = register(4, &[0, 15]).expect("a register");
     assert_eq!((found.length(), &found.coefficients()[..4]), (2, &[1, 0, 15, 0][..]));
-    assert_eq!(register(4, &[0; 257]), Err(Refusal::Length));
-    assert_eq!(register(4, &[16]), Err(Refusal::Element));
-    assert_eq!(register(0, &[16; 257]), Err(Refusal::Width));
+    assert_eq!(register(4, &[0; 257]), Err(Refusal::BadLength));
+    assert_eq!(register(4, &[16]), Err(Refusal::BadElement));
+    assert_eq!(register(0, &[16; 257]), Err(Refusal::BadWidth));
     assert_eq!(register(4, &[]).map(|found| found.length()), Ok(0));
 }
 

@@ -16,7 +16,7 @@ pub fn parse(word: &OsStr) -> Result<Shape, Failure> {
         return Err(Failure::usage(format!("no such shape: {text}")));
     };
     let shape = match numbers[..] {
-        [position] => u8::try_from(position).map_or(Err(Refusal::Shape), Shape::at),
+        [position] => u8::try_from(position).map_or(Err(Refusal::BadShape), Shape::at),
         [m, n, t] => by_numbers(m, n, t),
         _ => return Err(Failure::usage(format!("no such shape: {text}"))),
     };
@@ -31,7 +31,7 @@ fn numbers(text: &str) -> Option<Vec<u64>> {
 }
 
 fn by_numbers(m: u64, n: u64, t: u64) -> Result<Shape, Refusal> {
-    let m = u8::try_from(m).map_err(|_| Refusal::Width)?;
+    let m = u8::try_from(m).map_err(|_| Refusal::BadWidth)?;
     let limited = |x: u64| u16::try_from(x).unwrap_or(u16::MAX);
     Shape::new(m, limited(n), limited(t))
 }

@@ -51,7 +51,7 @@ fn refused_keys() {
     let long = folder.write("long.bin", &[4; 300_000]);
     fails(&["check", &long], 1, "refused 2: key file ends too early or too late");
     let k3 = folder.write("k3.bin", &K3);
-    fails(&["open", &k3], 1, "refused 23: the first m·t columns are dependent");
+    fails(&["open", &k3], 1, "refused 23: the first m*t columns are dependent: no public key");
     fails(&["publish", &k3, &folder.at("out")], 1, "refused 23");
 }
 
