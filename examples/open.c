@@ -1,9 +1,10 @@
 /* A key is loaded and published, a pattern locked, capsules opened: document 01's bench key K1, rows P1 to P5 and P7.
- * Prints a line for each row; exits with 1 where an answer is not the document's. */
+ * Prints a line for each row; exits with 1 where an answer is not the document's. Secrets are wiped at the end. */
 #include <stdio.h>
 #include <string.h>
 
 #include "shearcotter.h"
+#include "wipe.h"
 
 enum { M = 4, N = 6, T = 1 };
 
@@ -28,7 +29,7 @@ static void row(const char *name, uint8_t refused, const uint8_t *bytes, size_t 
 {
     printf("%s:%s", name, refused == SHEARCOTTER_ACCEPTED && length == 0 ? " accepted" : "");
     if (refused != SHEARCOTTER_ACCEPTED) {
-        printf(" refused %u", refused);
+        printf(" refused %u, %s", refused, shearcotter_words(refused));
         end(refused == number);
         return;
     }
@@ -49,7 +50,8 @@ static void open_row(const char *name, shearcotter_station station, uint8_t caps
         (number == SHEARCOTTER_ACCEPTED || out[0] == 0));
 }
 
-int main(void)
+/* All calls on the station: what it holds and what the calls leave lies below main's frame. */
+static WIPE_APART void use_key(void)
 {
     uint8_t public_key[sizeof t_rows];
     uint8_t work[SHEARCOTTER_WORK_BYTES(M, N, T)];
@@ -59,6 +61,7 @@ int main(void)
     row("P1 load", reply.refused, k1, 0, SHEARCOTTER_ACCEPTED, k1);
 
     reply = shearcotter_publish(reply.station, public_key, sizeof public_key, work, sizeof work);
+    wipe(work, sizeof work);
     row("P2 publish", reply.refused, public_key, sizeof public_key, SHEARCOTTER_ACCEPTED, t_rows);
 
     uint8_t refused =
@@ -71,5 +74,11 @@ int main(void)
 
     reply = shearcotter_drop(reply.station);
     row("drop", reply.refused, k1, 0, SHEARCOTTER_ACCEPTED, k1);
+}
+
+int main(void)
+{
+    use_key();
+    wipe_stack();
     return differences != 0;
 }

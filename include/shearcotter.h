@@ -7,12 +7,20 @@
  * - Refusals are listed in the order in which they are looked for: the first whose condition holds is answered.
  * - Nothing is allocated or kept between calls, so calls may run at once in several threads.
  * - Stack: enum shearcotter_stack_kib.
+ * - Secret are key files, stations, replies, patterns, publish's workspace, and the stack that a call used. The calls wipe none of
+ *   them: see 'Secrets' below.
+ *
+ * Key files, public keys, capsules, patterns and words, byte by byte: docs/FORMATS.md.
  */
 #ifndef SHEARCOTTER_H
 #define SHEARCOTTER_H
 
 #include <stddef.h>
 #include <stdint.h>
+
+/* The version, and as a number to compare. */
+#define SHEARCOTTER_VERSION "0.1.0"
+#define SHEARCOTTER_VERSION_NUMBER (0 * 10000 + 1 * 100 + 0)
 
 #ifdef __cplusplus
 extern "C" {
@@ -51,31 +59,52 @@ enum shearcotter_state {
     SHEARCOTTER_PUBLISHED = 2  /* so is any other number; stations made by these calls have 0, 1 or 2 */
 };
 
+/* The refusals: X(name, number, words) for each. */
+#define SHEARCOTTER_REFUSALS(X)                                                                        \
+    /* caused by the input */                                                                          \
+    X(SHEARCOTTER_BAD_WIDTH, 1, "width missing or not 4, 12, 13")                                      \
+    X(SHEARCOTTER_BAD_LENGTH, 2, "key file ends too early or too late; register list over 256")        \
+    X(SHEARCOTTER_BAD_SHAPE, 3, "shape out of limits; position not 1 to 5")                            \
+    X(SHEARCOTTER_BAD_ELEMENT, 4, "element 2^m or more")                                               \
+    X(SHEARCOTTER_ELEMENT_TWICE, 5, "support element twice")                                           \
+    X(SHEARCOTTER_SQUARE_FACTOR, 6, "a square divides g")                                              \
+    X(SHEARCOTTER_ROOT_IN_SUPPORT, 7, "some g(a_i) is 0")                                              \
+    X(SHEARCOTTER_BAD_BYTES, 8, "word, capsule, pattern or public key of wrong byte length")           \
+    /* an unused high bit of a last byte */                                                            \
+    X(SHEARCOTTER_FILLER_SET, 9, "filler bit set")                                                     \
+    X(SHEARCOTTER_SHORT_OUTPUT, 10, "output shorter than needed")                                      \
+    X(SHEARCOTTER_SHORT_WORKSPACE, 11, "workspace shorter than needed")                                \
+    X(SHEARCOTTER_NOT_T_ONES, 12, "pattern to lock has not t ones")                                    \
+    X(SHEARCOTTER_NO_PATTERN, 13, "no pattern for the capsule")                                        \
+    X(SHEARCOTTER_NO_CODE_WORD, 14, "no code word within t places")                                    \
+    /* caused by the station */                                                                        \
+    X(SHEARCOTTER_NO_KEY, 21, "no key")                                                                \
+    X(SHEARCOTTER_KEY_HELD, 22, "a key is held already")                                               \
+    X(SHEARCOTTER_DEPENDENT_COLUMNS, 23, "the first m*t columns are dependent: no public key")         \
+    X(SHEARCOTTER_NOT_PUBLISHED, 24, "not published")                                                  \
+    /* a station not made by these calls */                                                            \
+    X(SHEARCOTTER_UNSOUND_KEY, 25, "the kept key is not one that load accepts")
+
 /* What `refused` says. */
-enum shearcotter_refusal {
-    SHEARCOTTER_ACCEPTED = 0,
-    /* caused by the input */
-    SHEARCOTTER_BAD_WIDTH = 1,          /* width missing or not 4, 12, 13 */
-    SHEARCOTTER_BAD_LENGTH = 2,         /* key file ends too early or too late; register list over 256 */
-    SHEARCOTTER_BAD_SHAPE = 3,          /* shape out of limits; position not 1 to 5 */
-    SHEARCOTTER_BAD_ELEMENT = 4,        /* element 2^m or more */
-    SHEARCOTTER_ELEMENT_TWICE = 5,      /* support element twice */
-    SHEARCOTTER_SQUARE_FACTOR = 6,      /* a square divides g */
-    SHEARCOTTER_ROOT_IN_SUPPORT = 7,    /* g is 0 at a support element */
-    SHEARCOTTER_BAD_BYTES = 8,          /* word, capsule, pattern or public key of wrong byte length */
-    SHEARCOTTER_FILLER_SET = 9,         /* an unused high bit of a last byte is set */
-    SHEARCOTTER_SHORT_OUTPUT = 10,      /* output shorter than needed */
-    SHEARCOTTER_SHORT_WORKSPACE = 11,   /* workspace shorter than needed */
-    SHEARCOTTER_NOT_T_ONES = 12,        /* pattern to lock has not t ones */
-    SHEARCOTTER_NO_PATTERN = 13,        /* no pattern for the capsule */
-    SHEARCOTTER_NO_CODE_WORD = 14,      /* no code word within t places */
-    /* caused by the station */
-    SHEARCOTTER_NO_KEY = 21,
-    SHEARCOTTER_KEY_HELD = 22,
-    SHEARCOTTER_DEPENDENT_COLUMNS = 23, /* the first m*t columns are dependent: no public key */
-    SHEARCOTTER_NOT_PUBLISHED = 24,
-    SHEARCOTTER_UNSOUND_KEY = 25        /* the key is not one that load accepts: a station not made by these calls */
-};
+#define SHEARCOTTER_NUMBER(name, number, words) name = number,
+enum shearcotter_refusal { SHEARCOTTER_ACCEPTED = 0, SHEARCOTTER_REFUSALS(SHEARCOTTER_NUMBER) };
+#undef SHEARCOTTER_NUMBER
+
+/* The words of what `refused` says. */
+static inline const char *shearcotter_words(unsigned refused)
+{
+    switch (refused) {
+    case SHEARCOTTER_ACCEPTED:
+        return "accepted";
+#define SHEARCOTTER_CASE(name, number, words) \
+    case name:                                \
+        return words;
+        SHEARCOTTER_REFUSALS(SHEARCOTTER_CASE)
+#undef SHEARCOTTER_CASE
+    default:
+        return "a number that this version does not know";
+    }
+}
 
 /* The support's first n and g's first t numbers are the key's. */
 typedef struct {
@@ -119,6 +148,58 @@ typedef struct {
     size_t length;
     uint16_t c[SHEARCOTTER_COEFFICIENTS];
 } shearcotter_register;
+
+/* The layout that the archive has, in bytes; a compiler that has another stops here. */
+#if defined(__cplusplus) && __cplusplus >= 201103L
+#define SHEARCOTTER_HOLDS(name, condition) static_assert(condition, #name);
+#elif defined(__STDC_VERSION__) && __STDC_VERSION__ >= 201112L
+#define SHEARCOTTER_HOLDS(name, condition) _Static_assert(condition, #name);
+#else
+#define SHEARCOTTER_HOLDS(name, condition) typedef char shearcotter_##name[(condition) ? 1 : -1];
+#endif
+#define SHEARCOTTER_SIZE(type, bytes) SHEARCOTTER_HOLDS(size_of_##type, sizeof(shearcotter_##type) == bytes)
+#define SHEARCOTTER_OFFSET(type, member, bytes) \
+    SHEARCOTTER_HOLDS(offset_of_##type##_##member, offsetof(shearcotter_##type, member) == bytes)
+
+SHEARCOTTER_SIZE(key, 16646)
+SHEARCOTTER_OFFSET(key, m, 0)
+SHEARCOTTER_OFFSET(key, n, 2)
+SHEARCOTTER_OFFSET(key, t, 4)
+SHEARCOTTER_OFFSET(key, support, 6)
+SHEARCOTTER_OFFSET(key, g, 16390)
+SHEARCOTTER_SIZE(station, 16648)
+SHEARCOTTER_OFFSET(station, state, 0)
+SHEARCOTTER_OFFSET(station, key, 2)
+SHEARCOTTER_SIZE(reply, 16652)
+SHEARCOTTER_OFFSET(reply, station, 0)
+SHEARCOTTER_OFFSET(reply, refused, 16648)
+SHEARCOTTER_OFFSET(reply, ones, 16650)
+SHEARCOTTER_SIZE(element, 4)
+SHEARCOTTER_OFFSET(element, refused, 0)
+SHEARCOTTER_OFFSET(element, value, 2)
+SHEARCOTTER_SIZE(shape, 6)
+SHEARCOTTER_OFFSET(shape, refused, 0)
+SHEARCOTTER_OFFSET(shape, m, 1)
+SHEARCOTTER_OFFSET(shape, n, 2)
+SHEARCOTTER_OFFSET(shape, t, 4)
+SHEARCOTTER_SIZE(register, 536)
+SHEARCOTTER_OFFSET(register, refused, 0)
+SHEARCOTTER_OFFSET(register, length, 8)
+SHEARCOTTER_OFFSET(register, c, 16)
+
+#undef SHEARCOTTER_OFFSET
+#undef SHEARCOTTER_SIZE
+#undef SHEARCOTTER_HOLDS
+
+/* Secrets. The calls write to their reply, `out` and `work` and to no other memory but the stack, and leave there what they worked
+ * out: copies of the station, and of the places of a pattern. Who holds a key wipes
+ * - the bytes of the key file once it is loaded, and publish's workspace after publish, refused or not;
+ * - every station and reply, and a pattern, once it is used; drop hands back a fresh station, and the old one stays the caller's;
+ * - the stack. A station passes by value, so the compiler makes copies in the frame of the function that calls, which have no name.
+ *   So all calls go into a function that is not inlined, and its caller wipes the stack below itself when that has returned: the
+ *   call's KiB above, and what the function itself takes.
+ * A plain memset before the end of a variable's life is left out by compilers. examples/wipe.h has both wipes, and examples/open.c
+ * shows them. They do not reach registers, swapped pages, core dumps, or what the caller copied elsewhere. */
 
 /* a + b in the field of width m. Refused: 1, 4. */
 shearcotter_element shearcotter_add(uint8_t m, uint32_t a, uint32_t b);

@@ -1,19 +1,30 @@
-//! The calls on slices: the only unsafe code of the crate.
+//! The calls on slices: with `wiping`, the only unsafe code of the crate.
 //!
 //! Slices give pointers that are valid and not null, and `&mut` keeps the buffers of a call apart; that the stack is
-//! long enough is made sure of before.
+//! long enough is made sure of before. Calls on secrets run where the stack that they used is wiped after them.
 
 #![allow(unsafe_code)]
 
-use std::hint::black_box;
-use std::mem::MaybeUninit;
+use std::mem::{size_of, MaybeUninit};
 
-use crate::{raw, Refusal};
+use crate::{raw, wiping, Refusal};
+
+/// Bytes of stack that the functions here take beyond a C call's: frames, and copies of a station and a reply in builds
+/// without optimisation.
+const FRAMES: usize = 1024;
+const COPIES: usize = FRAMES + size_of::<raw::Station>() + size_of::<raw::Reply>();
+const _: () = assert!(raw::STACK_OPEN + COPIES + FRAMES <= raw::STACK && raw::STACK_OPEN == raw::STACK_READ);
 
 /// Touches [`raw::STACK`] bytes of stack, page after page, so that a call that would not fit ends here.
 #[inline(never)]
 fn touch_stack() {
-    black_box(MaybeUninit::<[u8; raw::STACK]>::uninit().as_mut_ptr());
+    wiping::keep(MaybeUninit::<[u8; raw::STACK]>::uninit().as_ptr().cast());
+}
+
+/// Runs a call on a secret that takes up to `LENGTH` bytes of stack, and wipes them. What it answers is no secret.
+fn secretly<const LENGTH: usize, A>(call: impl FnOnce() -> A) -> A {
+    touch_stack();
+    unsafe { wiping::wiping_stack::<LENGTH, A>(call) }
 }
 
 fn element(answer: raw::Element) -> Result<u16, Refusal> {
@@ -44,20 +55,21 @@ pub(crate) fn register(m: u8, list: &[u16]) -> Result<raw::Register, Refusal> {
 }
 
 pub(crate) fn lock(shape: (u8, u16, u16), public: &[u8], pattern: &[u8], out: &mut [u8]) -> Result<(), Refusal> {
-    touch_stack();
     let (m, n, t) = shape;
-    Refusal::check(unsafe {
-        raw::shearcotter_lock(
-            m,
-            n,
-            t,
-            public.as_ptr(),
-            public.len(),
-            pattern.as_ptr(),
-            pattern.len(),
-            out.as_mut_ptr(),
-            out.len(),
-        )
+    secretly::<{ raw::STACK_LOCK + FRAMES }, _>(|| {
+        Refusal::check(unsafe {
+            raw::shearcotter_lock(
+                m,
+                n,
+                t,
+                public.as_ptr(),
+                public.len(),
+                pattern.as_ptr(),
+                pattern.len(),
+                out.as_mut_ptr(),
+                out.len(),
+            )
+        })
     })
 }
 
@@ -67,38 +79,43 @@ pub(crate) fn fresh() -> raw::Station {
 }
 
 pub(crate) fn load(station: &mut raw::Station, file: &[u8]) -> Result<(), Refusal> {
-    touch_stack();
-    let reply = unsafe { raw::shearcotter_load(*station, file.as_ptr(), file.len()) };
-    *station = reply.station;
-    Refusal::check(reply.refused)
+    secretly::<{ raw::STACK_LOAD + COPIES }, _>(|| {
+        let reply = unsafe { raw::shearcotter_load(*station, file.as_ptr(), file.len()) };
+        *station = reply.station;
+        Refusal::check(reply.refused)
+    })
 }
 
 pub(crate) fn publish(station: &mut raw::Station, out: &mut [u8], work: &mut [u8]) -> Result<(), Refusal> {
-    touch_stack();
-    let reply =
-        unsafe { raw::shearcotter_publish(*station, out.as_mut_ptr(), out.len(), work.as_mut_ptr(), work.len()) };
-    *station = reply.station;
-    Refusal::check(reply.refused)
+    secretly::<{ raw::STACK_PUBLISH + COPIES }, _>(|| {
+        let reply =
+            unsafe { raw::shearcotter_publish(*station, out.as_mut_ptr(), out.len(), work.as_mut_ptr(), work.len()) };
+        *station = reply.station;
+        Refusal::check(reply.refused)
+    })
 }
 
 /// The station that the call hands back is the caller's own.
 pub(crate) fn open(station: &raw::Station, capsule: &[u8], out: &mut [u8]) -> Result<u16, Refusal> {
-    touch_stack();
-    let reply =
-        unsafe { raw::shearcotter_open(*station, capsule.as_ptr(), capsule.len(), out.as_mut_ptr(), out.len()) };
-    Refusal::check(reply.refused).map(|()| reply.ones)
+    secretly::<{ raw::STACK_OPEN + COPIES }, _>(|| {
+        let reply =
+            unsafe { raw::shearcotter_open(*station, capsule.as_ptr(), capsule.len(), out.as_mut_ptr(), out.len()) };
+        Refusal::check(reply.refused).map(|()| reply.ones)
+    })
 }
 
 /// The station that the call hands back is the caller's own.
 pub(crate) fn read(station: &raw::Station, word: &[u8], out: &mut [u8]) -> Result<u16, Refusal> {
-    touch_stack();
-    let reply = unsafe { raw::shearcotter_read(*station, word.as_ptr(), word.len(), out.as_mut_ptr(), out.len()) };
-    Refusal::check(reply.refused).map(|()| reply.ones)
+    secretly::<{ raw::STACK_READ + COPIES }, _>(|| {
+        let reply = unsafe { raw::shearcotter_read(*station, word.as_ptr(), word.len(), out.as_mut_ptr(), out.len()) };
+        Refusal::check(reply.refused).map(|()| reply.ones)
+    })
 }
 
 pub(crate) fn drop_key(station: &mut raw::Station) -> Result<(), Refusal> {
-    touch_stack();
-    let reply = unsafe { raw::shearcotter_drop(*station) };
-    *station = reply.station;
-    Refusal::check(reply.refused)
+    secretly::<{ raw::STACK_DROP + COPIES }, _>(|| {
+        let reply = unsafe { raw::shearcotter_drop(*station) };
+        *station = reply.station;
+        Refusal::check(reply.refused)
+    })
 }

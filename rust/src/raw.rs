@@ -11,8 +11,20 @@ pub const MOST_ERRORS: usize = 128;
 pub const LONGEST: usize = 256;
 /// Coefficients of a register's connection polynomial.
 pub const COEFFICIENTS: usize = LONGEST + 1;
-/// Bytes of stack that each safe call makes sure of; the calls take at most 172 KiB, the station's argument and reply counted.
+/// Bytes of stack that each safe call makes sure of.
 pub const STACK: usize = 256 * 1024;
+/// Bytes of stack that `shearcotter_load` takes, its argument and reply in the caller included.
+pub const STACK_LOAD: usize = 118 * 1024;
+/// The same for `shearcotter_publish`.
+pub const STACK_PUBLISH: usize = 150 * 1024;
+/// Bytes of stack that `shearcotter_lock` takes.
+pub const STACK_LOCK: usize = 4 * 1024;
+/// The same as [`STACK_LOAD`] for `shearcotter_open`.
+pub const STACK_OPEN: usize = 172 * 1024;
+/// The same for `shearcotter_read`.
+pub const STACK_READ: usize = 172 * 1024;
+/// The same for `shearcotter_drop`.
+pub const STACK_DROP: usize = 49 * 1024;
 
 /// `state` of an empty station.
 pub const EMPTY: u8 = 0;

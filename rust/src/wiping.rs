@@ -28,7 +28,35 @@ pub(crate) fn wipe_station(station: &mut raw::Station) {
     keep(ptr::from_ref(station).cast());
 }
 
-/// The stores before count, as if the memory were read here.
-fn keep(start: *const u8) {
+/// The compiler takes the memory as read here, so that what is stored before stays.
+pub(crate) fn keep(start: *const u8) {
     unsafe { asm!("/* {} */", in(reg) start, options(nostack, preserves_flags, readonly)) };
+}
+
+/// Runs a call that leaves secrets on the stack, and wipes the `LENGTH` bytes of stack below this function's frame: what
+/// the call used, since its own frame and all below it lie there. What it answers must be no secret.
+///
+/// The thread must have that much stack left.
+#[inline(never)]
+pub(crate) unsafe fn wiping_stack<const LENGTH: usize, A>(call: impl FnOnce() -> A) -> A {
+    let answer = apart(call);
+    // As for an array of that length, the stack pointer moves for the time of the wipe.
+    asm!(
+        "mov {kept}, rsp",
+        "sub rsp, rcx",
+        "mov rdi, rsp",
+        "rep stosb",
+        "mov rsp, {kept}",
+        kept = out(reg) _,
+        inout("rcx") LENGTH => _,
+        out("rdi") _,
+        in("al") 0_u8,
+    );
+    answer
+}
+
+/// Not inlined, so that what the call holds is below its caller's frame.
+#[inline(never)]
+fn apart<A>(call: impl FnOnce() -> A) -> A {
+    call()
 }

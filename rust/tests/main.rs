@@ -3,8 +3,11 @@
 mod bench_keys;
 mod boundary;
 mod compare;
+mod header;
 mod independent;
 mod library;
+#[cfg(target_os = "linux")]
+mod secrets;
 mod support;
 mod tool;
 mod vectors;

@@ -9,6 +9,7 @@ mod outputs;
 mod patterns;
 mod shell;
 mod streams;
+mod terminal;
 mod texts;
 mod usage;
 mod wiping;

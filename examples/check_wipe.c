@@ -1,0 +1,141 @@
+/* Whether wipe.h wipes: a key file is loaded, published and opened with, and then this program's own memory is looked through for
+ * eight elements of the support in a row. Without wiping they are found; with it they must not be. Linux. */
+#include <stdio.h>
+#include <stdlib.h>
+
+#include "shearcotter.h"
+#include "wipe.h"
+
+enum { M = 12, N = 3488, T = 64, NONE = 0xFFFF, IN_A_ROW = 8 };
+
+static uint8_t file[SHEARCOTTER_FILE_BYTES(N, T)];
+static uint8_t public_key[SHEARCOTTER_PUBLIC_BYTES(M, N, T)];
+static uint8_t work[SHEARCOTTER_WORK_BYTES(M, N, T)];
+static uint8_t pattern[SHEARCOTTER_PATTERN_BYTES(N)];
+static uint8_t capsule[SHEARCOTTER_CAPSULE_BYTES(M, T)];
+
+static FILE *opened(const char *name)
+{
+    FILE *stream = fopen(name, "rb");
+    if (stream == NULL) {
+        perror(name);
+        exit(2);
+    }
+    setvbuf(stream, NULL, _IONBF, 0);
+    return stream;
+}
+
+static void expect(int holds, const char *what)
+{
+    if (!holds) {
+        fprintf(stderr, "check_wipe: %s\n", what);
+        exit(2);
+    }
+}
+
+/* Loads, publishes, locks and opens; the stack is left as it is. */
+static WIPE_APART void use_key(const char *name)
+{
+    FILE *stream = opened(name);
+    expect(fread(file, 1, sizeof file, stream) == sizeof file, "the key file is too short");
+    fclose(stream);
+    shearcotter_reply reply = shearcotter_load(shearcotter_fresh(), file, sizeof file);
+    reply = shearcotter_publish(reply.station, public_key, sizeof public_key, work, sizeof work);
+    for (size_t i = 0; i < T; i++) {
+        pattern[6 * i] = 1;
+    }
+    expect(shearcotter_lock(M, N, T, public_key, sizeof public_key, pattern, sizeof pattern, capsule, sizeof capsule) == 0,
+           "the pattern is not locked");
+    reply = shearcotter_open(reply.station, capsule, sizeof capsule, pattern, sizeof pattern);
+    expect(reply.refused == SHEARCOTTER_ACCEPTED, shearcotter_words(reply.refused));
+}
+
+/* The element that comes after each in the support; the support itself is not kept. */
+static uint16_t after[1 << M];
+
+static void learn(const char *name)
+{
+    FILE *stream = opened(name);
+    unsigned last = 0, element;
+    fseek(stream, 3, SEEK_SET);
+    memset(after, 0xFF, sizeof after);
+    for (size_t i = 0; i < N; i++, last = element) {
+        element = (unsigned)fgetc(stream);
+        element += (unsigned)fgetc(stream) << 8;
+        expect(element < 1 << M, "not a key file");
+        if (i > 0) {
+            after[last] = (uint16_t)element;
+        }
+    }
+    fclose(stream);
+}
+
+/* Whether the bytes are elements of the support in a row. */
+static int in_a_row(const uint8_t *bytes)
+{
+    for (int i = 0; i + 1 < IN_A_ROW; i++) {
+        unsigned element = bytes[2 * i] + 256u * bytes[2 * i + 1], next = bytes[2 * i + 2] + 256u * bytes[2 * i + 3];
+        if (element >= 1 << M || after[element] == NONE || after[element] != next) {
+            return 0;
+        }
+    }
+    return 1;
+}
+
+static size_t found_from(FILE *memory, unsigned long first, unsigned long end)
+{
+    uint8_t bytes[2 * IN_A_ROW] = {0}, block[4096];
+    size_t found = 0;
+    if (fseek(memory, (long)first, SEEK_SET) != 0) {
+        return 0;
+    }
+    for (; first < end; first += sizeof block) {
+        expect(fread(block, 1, sizeof block, memory) == sizeof block, "memory that cannot be read");
+        for (size_t i = 0; i < sizeof block; i++) {
+            memmove(bytes, bytes + 1, sizeof bytes - 1);
+            bytes[sizeof bytes - 1] = block[i];
+            found += (size_t)in_a_row(bytes);
+        }
+    }
+    wipe(bytes, sizeof bytes);
+    wipe(block, sizeof block);
+    return found;
+}
+
+/* How many places of this program's writable memory hold a part of the support. */
+static WIPE_APART size_t found(void)
+{
+    FILE *maps = opened("/proc/self/maps"), *memory = opened("/proc/self/mem");
+    char line[512], rights[5];
+    unsigned long first, end;
+    size_t sum = 0;
+    while (fgets(line, sizeof line, maps) != NULL) {
+        if (sscanf(line, "%lx-%lx %4s", &first, &end, rights) == 3 && strcmp(rights, "rw-p") == 0) {
+            sum += found_from(memory, first, end);
+        }
+    }
+    fclose(memory);
+    fclose(maps);
+    return sum;
+}
+
+static void wipe_buffers(void)
+{
+    wipe(file, sizeof file);
+    wipe(work, sizeof work);
+    wipe(pattern, sizeof pattern);
+}
+
+int main(int count, char **words)
+{
+    expect(count == 2, "usage: check_wipe KEY_OF_MCELIECE348864");
+    learn(words[1]);
+    use_key(words[1]);
+    size_t in_all = found();
+    wipe_buffers();
+    size_t on_stack = found();
+    wipe_stack();
+    size_t left = found();
+    printf("parts of the support in memory: %zu, buffers wiped: %zu, stack wiped: %zu\n", in_all, on_stack, left);
+    return !(in_all > on_stack && on_stack > 0 && left == 0);
+}

@@ -1,0 +1,153 @@
+//! A child that uses a key: this test program again, started for the test `entry` alone.
+//!
+//! At each point it writes a byte to standard error and waits for one on standard input.
+
+use std::fs::File;
+use std::hint::black_box;
+use std::io::{self, Read, Write};
+use std::process::{self, Command, Stdio};
+use std::{env, iter};
+
+use shearcotter::{raw, wipe, Refusal, Shape, Station};
+
+use crate::support::{raw_calls, vectors};
+
+const VARIABLE: &str = "SHEARCOTTER_CHILD";
+pub const FOLDER: &str = "mceliece348864/count0";
+
+/// Whether the child uses the crate's calls, or the raw ones, which wipe nothing.
+#[derive(Clone, Copy, PartialEq, Eq, Debug)]
+pub enum Mode {
+    Crate,
+    Raw,
+}
+
+#[derive(Clone, Copy, PartialEq, Eq, Debug)]
+#[repr(u8)]
+pub enum Point {
+    Empty = b'a',
+    Loaded,
+    Published,
+    Opened,
+    PatternDropped,
+    Refused,
+    Read,
+    StationDropped,
+    LoadedAgain,
+    KeyDropped,
+}
+
+pub struct Child(process::Child);
+
+impl Child {
+    pub fn start(mode: Mode) -> Child {
+        let mut command = Command::new(env::current_exe().expect("this program"));
+        command.args(["--exact", "secrets::child::entry", "--nocapture"]).env(VARIABLE, format!("{mode:?}"));
+        command.stdin(Stdio::piped()).stdout(Stdio::null()).stderr(Stdio::piped());
+        Child(command.spawn().expect("the child starts"))
+    }
+
+    pub fn id(&self) -> u32 {
+        self.0.id()
+    }
+
+    pub fn wait_for(&mut self, point: Point) {
+        let mut mark = [0];
+        let stream = self.0.stderr.as_mut().expect("its standard error");
+        stream.read_exact(&mut mark).expect("a mark from the child");
+        if mark != [point as u8] {
+            let mut text = mark.to_vec();
+            stream.read_to_end(&mut text).expect("what the child says");
+            panic!("no {point:?} from the child, but: {}", String::from_utf8_lossy(&text));
+        }
+    }
+
+    pub fn go_on(&mut self) {
+        self.0.stdin.as_mut().expect("its standard input").write_all(b".").expect("the child waits");
+    }
+
+    pub fn end(mut self) {
+        assert!(self.0.wait().expect("the child ends").success(), "the child failed");
+    }
+}
+
+/// Where a check fails, the child is not left waiting.
+impl Drop for Child {
+    fn drop(&mut self) {
+        drop(self.0.kill());
+        drop(self.0.wait());
+    }
+}
+
+/// The child's part; in an ordinary run of the tests it does nothing.
+#[test]
+fn entry() {
+    match env::var(VARIABLE).as_deref() {
+        Ok("Crate") => with_the_crate(),
+        Ok("Raw") => with_raw_calls(),
+        _ => {}
+    }
+}
+
+fn pause(point: Point) {
+    io::stderr().write_all(&[point as u8]).expect("the parent reads");
+    io::stdin().read_exact(&mut [0]).expect("the parent answers");
+}
+
+/// A file of known length, read without a copy elsewhere.
+fn file<const LENGTH: usize>(name: &str) -> Box<[u8; LENGTH]> {
+    let path = vectors::folder().join(FOLDER).join(name);
+    let mut bytes = Box::new([0; LENGTH]);
+    File::open(path).expect("a file of the vectors").read_exact(&mut bytes[..]).expect("its bytes");
+    bytes
+}
+
+fn load(station: &mut Station) {
+    let mut key = file::<7109>("key.bin");
+    station.load(&key[..]).expect("load accepts");
+    assert_eq!(station.load(&key[..]), Err(Refusal::KeyHeld));
+    wipe(&mut key[..]);
+}
+
+fn with_the_crate() {
+    let mut station = Station::fresh();
+    pause(Point::Empty);
+    load(&mut station);
+    pause(Point::Loaded);
+    station.publish().expect("publish accepts");
+    pause(Point::Published);
+    let capsule = file::<96>("capsule.bin");
+    let pattern = station.open(&capsule[..]).expect("it opens");
+    assert_eq!(pattern.ones(), 64);
+    pause(Point::Opened);
+    drop(pattern);
+    pause(Point::PatternDropped);
+    assert_eq!(station.open(&file::<96>("capsule_reject.bin")[..]), Err(Refusal::NoPattern));
+    pause(Point::Refused);
+    let word: Vec<u8> = capsule.iter().copied().chain(iter::repeat(0)).take(436).collect();
+    assert_eq!(station.read(&word).expect("it reads").clone().ones(), 64);
+    pause(Point::Read);
+    drop(station);
+    pause(Point::StationDropped);
+    let mut again = Station::fresh();
+    load(&mut again);
+    pause(Point::LoadedAgain);
+    again.drop_key().expect("there is a key");
+    pause(Point::KeyDropped);
+    assert_eq!(again.shape(), None);
+}
+
+/// Publishes and opens; the station, the pattern and the workspace are left where they are.
+fn with_raw_calls() {
+    let (key, capsule) = (file::<7109>("key.bin"), file::<96>("capsule.bin"));
+    let shape = Shape::MCELIECE348864;
+    let mut public = vec![0; shape.public_length()];
+    let mut work = vec![0; shape.workspace_length()];
+    let loaded = raw_calls::load(raw_calls::fresh(), &key[..]).station;
+    let published = raw_calls::publish(loaded, &mut public, &mut work).station;
+    let mut pattern = [0; 436];
+    let opened = raw_calls::open(published, &capsule[..], &mut pattern);
+    assert_eq!((opened.refused, opened.station.state), (0, raw::PUBLISHED));
+    pause(Point::Opened);
+    black_box((&opened, &pattern, &work));
+}

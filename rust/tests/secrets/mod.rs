@@ -1,0 +1,64 @@
+//! Secrets in memory: a child that uses a key is looked through from outside while it holds the secrets and after.
+
+mod child;
+mod freed;
+mod memory;
+mod parts;
+mod stack;
+
+use child::{Child, Mode, Point};
+use parts::{Found, Secrets};
+
+const KEY: &str = "support";
+const G: &str = "g";
+const PATTERN: &str = "pattern";
+
+/// What is found in the child at a point.
+fn found_at(child: &mut Child, point: Point, secrets: &Secrets) -> Found {
+    child.wait_for(point);
+    let found = secrets.in_memory(&memory::private(child.id()));
+    child.go_on();
+    found
+}
+
+/// The names are found and no others.
+fn only(found: &Found, names: &[&str], point: Point) {
+    let others: Vec<_> = found.iter().filter(|(name, _)| !names.contains(name)).collect();
+    assert!(others.is_empty(), "at {point:?}, found in memory: {others:?}");
+    for name in names {
+        assert!(found.contains_key(name), "at {point:?}, not found in memory: {name}");
+    }
+}
+
+/// Held secrets are in memory once they are held, and nothing worked out from them; dropped ones are not.
+#[test]
+fn no_secret_outlives_its_owner() {
+    let secrets = Secrets::of_the_vector();
+    let mut child = Child::start(Mode::Crate);
+    for (point, names) in [
+        (Point::Empty, &[][..]),
+        (Point::Loaded, &[KEY, G]),
+        (Point::Published, &[KEY, G]),
+        (Point::Opened, &[KEY, G, PATTERN]),
+        (Point::PatternDropped, &[KEY, G]),
+        (Point::Refused, &[KEY, G]),
+        (Point::Read, &[KEY, G]),
+        (Point::StationDropped, &[]),
+        (Point::LoadedAgain, &[KEY, G]),
+        (Point::KeyDropped, &[]),
+    ] {
+        only(&found_at(&mut child, point, &secrets), names, point);
+    }
+    child.end();
+}
+
+/// The C calls wipe nothing: all that is looked for is what they leave on the stack.
+#[test]
+fn what_the_calls_leave_is_found() {
+    let secrets = Secrets::of_the_vector();
+    let mut child = Child::start(Mode::Raw);
+    let found = found_at(&mut child, Point::Opened, &secrets);
+    child.end();
+    let missing: Vec<_> = secrets.names().into_iter().filter(|name| !found.contains_key(name)).collect();
+    assert!(missing.is_empty(), "not found: {missing:?}; found: {found:?}");
+}

@@ -1,0 +1,58 @@
+//! The stack of a thread, filled with a mark before a call and looked at after it, at the shape that takes the most.
+
+use std::fs::File;
+use std::hint::black_box;
+use std::os::unix::fs::FileExt;
+use std::ptr;
+
+use shearcotter::{lock, raw, Shape, Station};
+
+use crate::support::{raw_calls, vectors};
+
+const MARK: u8 = 0xA5;
+/// What the functions here take themselves.
+const OWN: usize = 4096;
+
+fn file(name: &str) -> Vec<u8> {
+    vectors::file(&format!("mceliece8192128/count0/{name}"))
+}
+
+#[inline(never)]
+fn mark() {
+    black_box(&mut [MARK; raw::STACK]);
+}
+
+/// How many bytes of the stack that a call makes sure of hold neither the mark nor 0 after it.
+#[inline(never)]
+fn left_by(mut call: impl FnMut()) -> usize {
+    let memory = File::open("/proc/self/mem").expect("this program's memory");
+    let mut stack = vec![0; raw::STACK - OWN];
+    let here = ptr::from_ref(&memory) as usize;
+    mark();
+    call();
+    memory.read_exact_at(&mut stack, (here - raw::STACK) as u64).expect("the stack");
+    assert!(stack.contains(&MARK), "no mark is left");
+    stack.iter().filter(|byte| ![0, MARK].contains(byte)).count()
+}
+
+#[test]
+fn calls_leave_zeros_on_the_stack() {
+    let (key, capsule, pattern) = (file("key.bin"), file("capsule.bin"), file("pattern.bin"));
+    let mut station = Station::fresh();
+    let mut public = vec![];
+    assert_eq!(left_by(|| station.load(&key).expect("load accepts")), 0, "load");
+    assert_eq!(left_by(|| public = station.publish().expect("publish accepts")), 0, "publish");
+    assert_eq!(left_by(|| drop(station.open(&capsule).expect("it opens"))), 0, "open");
+    assert_eq!(left_by(|| drop(station.read(&pattern).expect("it reads"))), 0, "read");
+    assert_eq!(left_by(|| drop(lock(Shape::MCELIECE8192128, &public, &pattern).expect("it locks"))), 0, "lock");
+    assert_eq!(left_by(|| station.drop_key().expect("there is a key")), 0, "drop");
+}
+
+#[test]
+fn raw_calls_leave_more_than_zeros() {
+    let key = file("key.bin");
+    let left = left_by(|| {
+        black_box(raw_calls::load(raw_calls::fresh(), &key));
+    });
+    assert!(left > key.len(), "{left} bytes");
+}
