@@ -28,6 +28,12 @@ fn lines() -> Vec<String> {
     (1..=CAPSULES).map(|position| format!("{position} refused 13")).collect()
 }
 
+/// What stands on standard error at the end.
+fn summary(file: &str) -> Vec<String> {
+    let refused = format!("shearcotter: {file}: {CAPSULES} of {CAPSULES} capsules refused");
+    vec![refused, format!("  {CAPSULES} by 13: no pattern for the capsule")]
+}
+
 /// The number behind a word of a bar, and what follows it.
 fn number_in(text: &str) -> Option<(usize, &str)> {
     let end = text.find(|c: char| !c.is_ascii_digit())?;
@@ -59,8 +65,8 @@ fn a_bar_with_the_time_left() {
         let done = done.unwrap_or_else(|| panic!("{bars:?}"));
         assert!(done.len() > 2 && done.is_sorted() && done[0] > 0, "{bars:?}");
         assert!(bars[0].ends_with(" s left"), "{bars:?}");
-        assert_eq!(session.screen(), [""; 0]);
-        assert!(session.written.ends_with('\r') && !session.written.contains('\x1b'), "{:?}", session.written);
+        assert_eq!(session.screen(), summary(&capsules));
+        assert!(!session.written.contains('\x1b'), "{:?}", session.written);
         assert_eq!(fs::read_to_string(&out).expect("lines"), lines().join("\n") + "\n");
     }
 }
@@ -69,7 +75,7 @@ fn a_bar_with_the_time_left() {
 fn the_bar_is_taken_away_before_lines() {
     let (_folder, key, capsules) = long_run();
     let session = session(open(&key, &capsules), None);
-    assert_eq!((session.status, session.screen()), (1, lines()));
+    assert_eq!((session.status, session.screen()), (1, [lines(), summary(&capsules)].concat()));
     assert!(session.bars().len() > 2, "{:?}", session.bars());
 }
 
@@ -86,7 +92,7 @@ fn a_count_where_the_total_is_not_known() {
     for count in counts {
         assert!(number_in(count).is_some_and(|(_, rest)| rest == " capsules"), "{count:?}");
     }
-    assert_eq!(session.screen(), [""; 0]);
+    assert_eq!(session.screen(), summary("standard input"));
 }
 
 #[test]
