@@ -11,6 +11,7 @@ use std::process;
 use shearcotter::wipe;
 
 use crate::failure::Failure;
+use crate::names;
 
 /// The operand for standard input or standard output; a file of that name is `./-`.
 pub const STANDARD: &str = "-";
@@ -102,7 +103,7 @@ pub fn not_an_input(out: &OsStr, inputs: &[&OsStr]) -> Result<(), Failure> {
     };
     if inputs.iter().any(|input| identity(input, standard_input) == Some(target)) {
         let name = if out == STANDARD { Path::new("standard output") } else { Path::new(out) };
-        return Err(Failure::usage(format!("{} is an input too", name.display())));
+        return Err(Failure::usage(format!("{} is an input too", names::shown(name))));
     }
     Ok(())
 }

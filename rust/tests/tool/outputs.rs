@@ -53,20 +53,20 @@ fn a_refusal_leaves_the_output() {
     let (folder, key) = with_k1();
     let out = folder.write("out", b"kept");
     let k3 = folder.write("k3.bin", &K3);
-    fails(&["publish", &k3, &out], 1, "refused 23");
+    fails(&["publish", &k3, &out], 3, "refused 23");
     let public = folder.write("public.bin", &[3, 1, 2, 0]);
-    let cases: [(&[u8], &[u8], &str); 5] = [
-        (&[3, 1, 2, 0], &[0x00], "refused 12: pattern to lock has not t ones"),
-        (&[3, 1, 2, 0], &[0x50], "refused 9: filler bit set"),
-        (&[3, 1, 6, 0], &[0x10], "refused 9: filler bit set"),
-        (&[3, 1, 2, 0, 0], &[0x10], "refused 8: word, capsule, pattern or public key of wrong byte length"),
-        (&[3, 1, 2, 0], &[], "refused 8"),
+    let cases: [(&[u8], &[u8], i32, &str); 5] = [
+        (&[3, 1, 2, 0], &[0x00], 1, "refused 12: pattern to lock has not t ones"),
+        (&[3, 1, 2, 0], &[0x50], 1, "refused 9: filler bit set"),
+        (&[3, 1, 6, 0], &[0x10], 3, "refused 9: filler bit set"),
+        (&[3, 1, 2, 0, 0], &[0x10], 3, "refused 8: public key of wrong byte length"),
+        (&[3, 1, 2, 0], &[], 1, "refused 8: pattern of wrong byte length"),
     ];
-    for (lent, ones, says) in cases {
+    for (lent, ones, status, says) in cases {
         fs::write(&public, lent).expect("a public key");
         let pattern = folder.write("pattern.bin", ones);
-        fails(&["lock", "4,6,1", &public, &pattern, &out], 1, says);
-        fails(&["lock", "4,6,1", &public, &pattern, &folder.at("new")], 1, says);
+        fails(&["lock", "4,6,1", &public, &pattern, &out], status, says);
+        fails(&["lock", "4,6,1", &public, &pattern, &folder.at("new")], status, says);
     }
     fails(&["publish", &key, &key], 2, "key.bin is an input too");
     assert_eq!(fs::read(&out).expect("the output"), b"kept");

@@ -14,8 +14,9 @@ use crate::bench_keys::K1;
 use crate::support::run::{ended, run, status, text, tool, Folder};
 use crate::support::vectors;
 
+/// Some rows are refused; without the summary, which names the file.
 fn some_refused(words: &[&str], input: &[u8], expected: &str) {
-    assert_eq!(outcome(words, input), (1, expected.to_owned(), String::new()), "{words:?}");
+    super::some_refused(&[words, &["--quiet"]].concat(), input, expected, "");
 }
 
 #[test]
@@ -35,11 +36,11 @@ fn open_prints_as_the_opening_program() {
 fn read_prints_count_and_places() {
     let (folder, key) = with_k1();
     let input = [0x13, 0x24, 0x06, 0x53];
-    let lines = "read 0\nread 1 0\nrefused 14\nrefused 9\n";
+    let lines = "1 read 0\n2 read 1 0\n3 refused 14\n4 refused 9\n";
     some_refused(&["read", &key], &input, lines);
     let file = folder.write("words", &input);
     some_refused(&["read", &key, &file], &[], lines);
-    accepted(&["read", &key], &[0x13], "read 0\n");
+    accepted(&["read", &key], &[0x13], "1 read 0\n");
 }
 
 #[test]
@@ -52,8 +53,8 @@ fn a_short_tail_is_refused_8() {
     let input = [&capsule[..], &at("capsule_reject.bin"), &capsule, &capsule[..95]].concat();
     let lines = format!("1 open{places}\n2 refused 13\n3 open{places}\n4 refused 8\n");
     some_refused(&["open", &key], &input, &lines);
-    some_refused(&["read", &key], &pattern[..435], "refused 8\n");
-    let lines = format!("read 64{places}\nrefused 8\n");
+    some_refused(&["read", &key], &pattern[..435], "1 refused 8\n");
+    let lines = format!("1 read 64{places}\n2 refused 8\n");
     some_refused(&["read", &key], &[&pattern[..], &[0]].concat(), &lines);
 }
 
@@ -68,7 +69,7 @@ fn a_long_input_is_read_to_its_end() {
     };
     let lines: String = (1..).zip(&input).map(|(i, capsule)| format!("{i} {}\n", said(capsule))).collect();
     for jobs in ["1", "2", "7"] {
-        let (status, out, error) = outcome(&["open", "--jobs", jobs, &key], &input);
+        let (status, out, error) = outcome(&["open", "--quiet", "--jobs", jobs, &key], &input);
         assert_eq!((status, error.as_str()), (1, ""));
         assert!(out == lines, "{jobs} jobs");
     }
@@ -81,11 +82,11 @@ fn lines_in_order_at_a_standard_shape() {
     let key = folder.write("key.bin", &at("key.bin"));
     let input = [at("capsule.bin"), at("capsule_reject.bin")].concat().repeat(50);
     let file = folder.write("capsules", &input);
-    let one = run(&["open", "--jobs", "1", &key, &file], &[]);
+    let one = run(&["open", "--quiet", "--jobs", "1", &key, &file], &[]);
     assert_eq!(text(&one.stdout).lines().count(), 100);
     for jobs in ["2", "3"] {
-        assert!(run(&["open", "--jobs", jobs, &key, &file], &[]) == one);
-        assert!(run(&["open", "--jobs", jobs, &key], &input) == one);
+        assert!(run(&["open", "--quiet", "--jobs", jobs, &key, &file], &[]) == one);
+        assert!(run(&["open", "--quiet", "--jobs", jobs, &key], &input) == one);
     }
 }
 

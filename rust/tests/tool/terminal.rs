@@ -9,16 +9,13 @@ use crate::support::vectors;
 
 const CAPSULES: usize = 800;
 
-/// A key and as many capsules as take a second or two on one thread; all of them open.
+/// A key and as many capsules as take a second or two on one thread; all of them are refused 13.
 fn long_run() -> (Folder, String, String) {
     let folder = Folder::new();
-    let key = folder.write("key.bin", &part("key.bin"));
-    let capsules = folder.write("capsules", &part("capsule.bin").repeat(CAPSULES));
+    let at = |part: &str| vectors::file(&format!("mceliece8192128/count0/{part}"));
+    let key = folder.write("key.bin", &at("key.bin"));
+    let capsules = folder.write("capsules", &at("capsule_reject.bin").repeat(CAPSULES));
     (folder, key, capsules)
-}
-
-fn part(name: &str) -> Vec<u8> {
-    vectors::file(&format!("mceliece8192128/count0/{name}"))
 }
 
 fn open(key: &str, capsules: &str) -> Command {
@@ -28,10 +25,13 @@ fn open(key: &str, capsules: &str) -> Command {
 }
 
 fn lines() -> Vec<String> {
-    let pattern = part("pattern.bin");
-    let places = (0..8192).filter(|i| pattern[i / 8] >> (i % 8) & 1 == 1);
-    let words: String = places.map(|place| format!(" {place}")).collect();
-    (1..=CAPSULES).map(|position| format!("{position} open{words}")).collect()
+    (1..=CAPSULES).map(|position| format!("{position} refused 13")).collect()
+}
+
+/// What stands on standard error at the end.
+fn summary(file: &str) -> Vec<String> {
+    let refused = format!("shearcotter: {file}: {CAPSULES} of {CAPSULES} capsules refused");
+    vec![refused, format!("  {CAPSULES} by 13: no pattern for the capsule")]
 }
 
 /// The number that a text begins with, and what follows it.
@@ -59,14 +59,14 @@ fn a_bar_with_the_time_left() {
         let mut command = open(&key, &capsules);
         command.env("TERM", terminal);
         let session = session(command, Some(File::create(&out).expect("an output")));
-        assert_eq!(session.status, 0);
+        assert_eq!(session.status, 1);
         let bars = session.bars();
         let done: Option<Vec<usize>> = bars.iter().map(|bar| done_in(bar)).collect();
         let done = done.unwrap_or_else(|| panic!("{bars:?}"));
         assert!(done.len() > 2 && done.is_sorted() && done[0] > 0, "{bars:?}");
         assert!(bars[0].ends_with(" s left"), "{bars:?}");
-        assert_eq!(session.screen(), [""; 0]);
-        assert!(session.written.ends_with('\r') && !session.written.contains('\x1b'), "{:?}", session.written);
+        assert_eq!(session.screen(), summary(&capsules));
+        assert!(!session.written.contains('\x1b'), "{:?}", session.written);
         assert_eq!(fs::read_to_string(&out).expect("lines"), lines().join("\n") + "\n");
     }
 }
@@ -75,8 +75,7 @@ fn a_bar_with_the_time_left() {
 fn the_bar_is_taken_away_before_lines() {
     let (_folder, key, capsules) = long_run();
     let session = session(open(&key, &capsules), None);
-    assert_eq!(session.status, 0);
-    assert!(session.screen() == lines(), "{:?}", session.screen().first());
+    assert_eq!((session.status, session.screen()), (1, [lines(), summary(&capsules)].concat()));
     assert!(session.bars().len() > 2, "{:?}", session.bars());
 }
 
@@ -93,7 +92,7 @@ fn a_count_where_the_total_is_not_known() {
     for count in counts {
         assert!(number_in(count).is_some_and(|(_, rest)| rest == " capsules"), "{count:?}");
     }
-    assert_eq!(session.screen(), [""; 0]);
+    assert_eq!(session.screen(), summary("standard input"));
 }
 
 #[test]
@@ -102,7 +101,7 @@ fn quiet_shows_no_bar() {
     let mut command = open(&key, &capsules);
     command.arg("--quiet");
     let session = session(command, Some(File::create(folder.at("out")).expect("an output")));
-    assert_eq!((session.status, session.written.as_str()), (0, ""));
+    assert_eq!((session.status, session.written.as_str()), (1, ""));
 }
 
 #[test]
