@@ -234,6 +234,17 @@ mod tests {
     }
 
     #[test]
+    fn what_is_left_of_an_input() {
+        let mut input = Input::open(OsStr::new("Cargo.toml")).ok().expect("a file");
+        let length = fs::metadata("Cargo.toml").expect("the file").len();
+        assert_eq!(input.left(), Some(length));
+        input.file.read_exact(&mut [0; 10]).expect("its first bytes");
+        assert_eq!(input.left(), Some(length - 10));
+        let mut input = Input::open(OsStr::new("/dev/zero")).ok().expect("a device");
+        assert_eq!(input.left(), None);
+    }
+
+    #[test]
     fn reads_go_on_until_enough_is_there() {
         for (least, filled) in [(1, 1000), (1000, 1000), (1001, 2000), (5000, 4500)] {
             let mut bytes = [0; 6000];
