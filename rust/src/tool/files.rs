@@ -8,6 +8,8 @@ use std::os::unix::fs::{fchown, MetadataExt, OpenOptionsExt, PermissionsExt};
 use std::path::{Path, PathBuf};
 use std::process;
 
+use shearcotter::wipe;
+
 use crate::failure::Failure;
 use crate::names;
 
@@ -57,7 +59,7 @@ pub fn standard_output() -> io::Result<File> {
 
 /// The file's bytes, and at most one byte past the limit, so that a longer file is still too long.
 ///
-/// The bytes stay where they are read to: what the caller wipes is the only copy.
+/// The bytes stay where they are read to, so that the caller can wipe the only copy.
 pub fn read(name: &OsStr, limit: usize) -> Result<Vec<u8>, Failure> {
     let mut input = Input::open(name)?;
     let mut bytes = vec![0; limit + 1];
@@ -66,7 +68,10 @@ pub fn read(name: &OsStr, limit: usize) -> Result<Vec<u8>, Failure> {
             bytes.truncate(count);
             Ok(bytes)
         }
-        Err(error) => Err(Failure::file(&input.name, error)),
+        Err(error) => {
+            wipe(&mut bytes);
+            Err(Failure::file(&input.name, error))
+        }
     }
 }
 
@@ -193,4 +198,62 @@ fn take_after(file: &File, old: &Metadata) -> io::Result<()> {
         let _ = fchown(file, None, Some(old.gid()));
     }
     file.set_permissions(Permissions::from_mode(old.mode() & 0o777))
+}
+
+#[cfg(test)]
+mod tests {
+    use super::*;
+
+    /// Gives 1,000 bytes at a time, and an interruption before each.
+    struct Slow(usize, bool);
+
+    impl Read for Slow {
+        fn read(&mut self, bytes: &mut [u8]) -> io::Result<usize> {
+            self.1 = !self.1;
+            if self.1 {
+                return Err(io::ErrorKind::Interrupted.into());
+            }
+            let count = self.0.min(bytes.len()).min(1000);
+            self.0 -= count;
+            bytes[..count].fill(7);
+            Ok(count)
+        }
+    }
+
+    #[test]
+    fn a_file_is_read_to_one_place() {
+        let name = std::env::temp_dir().join(format!("shearcotter-files-{}", process::id()));
+        for length in [0, 1, 9_999, 10_000, 10_001, 70_000] {
+            fs::write(&name, vec![7; length]).expect("a file for the test");
+            let bytes = read(name.as_os_str(), 10_000).ok().expect("its bytes");
+            assert!(bytes.iter().all(|byte| *byte == 7));
+            // As long as was reserved at first, so that nothing was moved and left behind.
+            assert_eq!((bytes.len(), bytes.capacity()), (length.min(10_001), 10_001));
+        }
+        fs::remove_file(&name).expect("the file goes");
+    }
+
+    #[test]
+    fn what_is_left_of_an_input() {
+        let mut input = Input::open(OsStr::new("Cargo.toml")).ok().expect("a file");
+        let length = fs::metadata("Cargo.toml").expect("the file").len();
+        assert_eq!(input.left(), Some(length));
+        input.file.read_exact(&mut [0; 10]).expect("its first bytes");
+        assert_eq!(input.left(), Some(length - 10));
+        let mut input = Input::open(OsStr::new("/dev/zero")).ok().expect("a device");
+        assert_eq!(input.left(), None);
+    }
+
+    #[test]
+    fn reads_go_on_until_enough_is_there() {
+        for (least, filled) in [(1, 1000), (1000, 1000), (1001, 2000), (5000, 4500)] {
+            let mut bytes = [0; 6000];
+            let read = read_at_least(&mut Slow(4500, false), &mut bytes, 0, least);
+            assert_eq!(read.ok(), Some(filled));
+            assert!(bytes[..filled].iter().all(|byte| *byte == 7) && bytes[filled..].iter().all(|byte| *byte == 0));
+        }
+        let mut bytes = [0; 10];
+        assert_eq!(read_at_least(&mut Slow(100, false), &mut bytes, 4, 9).ok(), Some(10));
+        assert_eq!(bytes, [0, 0, 0, 0, 7, 7, 7, 7, 7, 7]);
+    }
 }

@@ -118,11 +118,10 @@ fn each_to(
     thread::scope(|scope| {
         // The writer is dropped at the end of this block, and before the workers are waited for.
         let writer = writer;
-        for _ in 0..jobs {
-            start_worker(scope, &queue, length, &answer, Report(report.clone())).map_err(failed)?;
-        }
-        start_reader(reader, empty, Report(report)).map_err(failed)?;
-        writer.run(jobs * FOR_EACH_WORKER).and_then(|(counts, end)| match end {
+        start_reader(reader, empty, Report(report.clone())).map_err(failed)?;
+        let start = || start_worker(scope, &queue, length, &answer, Report(report.clone()));
+        let workers = as_many_as_start(jobs, start).map_err(failed)?;
+        writer.run(workers * FOR_EACH_WORKER).and_then(|(counts, end)| match end {
             Ok(()) => Ok(counts),
             Err(error) => Err(Failure::file(&rows.name, error)),
         })
@@ -262,6 +261,12 @@ fn start_reader(mut reader: Reader, empty: Receiver<Batch>, report: Report) -> i
         }
     };
     Builder::new().name("reader".to_owned()).spawn(run).map(drop)
+}
+
+/// Up to `jobs`, and at least one: with fewer the answers are the same.
+fn as_many_as_start(jobs: usize, start: impl Fn() -> io::Result<()>) -> io::Result<usize> {
+    start()?;
+    Ok(1 + (1..jobs).map_while(|_| start().ok()).count())
 }
 
 fn start_worker<'scope, F: Fn(u64, &[u8]) -> Answer + Sync>(

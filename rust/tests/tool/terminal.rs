@@ -34,7 +34,7 @@ fn summary(file: &str) -> Vec<String> {
     vec![refused, format!("  {CAPSULES} by 13: no pattern for the capsule")]
 }
 
-/// The number behind a word of a bar, and what follows it.
+/// The number that a text begins with, and what follows it.
 fn number_in(text: &str) -> Option<(usize, &str)> {
     let end = text.find(|c: char| !c.is_ascii_digit())?;
     Some((text[..end].parse().ok()?, &text[end..]))

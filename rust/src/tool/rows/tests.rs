@@ -159,11 +159,11 @@ fn notes_stand_behind_their_lines() {
     let page = Page(Arc::default());
     let streams = Streams { out: &mut page.clone(), error: &mut page.clone(), on_terminal: false };
     let answer = |position: u64, _: &[u8]| {
-        let notes = if position % 3 == 0 { format!("note on {position}\n") } else { String::new() };
+        let notes = if position % 3 == 1 { format!("note on {position}\n") } else { String::new() };
         Answer { text: format!("{position}\n").into_bytes(), notes, number: 0 }
     };
     each_to(streams, rows(io::repeat(7).take(1000), 1), 2, answer).ok().expect("all is written");
-    let note = |i: u64| if i % 3 == 0 { format!("{i}\nnote on {i}\n") } else { format!("{i}\n") };
+    let note = |i: u64| if i % 3 == 1 { format!("{i}\nnote on {i}\n") } else { format!("{i}\n") };
     let expected: String = (1..=1000).map(note).collect();
     assert!(*page.0.lock().expect("the page") == expected.into_bytes());
 }
