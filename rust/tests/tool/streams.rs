@@ -5,7 +5,7 @@ use std::fs::{self, File, OpenOptions};
 use std::io::{BufRead, BufReader, Read, Write};
 use std::os::fd::OwnedFd;
 use std::os::unix::net::UnixStream;
-use std::process::{Child, Command, Stdio};
+use std::process::{Child, Stdio};
 use std::thread;
 use std::time::Duration;
 
@@ -88,20 +88,6 @@ fn lines_in_order_at_a_standard_shape() {
         assert!(run(&["open", "--quiet", "--jobs", jobs, &key, &file], &[]) == one);
         assert!(run(&["open", "--quiet", "--jobs", jobs, &key], &input) == one);
     }
-}
-
-#[test]
-fn as_many_threads_as_there_is_room_for() {
-    let (folder, key) = with_k1();
-    let file = folder.write("capsules", &[0x03; 5000]);
-    // 900 stacks do not fit into 300,000 KiB.
-    let line = "ulimit -v 300000; exec \"$0\" open --jobs 900 \"$1\" \"$2\"";
-    let mut shell = Command::new("sh");
-    shell.args(["-c", line, env!("CARGO_BIN_EXE_shearcotter"), &key, &file]);
-    let output = shell.output().expect("the shell starts");
-    let lines: String = (1..=5000).map(|position| format!("{position} open 4\n")).collect();
-    assert_eq!((status(&output), text(&output.stderr)), (0, ""));
-    assert!(text(&output.stdout) == lines);
 }
 
 /// A run with pipes for all three streams.
