@@ -33,12 +33,27 @@ static void expect(int holds, const char *what)
     }
 }
 
+static void read_key(const char *name, uint8_t *bytes)
+{
+    FILE *stream = opened(name);
+    expect(fread(bytes, 1, sizeof file, stream) == sizeof file, "the key file is too short");
+    fclose(stream);
+}
+
+/* Holds copies of the key file and wipes them at the end of their life, where a plain memset would be left out. */
+static WIPE_APART void hold_key(const char *name)
+{
+    uint8_t copies[4][sizeof file];
+    for (size_t i = 0; i < 4; i++) {
+        read_key(name, copies[i]);
+    }
+    wipe(copies, sizeof copies);
+}
+
 /* Loads, publishes, locks and opens; the stack is left as it is. */
 static WIPE_APART void use_key(const char *name)
 {
-    FILE *stream = opened(name);
-    expect(fread(file, 1, sizeof file, stream) == sizeof file, "the key file is too short");
-    fclose(stream);
+    read_key(name, file);
     shearcotter_reply reply = shearcotter_load(shearcotter_fresh(), file, sizeof file);
     reply = shearcotter_publish(reply.station, public_key, sizeof public_key, work, sizeof work);
     for (size_t i = 0; i < T; i++) {
@@ -136,6 +151,9 @@ int main(int count, char **words)
     size_t on_stack = found();
     wipe_stack();
     size_t left = found();
-    printf("parts of the support in memory: %zu, buffers wiped: %zu, stack wiped: %zu\n", in_all, on_stack, left);
-    return !(in_all > on_stack && on_stack > 0 && left == 0);
+    hold_key(words[1]);
+    size_t held = found();
+    printf("parts of the support in memory: %zu, buffers wiped: %zu, stack wiped: %zu, a wiped variable: %zu\n", in_all, on_stack,
+           left, held);
+    return !(in_all > on_stack && on_stack > 0 && left == 0 && held == 0);
 }

@@ -191,15 +191,14 @@ SHEARCOTTER_OFFSET(register, c, 16)
 #undef SHEARCOTTER_SIZE
 #undef SHEARCOTTER_HOLDS
 
-/* Secrets. The calls write to their reply, `out` and `work` and to no other memory but the stack, and leave there what they worked
- * out: copies of the station, and of the places of a pattern. Who holds a key wipes
- * - the bytes of the key file once it is loaded, and publish's workspace after publish, refused or not;
- * - every station and reply, and a pattern, once it is used; drop hands back a fresh station, and the old one stays the caller's;
- * - the stack. A station passes by value, so the compiler makes copies in the frame of the function that calls, which have no name.
- *   So all calls go into a function that is not inlined, and its caller wipes the stack below itself when that has returned: the
- *   call's KiB above, and what the function itself takes.
- * A plain memset before the end of a variable's life is left out by compilers. examples/wipe.h has both wipes, and examples/open.c
- * shows them. They do not reach registers, swapped pages, core dumps, or what the caller copied elsewhere. */
+/* Secrets. On the stack the calls leave copies of the station, and points of the pattern that they found. Who holds a key wipes
+ * - the bytes of the key file after load, and publish's workspace after publish, refused or not;
+ * - each pattern, station and reply after its use; drop hands back a fresh station, and the old one stays the caller's;
+ * - the stack. Stations pass by value, so that the compiler makes copies without a name in the frame of the function that calls.
+ *   All calls go into a function that is not inlined, and once that has returned its caller wipes the stack below its own frame:
+ *   the call's KiB above, and what the function itself takes.
+ * Compilers leave out a plain memset at the end of a variable's life. examples/wipe.h has both wipes; examples/open.c uses them.
+ * Registers, swapped pages and core dumps are not reached. */
 
 /* a + b in the field of width m. Refused: 1, 4. */
 shearcotter_element shearcotter_add(uint8_t m, uint32_t a, uint32_t b);

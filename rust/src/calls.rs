@@ -9,11 +9,16 @@ use std::mem::{size_of, MaybeUninit};
 
 use crate::{raw, wiping, Refusal};
 
-/// Bytes of stack that the functions here take beyond a C call's: frames, and copies of a station and a reply in builds
-/// without optimisation.
-const FRAMES: usize = 1024;
+/// Bytes of stack that the functions here take beyond a C call's.
+const FRAMES: usize = 4096;
+/// The same with the copies of station and reply that builds without optimisation make.
 const COPIES: usize = FRAMES + size_of::<raw::Station>() + size_of::<raw::Reply>();
-const _: () = assert!(raw::STACK_OPEN + COPIES + FRAMES <= raw::STACK && raw::STACK_OPEN == raw::STACK_READ);
+// All of it lies in the stack that is made sure of.
+const _: () = {
+    let most = raw::STACK - COPIES - FRAMES;
+    assert!(raw::STACK_LOAD <= most && raw::STACK_PUBLISH <= most && raw::STACK_DROP <= most);
+    assert!(raw::STACK_OPEN <= most && raw::STACK_READ <= most && raw::STACK_LOCK <= most);
+};
 
 /// Touches [`raw::STACK`] bytes of stack, page after page, so that a call that would not fit ends here.
 #[inline(never)]

@@ -17,8 +17,17 @@
 //! # Ok::<(), shearcotter::Refusal>(())
 //! ```
 //!
-//! A call takes up to 172 KiB of stack, since the station passes by value. Each call touches [`raw::STACK`] bytes of
-//! stack first, so that a thread with less ends at its guard page and nowhere else.
+//! # Stack
+//!
+//! A call takes up to 172 KiB of stack, 189 without optimisation, since the station passes by value. Each call touches
+//! [`raw::STACK`] bytes of stack first, 256 KiB, so that a thread with less ends at its guard page and nowhere else.
+//!
+//! # Secrets
+//!
+//! A [`Station`] and a [`Pattern`] are overwritten with zeros when they are dropped, publish's workspace when it is done,
+//! and the stack that a call used when it returns. The caller's to [`wipe`] are the bytes of a key file, buffers that
+//! were lent, and bytes from [`Pattern::into_bytes`]. Registers, swapped pages and core dumps are not reached, nor what
+//! the calls of [`raw`] leave, nor what [`std::mem::forget`] keeps.
 
 #![deny(missing_docs)]
 #![deny(unsafe_code)]

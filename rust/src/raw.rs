@@ -1,7 +1,8 @@
 //! The C interface as it is: the declarations of `include/shearcotter.h`.
 //!
 //! The functions are unsafe: pointers must be valid for their lengths and not null even with length 0, the buffers of
-//! one call must not overlap, and the thread must have [`STACK`] bytes of stack left.
+//! one call must not overlap, and the thread must have [`STACK`] bytes of stack left. They wipe nothing: stations, replies,
+//! and what a call leaves on the stack are the caller's.
 
 /// The most places of a key, 2^13.
 pub const MOST_PLACES: usize = 8192;

@@ -1,8 +1,10 @@
 //! The safe types: texts, shapes and lengths, buffers of the caller, the station's states.
 
+use std::fmt::Debug;
+use std::marker::PhantomData;
 use std::mem::size_of;
 
-use shearcotter::{field, lock_into, raw, register, Refusal, Shape, Station};
+use shearcotter::{field, lock_into, raw, register, wipe, Pattern, Refusal, Shape, Station};
 
 use crate::bench_keys::{K1, K3};
 
@@ -16,6 +18,41 @@ fn refusals_have_their_numbers_and_words() {
         assert_eq!(refusal.map(Refusal::number), expected.contains(&number).then_some(number));
     }
     assert_eq!(Refusal::NoPattern.to_string(), "refused 13: no pattern for the capsule");
+    assert_eq!(Refusal::Other(99).to_string(), "refused 99: a number that this version does not know");
+    assert!(Refusal::ALL.iter().all(|refusal| refusal.condition().is_ascii()));
+}
+
+/// Whether a type has `Debug`: the constant of the type goes before that of the trait, where it applies.
+struct Shown<T>(PhantomData<T>);
+
+impl<T: Debug> Shown<T> {
+    const SHOWN: bool = true;
+}
+
+trait Hidden {
+    const SHOWN: bool = false;
+}
+
+impl<T> Hidden for Shown<T> {}
+
+#[test]
+fn secrets_are_not_shown() {
+    let structs = [Shown::<raw::Key>::SHOWN, Shown::<raw::Station>::SHOWN, Shown::<raw::Reply>::SHOWN];
+    assert_eq!((structs, Shown::<raw::Element>::SHOWN), ([false; 3], true));
+    let mut station = Station::fresh();
+    station.load(&K1).expect("load accepts");
+    station.publish().expect("publish accepts");
+    assert_eq!(format!("{station:?}"), "Station { shape: Some(Shape { m: 4, n: 6, t: 1 }), published: true, .. }");
+    let opened: Pattern = station.open(&[3]).expect("it opens");
+    assert_eq!((format!("{opened:?}"), opened.into_bytes()), ("Pattern { ones: 1, .. }".to_owned(), vec![0x10]));
+}
+
+#[test]
+fn wipe_overwrites_what_it_is_lent() {
+    let mut bytes = [7; 5];
+    wipe(&mut bytes[1..4]);
+    assert_eq!(bytes, [7, 0, 0, 0, 7]);
+    wipe(&mut []);
 }
 
 #[test]
@@ -99,7 +136,6 @@ fn states() {
     assert_eq!((station.shape(), station.is_published()), (Shape::new(4, 6, 1).ok(), false));
     station.publish().expect("publish accepts");
     assert!(station.is_published());
-    assert_eq!(format!("{station:?}"), "Station { shape: Some(Shape { m: 4, n: 6, t: 1 }), published: true, .. }");
     assert_eq!(station.drop_key(), Ok(()));
     assert_eq!((station.shape(), station.is_published()), (None, false));
     station.load(&K1).expect("load accepts again");

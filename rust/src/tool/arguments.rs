@@ -72,18 +72,23 @@ pub fn parse(words: &[OsString]) -> Result<Request, Failure> {
     let Some((first, rest)) = words.split_first() else {
         return Err(Failure::usage("no command"));
     };
+    let end = words.iter().position(|word| word == "--").unwrap_or(words.len());
+    if words[..end].iter().any(is_help) {
+        return help_among(&words[..end]).map(Request::Text);
+    }
     if first == "--version" || first == "-V" {
         return Ok(Request::Text(help::version()));
     }
-    let command = if is_help(first) { commands::named("help") } else { commands::named(first) };
-    let Some(command) = command else {
-        return Err(no_such_command(first));
-    };
-    let end = rest.iter().position(|word| word == "--").unwrap_or(rest.len());
-    if rest[..end].iter().any(is_help) {
-        return Ok(Request::Text(help::of_command(command)));
-    }
+    let command = commands::named(first).ok_or_else(|| no_such_command(first))?;
     given(command, rest).map(Request::Run).map_err(|failure| failure.of(command.name))
+}
+
+/// The help of the command that the words name first, or of the tool.
+fn help_among(words: &[OsString]) -> Result<String, Failure> {
+    match words.iter().find(|word| !is_option(word)) {
+        Some(word) => commands::named(word).map(help::of_command).ok_or_else(|| no_such_command(word)),
+        None => Ok(help::of_tool()),
+    }
 }
 
 fn no_such_command(word: &OsStr) -> Failure {
@@ -196,16 +201,13 @@ fn known(operand: &Operand, word: &OsStr) -> Result<(), Failure> {
 
 /// One input at most is standard input, and no output is an input.
 fn streams(given: &Given) -> Result<(), Failure> {
-    let of_kind = |input: bool| {
-        let pairs = given.command.operands.iter().zip(&given.operands);
-        let wanted = pairs.filter(move |(operand, _)| match operand.kind {
-            Kind::Input => input,
-            Kind::Output => !input,
-            _ => false,
-        });
-        wanted.map(|(_, word)| word.as_os_str()).collect::<Vec<_>>()
-    };
-    let inputs = of_kind(true);
+    let inputs = files_of(given, |kind| matches!(kind, Kind::Input));
+    let outputs = files_of(given, |kind| matches!(kind, Kind::Output));
     files::one_standard_input(&inputs)?;
-    of_kind(false).into_iter().try_for_each(|out| files::not_an_input(out, &inputs))
+    outputs.into_iter().try_for_each(|out| files::not_an_input(out, &inputs))
+}
+
+fn files_of(given: &Given, wanted: fn(&Kind) -> bool) -> Vec<&OsStr> {
+    let operands = given.command.operands.iter().zip(&given.operands);
+    operands.filter(|(operand, _)| wanted(&operand.kind)).map(|(_, word)| word.as_os_str()).collect()
 }

@@ -3,8 +3,8 @@
 use std::ffi::OsStr;
 
 use crate::arguments::Given;
-use crate::table::{Choice, Command, Kind, Operand, Takes, Word};
-use crate::{completions, help, keys, locking, manual, opening, shapes};
+use crate::table::{Choice, Command, Kind, Operand, Takes};
+use crate::{completions, formats, help, keys, locking, manual, opening, shapes};
 
 pub const FORMAT: &str = "--format";
 pub const JOBS: &str = "--jobs";
@@ -13,15 +13,8 @@ pub const EXPLAIN: &str = "--explain";
 /// The most threads that may be asked for.
 pub const MOST_JOBS: usize = 1024;
 
-const FORMATS: &[Word] = &[
-    Word { name: "places", about: "the places of the ones, rising, from 0, split by blanks" },
-    Word { name: "hex", about: "the pattern's bytes as one hexadecimal word" },
-    Word { name: "raw", about: "the pattern's bytes, back to back, and nothing else" },
-    Word { name: "json", about: "an object a line: position, answer, number, words, ones and places" },
-];
-
 const fn format(default: &'static str) -> Choice {
-    let takes = Takes::OneOf { value: "FORMAT", words: FORMATS, default };
+    let takes = Takes::OneOf { value: "FORMAT", words: formats::WORDS, default };
     Choice { name: FORMAT, short: None, takes, about: "how patterns are written" }
 }
 

@@ -4,6 +4,7 @@ use shearcotter::Pattern;
 
 use crate::explain::Explained;
 use crate::rows::Answer;
+use crate::table::Word;
 use crate::{failure, json};
 
 #[derive(Clone, Copy, PartialEq, Eq)]
@@ -14,15 +15,21 @@ pub enum Format {
     Json,
 }
 
+/// The formats by their words, in the order of `WORDS`.
+const FORMATS: [Format; 4] = [Format::Places, Format::Hex, Format::Raw, Format::Json];
+
+pub const WORDS: &[Word] = &[
+    Word { name: "places", about: "the places of the ones, rising, from 0, split by blanks" },
+    Word { name: "hex", about: "the pattern's bytes as one hexadecimal word" },
+    Word { name: "raw", about: "the pattern's bytes, back to back, and nothing else" },
+    Word { name: "json", about: "an object a line: position, answer, number, words, ones and places" },
+];
+
 impl Format {
-    /// By its word in the table of commands.
+    /// By one of the words; the parsing takes no other.
     pub fn named(word: &str) -> Format {
-        match word {
-            "hex" => Format::Hex,
-            "raw" => Format::Raw,
-            "json" => Format::Json,
-            _ => Format::Places,
-        }
+        let place = WORDS.iter().position(|known| known.name == word);
+        FORMATS[place.unwrap_or_default()]
     }
 }
 
@@ -84,7 +91,7 @@ impl Form {
         let Explained { number, words, found } = explained;
         let answer = json_answer(position, REFUSED, *number, words);
         let wanted = self.explain && !found.is_empty();
-        let found = if wanted { format!(",\"found\":{}", json::quoted(found)) } else { String::new() };
+        let found = if wanted { format!(",\"explained\":{}", json::quoted(found)) } else { String::new() };
         format!("{{{answer}{found}}}")
     }
 }
@@ -98,5 +105,6 @@ fn separated(pattern: &Pattern, separator: &str) -> String {
 }
 
 fn hex(bytes: &[u8]) -> String {
-    bytes.iter().map(|byte| format!("{byte:02x}")).collect()
+    let digit = |half: u8| char::from(b"0123456789abcdef"[usize::from(half)]);
+    bytes.iter().flat_map(|byte| [digit(byte >> 4), digit(byte & 15)]).collect()
 }

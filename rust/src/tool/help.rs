@@ -47,7 +47,7 @@ pub fn about(choice: &Choice) -> String {
     }
 }
 
-fn of_tool() -> String {
+pub fn of_tool() -> String {
     let mut text = format!("shearcotter {ABOUT}, and does what belongs to it.\n\n");
     text += "Usage: shearcotter COMMAND [OPTION]... [OPERAND]...\n       shearcotter --version\n\nCommands:\n";
     text += &entries(COMMANDS.iter().map(|command| (command.words(), command.about.to_owned())));

@@ -7,6 +7,23 @@ use crate::help::{self, ABOUT, CONVENTIONS};
 use crate::status::STATUSES;
 use crate::table::{Choice, Command, COMMON};
 
+const EXAMPLES: &str = "\
+A public key, a capsule locked with it, and capsules opened:
+
+    shearcotter publish office.key office.pub
+    shearcotter lock mceliece348864 office.pub pattern capsule
+    shearcotter open office.key capsules
+
+Capsules from a pipe, opened on four threads, as objects:
+
+    cat *.capsule | shearcotter open --jobs 4 --format json office.key
+
+Patterns as they were printed, locked again:
+
+    shearcotter open --format hex office.key capsules > patterns
+    shearcotter lock --format hex 1 office.pub patterns again
+";
+
 pub fn page() -> String {
     let mut page = Page(String::new());
     page.title();
@@ -23,6 +40,8 @@ pub fn page() -> String {
     for (status, meaning) in STATUSES {
         page.entry(&status.number().to_string(), meaning);
     }
+    page.macro_line("SH", &["EXAMPLES"]);
+    page.details(EXAMPLES);
     page.0
 }
 

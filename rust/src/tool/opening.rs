@@ -67,11 +67,9 @@ fn jobs(given: &Given) -> usize {
 /// How many rows were refused, and by which numbers.
 fn summary(file: &str, kind: Row, counts: &Counts) -> String {
     let mut text = format!("{file}: {} of {} {} refused", counts.refused(), counts.total(), kind.plural());
-    for refusal in Refusal::ALL {
-        let (number, count) = (refusal.number(), counts.of(refusal.number()));
-        if count > 0 {
-            text += &format!("\n  {count} by {number}: {}", explain::words(kind, *refusal));
-        }
+    for number in (1..=u8::MAX).filter(|number| counts.of(*number) > 0) {
+        let refusal = Refusal::from_number(number).unwrap_or(Refusal::Other(number));
+        text += &format!("\n  {} by {number}: {}", counts.of(number), explain::words(kind, refusal));
     }
     text
 }

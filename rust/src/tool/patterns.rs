@@ -169,7 +169,7 @@ fn hexadecimal(word: &str) -> Result<Vec<u8>, String> {
         |c: char| c.to_digit(16).ok_or_else(|| format!("{} is no hexadecimal digit", names::shown(c.to_string())));
     let digits = word.chars().map(digit).collect::<Result<Vec<u32>, String>>()?;
     if digits.len() % 2 == 1 {
-        return Err(format!("half a byte: {} hexadecimal digits", digits.len()));
+        return Err(format!("an odd number of hexadecimal digits, {}", digits.len()));
     }
     Ok(digits.chunks(2).map(|pair| (16 * pair[0] + pair[1]) as u8).collect())
 }

@@ -117,12 +117,15 @@ pub struct Command {
 impl Command {
     /// The name and the operands.
     pub fn words(&self) -> String {
-        let operands = self.operands.iter().map(|operand| format!(" {}", operand.in_usage()));
-        format!("{}{}", self.name, operands.collect::<String>())
+        format!("{}{}", self.name, self.operand_words())
     }
 
     pub fn usage(&self) -> String {
-        self.words().replacen(self.name, &format!("shearcotter {} [OPTION]...", self.name), 1)
+        format!("shearcotter {} [OPTION]...{}", self.name, self.operand_words())
+    }
+
+    fn operand_words(&self) -> String {
+        self.operands.iter().map(|operand| format!(" {}", operand.in_usage())).collect()
     }
 
     pub fn options(&self) -> impl Iterator<Item = &'static Choice> {

@@ -3,7 +3,7 @@
 use std::fs::{self, File};
 use std::os::unix::fs::FileExt;
 
-/// A stretch of memory: its name in the maps, `[stack]` and the like, its first address and its bytes.
+/// A stretch of memory: its name in the maps, `[stack]` and the like, and its bytes.
 pub struct Stretch {
     pub name: String,
     pub bytes: Vec<u8>,
@@ -30,7 +30,7 @@ fn stretch(line: &str, memory: &File) -> Option<Stretch> {
     Some(Stretch { name: name.to_owned(), bytes: bytes(memory, first, (end - first) as usize) })
 }
 
-pub fn bytes(memory: &File, first: u64, length: usize) -> Vec<u8> {
+fn bytes(memory: &File, first: u64, length: usize) -> Vec<u8> {
     let mut bytes = vec![0; length];
     memory.read_exact_at(&mut bytes, first).unwrap_or_else(|error| panic!("memory from {first:x}: {error}"));
     bytes

@@ -52,7 +52,7 @@ fn no_secret_outlives_its_owner() {
     child.end();
 }
 
-/// The C calls wipe nothing: all that is looked for is what they leave on the stack.
+/// The raw calls wipe nothing: after them, all that is looked for is found.
 #[test]
 fn what_the_calls_leave_is_found() {
     let secrets = Secrets::of_the_vector();

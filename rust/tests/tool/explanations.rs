@@ -130,7 +130,7 @@ fn rows_explained() {
     let says = "1 refused 8: word of wrong byte length: expected 436 bytes, found 1\n";
     some_refused(&["read", &key, "--explain", "--quiet"], &[0], says, "");
     let object = r#"{"position":1,"answer":"refused","number":8,"words":"capsule of wrong byte length""#;
-    let found = format!("{object},\"found\":\"expected 96 bytes, found 95\"}}\n");
+    let found = format!("{object},\"explained\":\"expected 96 bytes, found 95\"}}\n");
     some_refused(&["open", &key, "--explain", "--format=json"], &[0; 95], &found, "");
     some_refused(&["open", &key, "--quiet", "--format=json"], &[0; 95], &format!("{object}}}\n"), "");
 }

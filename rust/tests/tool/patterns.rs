@@ -79,7 +79,7 @@ fn lines_of_places_that_are_none() {
 #[test]
 fn lines_of_hexadecimal_that_are_none() {
     let hex = |lines: &str, says: &str| leaves("hex", lines.as_bytes(), 2, says);
-    hex("10\n1\n", "line 2: half a byte: 1 hexadecimal digits\n");
+    hex("10\n1\n", "line 2: an odd number of hexadecimal digits, 1\n");
     hex("1g\n", "line 1: g is no hexadecimal digit\n");
     hex("0x10\n", "line 1: x is no hexadecimal digit\n");
     hex("10 01\n", "line 1: more than one hexadecimal word\n");

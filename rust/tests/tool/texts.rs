@@ -28,7 +28,7 @@ fn help(words: &[&str]) -> String {
 #[test]
 fn help_names_every_command() {
     let text = help(&["help"]);
-    for words in [&["--help"], &["-h"]] {
+    for words in [&["--help"][..], &["-h"], &["--quiet", "--help"], &["--version", "-h"]] {
         assert_eq!(help(words), text);
     }
     for command in COMMANDS {

@@ -11,6 +11,7 @@ fn commands() {
     fails(&[""], 2, "no such command: ; see");
     fails(&["-"], 2, "no such command: -; see");
     fails(&["--quiet", "open"], 2, "no such option before the command: --quiet; see");
+    fails(&["raed", "--help"], 2, "no such command: raed; the nearest is read; see shearcotter help\n");
     fails(&["help", "raed"], 2, "no such command: raed; the nearest is read; see shearcotter help help");
     fails(&["completions", "zsh"], 2, "SHELL takes bash, not zsh; see shearcotter help completions");
 }

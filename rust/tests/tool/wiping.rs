@@ -30,15 +30,17 @@ fn occurrences(process: u32, bytes: &[u8]) -> usize {
 #[test]
 fn no_bytes_of_the_key_file_are_left() {
     let (folder, _) = with_k1();
-    let (file, capsule) = (standard("key.bin"), standard("capsule.bin"));
+    let (file, word) = (standard("key.bin"), standard("pattern.bin"));
     let key = folder.write("large.key", &file);
-    let mut open = tool();
-    open.args(["open", &key]).stdin(Stdio::piped()).stdout(Stdio::piped());
-    let mut child = open.spawn().expect("the tool starts");
+    let mut read = tool();
+    // The allocator keeps what is freed, so that it can be looked at.
+    read.env("MALLOC_MMAP_THRESHOLD_", "33554432").env("MALLOC_TRIM_THRESHOLD_", "33554432");
+    read.args(["read", &key]).stdin(Stdio::piped()).stdout(Stdio::piped());
+    let mut child = read.spawn().expect("the tool starts");
     let mut input = child.stdin.take().expect("its standard input");
-    input.write_all(&capsule).expect("a capsule");
+    input.write_all(&word).expect("a word");
     let mut lines = BufReader::new(child.stdout.take().expect("its standard output")).lines();
-    assert!(lines.next().expect("a line").expect("text").starts_with("1 open "));
+    assert!(lines.next().expect("a line").expect("text").starts_with("1 read 64 "));
     // The station has the support and g apart: only the file has t between them.
     let between = &file[3 + 2 * 3480..7 + 2 * 3496];
     assert_eq!(occurrences(child.id(), between), 0);
