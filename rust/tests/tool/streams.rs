@@ -3,9 +3,9 @@
 
 use std::fs::{self, File, OpenOptions};
 use std::io::{BufRead, BufReader, Read, Write};
-use std::net::{TcpListener, TcpStream};
 use std::os::fd::OwnedFd;
-use std::process::{Child, Command, Stdio};
+use std::os::unix::net::UnixStream;
+use std::process::{Child, Stdio};
 use std::thread;
 use std::time::Duration;
 
@@ -90,20 +90,6 @@ fn lines_in_order_at_a_standard_shape() {
     }
 }
 
-#[test]
-fn as_many_threads_as_there_is_room_for() {
-    let (folder, key) = with_k1();
-    let file = folder.write("capsules", &[0x03; 5000]);
-    // 900 stacks do not fit into 300,000 KiB.
-    let line = "ulimit -v 300000; exec \"$0\" open --jobs 900 \"$1\" \"$2\"";
-    let mut shell = Command::new("sh");
-    shell.args(["-c", line, env!("CARGO_BIN_EXE_shearcotter"), &key, &file]);
-    let output = shell.output().expect("the shell starts");
-    let lines: String = (1..=5000).map(|position| format!("{position} open 4\n")).collect();
-    assert_eq!((status(&output), text(&output.stderr)), (0, ""));
-    assert!(text(&output.stdout) == lines);
-}
-
 /// A run with pipes for all three streams.
 fn start(words: &[&str]) -> Child {
     let mut command = tool();
@@ -151,9 +137,7 @@ fn a_capsule_comes_in_pieces() {
 #[test]
 fn a_read_fails_behind_three_capsules() {
     let (_folder, key) = with_k1();
-    let listener = TcpListener::bind("127.0.0.1:0").expect("a socket");
-    let mut near = TcpStream::connect(listener.local_addr().expect("its address")).expect("a connection");
-    let (mut far, _) = listener.accept().expect("its other end");
+    let (mut near, mut far) = UnixStream::pair().expect("two sockets");
     let stdin = OwnedFd::from(far.try_clone().expect("a second handle"));
     let mut command = tool();
     command.args(["open", "--jobs", "2", &key]).stdin(stdin).stdout(Stdio::piped()).stderr(Stdio::piped());
@@ -165,7 +149,6 @@ fn a_read_fails_behind_three_capsules() {
     }
     // An end that is closed with a byte not read resets the connection.
     far.write_all(&[0]).expect("a byte");
-    let _ = near.peek(&mut [0]).expect("the byte has come");
     drop(near);
     assert!(lines.next().is_none());
     assert_eq!(ended(&mut child), 2);

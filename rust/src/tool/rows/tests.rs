@@ -128,6 +128,19 @@ fn as_many_rows_at_a_time_as_jobs() {
 }
 
 #[test]
+fn fewer_workers_where_not_all_start() {
+    let started = |room: usize| {
+        let count = AtomicUsize::new(0);
+        let start = || match count.fetch_add(1, Ordering::Relaxed) {
+            earlier if earlier < room => Ok(()),
+            _ => Err(ErrorKind::WouldBlock.into()),
+        };
+        as_many_as_start(4, start).ok()
+    };
+    assert_eq!([0, 1, 3, 4, 9].map(started), [None, Some(1), Some(3), Some(4), Some(4)]);
+}
+
+#[test]
 fn quick_rows_travel_together_and_slow_ones_alone() {
     let mut out = Lengths(vec![]);
     let quick = |_: u64, _: &[u8]| Answer { text: vec![0], notes: String::new(), number: 0 };
