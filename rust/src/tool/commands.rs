@@ -1,184 +1,215 @@
-//! The commands.
+//! The table of commands: a new command is a new entry.
 
-use std::ffi::OsString;
-use std::io::{self, Write};
-use std::path::Path;
+use std::ffi::OsStr;
 
-use shearcotter::{lock, Pattern, Refusal, Shape, Station};
+use crate::arguments::Given;
+use crate::table::{Choice, Command, Kind, Operand, Takes};
+use crate::{completions, formats, help, keys, locking, manual, opening, shapes};
 
-use crate::failure::Failure;
-use crate::files;
-use crate::rows::{self, Rows};
-use crate::shapes;
+pub const FORMAT: &str = "--format";
+pub const JOBS: &str = "--jobs";
+pub const EXPLAIN: &str = "--explain";
 
-/// A command: its name, its operands (the last `optional` may be missing), its texts, and what it does.
-pub struct Command {
-    pub name: &'static str,
-    operands: &'static [&'static str],
-    optional: usize,
-    pub about: &'static str,
-    pub details: &'static str,
-    /// Whether everything was accepted.
-    pub run: fn(&[OsString]) -> Result<bool, Failure>,
+/// The most threads that may be asked for.
+pub const MOST_JOBS: usize = 1024;
+
+const fn format(default: &'static str) -> Choice {
+    let takes = Takes::OneOf { value: "FORMAT", words: formats::WORDS, default };
+    Choice { name: FORMAT, short: None, takes, about: "how patterns are written" }
 }
 
-impl Command {
-    pub fn usage(&self) -> String {
-        let needed = self.operands.len() - self.optional;
-        let word = |(i, name): (usize, &&str)| {
-            if i < needed {
-                format!(" {name}")
-            } else {
-                format!(" [{name}]")
-            }
-        };
-        let operands: String = self.operands.iter().enumerate().map(word).collect();
-        format!("shearcotter {}{operands}", self.name)
-    }
+const ROWS: &[Choice] = &[
+    format("places"),
+    Choice {
+        name: JOBS,
+        short: None,
+        takes: Takes::Number { value: "N", least: 1, most: MOST_JOBS },
+        about: "rows on N threads, in their order all the same; the machine's cores where it is not given",
+    },
+    Choice {
+        name: EXPLAIN,
+        short: None,
+        takes: Takes::Nothing,
+        about: "the number's words, and what was expected and found, behind each refused row; no summary",
+    },
+];
 
-    pub fn takes(&self, count: usize) -> bool {
-        let most = self.operands.len();
-        (most - self.optional..=most).contains(&count)
-    }
-}
+const KEY: Operand = Operand::needed("KEY", Kind::Input, "a key file");
 
 pub const COMMANDS: &[Command] = &[
     Command {
         name: "check",
-        operands: &["KEY"],
-        optional: 0,
+        operands: &[KEY],
+        options: &[],
         about: "check a key file",
         details: "\
-Loads the key file KEY and prints `accepted` and its shape; a refused key is named on standard error.
+Loads the key file KEY and prints `accepted`, its shape m,n,t, and its name
+where it is one of the standard's.
 ",
-        run: check,
+        run: keys::check,
     },
     Command {
         name: "publish",
-        operands: &["KEY", "OUT"],
-        optional: 0,
+        operands: &[KEY, Operand::needed("OUT", Kind::Output, "the public key")],
+        options: &[],
         about: "write a key's public key",
         details: "\
-Writes the public key of the key file KEY to OUT. OUT is replaced in one step, and left alone on refusal.
+Writes the public key of the key file KEY to OUT. OUT is replaced in one step,
+and left alone where the key is refused.
 ",
-        run: publish,
+        run: keys::publish,
     },
     Command {
         name: "lock",
-        operands: &["SHAPE", "PUBLIC", "PATTERN", "OUT"],
-        optional: 0,
-        about: "lock a pattern to a capsule",
+        operands: &[
+            Operand::needed("SHAPE", Kind::Shape, "a position, a name, or m,n,t: see shearcotter shapes"),
+            Operand::needed("PUBLIC", Kind::Input, "a public key of that shape"),
+            Operand::needed("PATTERN", Kind::Input, "one pattern or several"),
+            Operand::needed("OUT", Kind::Output, "the capsules, back to back"),
+        ],
+        options: &[format("raw")],
+        about: "lock patterns to capsules",
         details: "\
-Locks the pattern in the file PATTERN with the public key in the file PUBLIC, and writes the capsule to OUT.
-OUT is replaced in one step, and left alone on refusal. The pattern has n bits, t of them ones.
-SHAPE is a position from 1 to 5, a name such as mceliece348864, or m,n,t as 4,16,2; see shearcotter shapes.
+Locks each pattern of PATTERN with the public key PUBLIC and writes the
+capsules, back to back, to OUT. A pattern has n bits, t of them ones.
+
+With raw the patterns stand back to back. With places, hex and json there is
+one a line: a line that `open` or `read` prints in that format, or a bare line
+of places or a bare hexadecimal word. A line without places is the pattern
+without ones, which is refused 12.
+
+All or nothing: where a pattern is refused, or a line is no pattern, it is named
+and OUT is left alone. Otherwise OUT is replaced in one step.
 ",
-        run: lock_pattern,
+        run: locking::lock_patterns,
     },
     Command {
         name: "open",
-        operands: &["KEY", "FILE"],
-        optional: 1,
+        operands: &[KEY, Operand::optional("FILE", Kind::Input, "capsules, back to back")],
+        options: ROWS,
         about: "open capsules",
         details: "\
-Opens the capsules that stand back to back in FILE, or on standard input, with the key file KEY.
-A line for each: its position from 1, then `open` and the places of ones, rising, from 0, or `refused` and the
-number. A short tail is refused 8. A refused key is named on standard error.
+Opens the capsules that stand back to back in FILE with the key file KEY, and
+prints a line for each:
+
+    POSITION open PLACES...
+    POSITION refused NUMBER
+
+Positions count from 1, places from 0. A short tail is refused 8. Where some
+capsule was refused, a summary on standard error says what the numbers mean.
 ",
-        run: open,
+        run: opening::open,
     },
     Command {
         name: "read",
-        operands: &["KEY", "FILE"],
-        optional: 1,
+        operands: &[KEY, Operand::optional("FILE", Kind::Input, "words of n bits, back to back")],
+        options: ROWS,
         about: "read words of n bits",
         details: "\
-Reads the words that stand back to back in FILE, or on standard input, with the key file KEY.
-A line for each: `read`, how many places differ from the code word, and those places, rising, from 0, or
-`refused` and the number. A short tail is refused 8. A refused key is named on standard error.
+Reads the words that stand back to back in FILE with the key file KEY: finds the
+code word within t places of each. Prints a line for each, with how many places
+differ, and which:
+
+    POSITION read COUNT PLACES...
+    POSITION refused NUMBER
+
+Positions count from 1, places from 0. A short tail is refused 8. Where some
+word was refused, a summary on standard error says what the numbers mean.
 ",
-        run: read,
+        run: opening::read,
     },
     Command {
         name: "shapes",
         operands: &[],
-        optional: 0,
+        options: &[],
         about: "list the standard's shapes",
         details: "\
-Lists the standard's shapes with their positions, and the lengths of their files in bytes.
+Lists the standard's shapes with their positions, and the lengths of their files
+in bytes.
+
+Where a command takes SHAPE, that is a position from 1 to 5, a name such as
+mceliece348864, or m,n,t such as 4,6,1: m is 4, 12 or 13, t from 1 to 128, n
+above m*t and at most 2^m.
 ",
-        run: list_shapes,
+        run: shapes::list,
+    },
+    Command {
+        name: "help",
+        operands: &[Operand::optional("COMMAND", Kind::Command, "a command")],
+        options: &[],
+        about: "help, or a command's own",
+        details: "\
+Prints what the tool does, or what COMMAND does.
+",
+        run: help::help,
+    },
+    Command {
+        name: "man",
+        operands: &[],
+        options: &[],
+        about: "print the man page",
+        details: "\
+Prints the man page, for `man -l` or a folder of man pages.
+",
+        run: |_: &Given| help::print(&manual::page()),
+    },
+    Command {
+        name: "completions",
+        operands: &[Operand::needed("SHELL", Kind::OneOf(&["bash"]), "the shell: bash")],
+        options: &[],
+        about: "print a shell's completions",
+        details: "\
+Prints completions of commands, options and operands, for the shell to read:
+
+    source <(shearcotter completions bash)
+",
+        run: |_: &Given| help::print(&completions::bash()),
     },
 ];
 
-fn load(key: &Path) -> Result<(Station, Shape), Failure> {
-    let file = files::read(key, files::MOST_OF_A_KEY)?;
-    let refused = |refusal| Failure::refused(key, refusal);
-    let mut station = Station::fresh();
-    station.load(&file).map_err(refused)?;
-    let shape = station.shape().ok_or(refused(Refusal::NoKey))?;
-    Ok((station, shape))
+pub fn named(word: impl AsRef<OsStr>) -> Option<&'static Command> {
+    COMMANDS.iter().find(|command| word.as_ref() == command.name)
 }
 
-fn check(operands: &[OsString]) -> Result<bool, Failure> {
-    let (_, shape) = load(Path::new(&operands[0]))?;
-    let name = shape.name().map_or(String::new(), |name| format!(" {name}"));
-    let mut out = io::stdout().lock();
-    writeln!(out, "accepted {shape}{name}")?;
-    out.flush()?;
-    Ok(true)
-}
+#[cfg(test)]
+mod tests {
+    use super::COMMANDS;
+    use crate::table::{Choice, Command};
 
-fn publish(operands: &[OsString]) -> Result<bool, Failure> {
-    let (key, out) = (Path::new(&operands[0]), Path::new(&operands[1]));
-    files::not_an_input(out, &[key])?;
-    let (mut station, _) = load(key)?;
-    let public = station.publish().map_err(|refusal| Failure::refused(key, refusal))?;
-    files::replace(out, &public)?;
-    Ok(true)
-}
+    #[test]
+    fn every_name_stands_once() {
+        for (i, command) in COMMANDS.iter().enumerate() {
+            assert!(COMMANDS[..i].iter().all(|before| before.name != command.name), "{}", command.name);
+            let options: Vec<&str> = command.options().map(|choice| choice.name).collect();
+            for (j, option) in options.iter().enumerate() {
+                assert!(!options[..j].contains(option), "{} {option}", command.name);
+            }
+        }
+    }
 
-fn lock_pattern(operands: &[OsString]) -> Result<bool, Failure> {
-    let shape = shapes::parse(&operands[0])?;
-    let [public, pattern, out] = [1, 2, 3].map(|i| Path::new(&operands[i]));
-    files::not_an_input(out, &[public, pattern])?;
-    let lent = files::read(public, shape.public_length())?;
-    let ones = files::read(pattern, shape.pattern_length())?;
-    let capsule = lock(shape, &lent, &ones).map_err(|refusal| {
-        let both = format!("{} with {}", pattern.display(), public.display());
-        Failure::Refused(both, refusal)
-    })?;
-    files::replace(out, &capsule)?;
-    Ok(true)
-}
+    /// The completions go by an option's name, whatever the command.
+    #[test]
+    fn an_option_takes_the_same_everywhere() {
+        let options: Vec<&Choice> = COMMANDS.iter().flat_map(Command::options).collect();
+        for one in &options {
+            let same = options.iter().filter(|other| other.name == one.name);
+            same.for_each(|other| assert_eq!((one.in_help(), one.values()), (other.in_help(), other.values())));
+        }
+    }
 
-fn places(pattern: &Pattern) -> String {
-    pattern.places().map(|place| format!(" {place}")).collect()
-}
+    #[test]
+    fn optional_operands_come_last() {
+        for command in COMMANDS {
+            assert!(command.operands.is_sorted_by_key(|operand| operand.optional), "{}", command.name);
+        }
+    }
 
-fn open(operands: &[OsString]) -> Result<bool, Failure> {
-    let key = Path::new(&operands[0]);
-    let (mut station, shape) = load(key)?;
-    station.publish().map_err(|refusal| Failure::refused(key, refusal))?;
-    let rows = Rows::new(operands.get(1), shape.capsule_length(), "capsules")?;
-    rows::each(rows, |position, capsule| match station.open(capsule) {
-        Ok(pattern) => (format!("{position} open{}", places(&pattern)), true),
-        Err(refusal) => (format!("{position} refused {}", refusal.number()), false),
-    })
-}
-
-fn read(operands: &[OsString]) -> Result<bool, Failure> {
-    let (station, shape) = load(Path::new(&operands[0]))?;
-    let rows = Rows::new(operands.get(1), shape.pattern_length(), "words")?;
-    rows::each(rows, |_, word| match station.read(word) {
-        Ok(pattern) => (format!("read {}{}", pattern.ones(), places(&pattern)), true),
-        Err(refusal) => (format!("refused {}", refusal.number()), false),
-    })
-}
-
-fn list_shapes(_: &[OsString]) -> Result<bool, Failure> {
-    let mut out = io::stdout().lock();
-    out.write_all(shapes::table().as_bytes())?;
-    out.flush()?;
-    Ok(true)
+    #[test]
+    fn texts_have_their_form() {
+        for command in COMMANDS {
+            assert!(!command.about.ends_with('.') && !command.about.contains('\n'), "{}", command.name);
+            assert!(command.details.ends_with(".\n") || command.details.ends_with(")\n"), "{}", command.name);
+            assert!(command.details.is_ascii(), "{}", command.name);
+        }
+    }
 }

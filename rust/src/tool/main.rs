@@ -4,42 +4,45 @@
 
 mod arguments;
 mod commands;
+mod completions;
+mod explain;
 mod failure;
 mod files;
+mod formats;
+mod help;
+mod json;
+mod keys;
+mod locking;
+mod manual;
+mod names;
+mod opening;
+mod patterns;
 mod progress;
 mod rows;
 mod shapes;
+mod status;
+mod table;
 
 use std::env;
-use std::io::{self, Write};
+use std::ffi::OsString;
 use std::process::ExitCode;
 
 use arguments::Request;
 use failure::Failure;
+use status::Status;
 
-const SOME_REFUSED: u8 = 1;
-
-/// Whether everything was accepted.
-fn run() -> Result<bool, Failure> {
-    let words = env::args_os().skip(1).collect();
+fn run(words: &[OsString]) -> Result<Status, Failure> {
     match arguments::parse(words)? {
-        Request::Text(text) => {
-            let mut out = io::stdout().lock();
-            out.write_all(text.as_bytes())?;
-            out.flush()?;
-            Ok(true)
-        }
-        Request::Run(command, operands) => (command.run)(&operands),
+        Request::Text(text) => help::print(&text),
+        Request::Run(given) => (given.command().run)(&given).map_err(|failure| failure.of(given.command().name)),
     }
 }
 
 fn main() -> ExitCode {
-    match run() {
-        Ok(true) => ExitCode::SUCCESS,
-        Ok(false) => ExitCode::from(SOME_REFUSED),
-        Err(failure) => {
-            failure.report();
-            ExitCode::from(failure.status())
-        }
-    }
+    let words: Vec<OsString> = env::args_os().skip(1).collect();
+    let status = run(&words).unwrap_or_else(|failure| {
+        failure.report();
+        failure.status()
+    });
+    status.into()
 }

@@ -1,77 +1,367 @@
-//! Rows of one length, back to back in a file or on standard input, with a line of output for each.
+//! Rows of one length, back to back: answered on several threads, written in their order.
+//!
+//! A reader cuts the input into batches, workers answer them, and the calling thread, to which all report, hands the
+//! batches to the workers and writes what they answered. Batches are used again and there is a fixed number of them,
+//! so that an endless input takes bounded memory. When the calling thread stops, for whatever reason, the workers do,
+//! and what `answer` holds is dropped; the reader may still wait for input, and holds none of it.
 
-use std::ffi::OsString;
-use std::fs::File;
-use std::io::{self, BufReader, Read, Write};
-use std::path::Path;
+use std::collections::BTreeMap;
+use std::ffi::OsStr;
+use std::io::{self, IsTerminal, Read, Write};
+use std::panic;
+use std::path::PathBuf;
+use std::sync::mpsc::{self, Receiver, Sender};
+use std::sync::Mutex;
+use std::thread::{self, Builder, Scope};
+use std::time::{Duration, Instant};
+
+use shearcotter::raw;
 
 use crate::failure::Failure;
+use crate::files::{self, Input, STANDARD};
 use crate::progress::Progress;
 
-/// Bytes of lines that are written at once.
-const MANY: usize = 1 << 13;
+/// A batch begins as one row, and has more while answering it takes less time than this.
+const SHORT: Duration = Duration::from_millis(1);
 
+/// Bytes from which on a batch grows no more.
+const MANY: usize = 1 << 15;
+
+/// Batches for each worker: one in work, others read before or answered and not yet written.
+const FOR_EACH_WORKER: usize = 4;
+
+/// Bytes of a worker's stack: several times what a call makes sure of.
+const STACK: usize = 8 * raw::STACK;
+
+/// Rows of one length, back to back.
 pub struct Rows {
-    name: String,
-    input: BufReader<Box<dyn Read>>,
+    name: PathBuf,
+    input: Box<dyn Read + Send>,
     length: usize,
     progress: Progress,
 }
 
 impl Rows {
-    /// From a file, or from standard input where there is none or it is `-`.
-    pub fn new(file: Option<&OsString>, length: usize, unit: &'static str) -> Result<Rows, Failure> {
-        let (name, input, total): (_, Box<dyn Read>, _) = match file.filter(|name| *name != "-") {
-            None => ("standard input".to_owned(), Box::new(io::stdin()), None),
-            Some(name) => {
-                let path = Path::new(name);
-                let file = File::open(path).map_err(|error| Failure::file(path, error))?;
-                let known = file.metadata().ok().filter(|data| data.is_file());
-                let total = known.map(|data| data.len().div_ceil(length as u64));
-                (path.display().to_string(), Box::new(file), total)
+    /// The rows of a file, or of standard input; how far they are is shown where `progress` says so.
+    pub fn new(name: &OsStr, length: usize, unit: &'static str, progress: bool) -> Result<Rows, Failure> {
+        files::not_an_input(OsStr::new(STANDARD), &[name])?;
+        let mut input = Input::open(name)?;
+        let total = input.left().map(|bytes| bytes.div_ceil(length as u64));
+        let progress = Progress::new(total, unit, progress);
+        Ok(Rows { name: input.name, input: Box::new(input.file), length, progress })
+    }
+}
+
+/// What is said of a row.
+pub struct Answer {
+    /// For standard output, as it stands.
+    pub text: Vec<u8>,
+    /// For standard error, as it stands, behind the text.
+    pub notes: String,
+    /// 0, or the refusal's number.
+    pub number: u8,
+}
+
+/// How many rows were answered with each number.
+pub struct Counts([u64; 256]);
+
+impl Counts {
+    pub fn of(&self, number: u8) -> u64 {
+        self.0[usize::from(number)]
+    }
+
+    pub fn total(&self) -> u64 {
+        self.0.iter().sum()
+    }
+
+    pub fn refused(&self) -> u64 {
+        self.total() - self.of(0)
+    }
+
+    fn add(&mut self, numbers: &[u8]) {
+        for number in numbers {
+            self.0[usize::from(*number)] += 1;
+        }
+    }
+}
+
+/// Writes the answer to each row, given its position from 1, in the rows' order; `jobs` of them at a time.
+pub fn each(rows: Rows, jobs: usize, answer: impl Fn(u64, &[u8]) -> Answer + Sync) -> Result<Counts, Failure> {
+    let mut out = files::standard_output()?;
+    let on_terminal = out.is_terminal();
+    let streams = Streams { out: &mut out, error: &mut io::stderr(), on_terminal };
+    each_to(streams, rows, jobs.max(1), answer)
+}
+
+/// Where answers go.
+struct Streams<'a> {
+    out: &'a mut dyn Write,
+    error: &'a mut dyn Write,
+    /// Whether `out` is a terminal, most likely the progress bar's.
+    on_terminal: bool,
+}
+
+fn each_to(
+    streams: Streams,
+    rows: Rows,
+    jobs: usize,
+    answer: impl Fn(u64, &[u8]) -> Answer + Sync,
+) -> Result<Counts, Failure> {
+    let (report, events) = mpsc::channel();
+    let (spare, empty) = mpsc::channel();
+    let (work, queue) = mpsc::channel();
+    let (queue, length) = (Mutex::new(queue), rows.length);
+    let reader = Reader { input: rows.input, length, rows: 1, position: 1, tail: vec![], ended: false };
+    let writer =
+        Writer { streams, progress: rows.progress, events, work, spare, written: 0, answered: BTreeMap::new() };
+    let failed = |error| Failure::file("a thread".as_ref(), error);
+    thread::scope(|scope| {
+        // The writer is dropped at the end of this block, and before the workers are waited for.
+        let writer = writer;
+        start_reader(reader, empty, Report(report.clone())).map_err(failed)?;
+        let start = || start_worker(scope, &queue, length, &answer, Report(report.clone()));
+        let workers = as_many_as_start(jobs, start).map_err(failed)?;
+        writer.run(workers * FOR_EACH_WORKER).and_then(|(counts, end)| match end {
+            Ok(()) => Ok(counts),
+            Err(error) => Err(Failure::file(&rows.name, error)),
+        })
+    })
+}
+
+/// Rows that go together from the reader to a worker and to the writer.
+#[derive(Default)]
+struct Batch {
+    /// The position of the first row, from 1.
+    first: u64,
+    rows: Vec<u8>,
+    /// The answers' texts, one behind the other.
+    text: Vec<u8>,
+    /// The answers' notes, each with the length of the text before it.
+    notes: Vec<(usize, String)>,
+    /// The answers' numbers.
+    numbers: Vec<u8>,
+    /// How long the answers took.
+    took: Duration,
+}
+
+impl Batch {
+    fn answer(&mut self, length: usize, answer: &impl Fn(u64, &[u8]) -> Answer) {
+        let started = Instant::now();
+        for (position, row) in (self.first..).zip(self.rows.chunks(length)) {
+            let answer = answer(position, row);
+            self.text.extend_from_slice(&answer.text);
+            self.numbers.push(answer.number);
+            if !answer.notes.is_empty() {
+                self.notes.push((self.text.len(), answer.notes));
             }
-        };
-        Ok(Rows { name, input: BufReader::with_capacity(1 << 16, input), length, progress: Progress::new(total, unit) })
+        }
+        self.took = started.elapsed();
     }
 
-    /// The next row, shorter at a tail; whether there was one.
-    fn next(&mut self, row: &mut Vec<u8>) -> Result<bool, Failure> {
-        row.clear();
-        let mut part = self.input.by_ref().take(self.length as u64);
-        match part.read_to_end(row) {
-            Ok(count) => Ok(count > 0),
-            Err(error) => Err(Failure::File(self.name.clone(), error)),
+    fn clear(&mut self) {
+        self.rows.clear();
+        self.text.clear();
+        self.notes.clear();
+        self.numbers.clear();
+    }
+}
+
+/// What the writer is told.
+enum Event {
+    /// Rows have been read.
+    Read(Batch),
+    /// Rows have been answered.
+    Answered(Batch),
+    /// No more rows are read.
+    End(io::Result<()>),
+    /// A thread has panicked.
+    Lost,
+}
+
+/// A thread's way to the writer; a panic is told too.
+struct Report(Sender<Event>);
+
+impl Report {
+    /// Whether somebody still listens.
+    fn send(&self, event: Event) -> bool {
+        self.0.send(event).is_ok()
+    }
+}
+
+impl Drop for Report {
+    fn drop(&mut self) {
+        if thread::panicking() {
+            self.send(Event::Lost);
         }
     }
 }
 
-/// Writes what `line` says of each position and row; whether all were accepted.
-pub fn each(mut rows: Rows, line: impl Fn(u64, &[u8]) -> (String, bool)) -> Result<bool, Failure> {
-    let (mut row, mut lines, mut position, mut all) = (vec![], String::new(), 0, true);
-    loop {
-        let more = rows.next(&mut row);
-        // At the end, before a wait for more input, and where many have gathered, the lines are handed on.
-        if !matches!(more, Ok(true)) {
-            hand_on(&mut lines, &mut rows.progress)?;
-            return more.map(|_| all);
+/// Cuts the input into batches.
+struct Reader {
+    input: Box<dyn Read + Send>,
+    length: usize,
+    /// Rows of a full batch.
+    rows: usize,
+    /// The position of the next row.
+    position: u64,
+    /// The part of that row which has been read.
+    tail: Vec<u8>,
+    ended: bool,
+}
+
+impl Reader {
+    fn next(&mut self, mut batch: Batch) -> Event {
+        self.learn(&batch);
+        batch.clear();
+        match self.fill(&mut batch.rows) {
+            Err(error) => Event::End(Err(error)),
+            Ok(()) if batch.rows.is_empty() => Event::End(Ok(())),
+            Ok(()) => {
+                batch.first = self.position;
+                self.position += batch.rows.len().div_ceil(self.length) as u64;
+                Event::Read(batch)
+            }
         }
-        position += 1;
-        let (text, accepted) = line(position, &row);
-        lines.push_str(&text);
-        lines.push('\n');
-        if rows.input.buffer().is_empty() || lines.len() >= MANY {
-            hand_on(&mut lines, &mut rows.progress)?;
+    }
+
+    /// Doubles the batches while a full one takes little time.
+    fn learn(&mut self, answered: &Batch) {
+        let full = answered.numbers.len() == self.rows;
+        if full && answered.took < SHORT && self.rows * self.length < MANY {
+            self.rows *= 2;
         }
-        all &= accepted;
-        rows.progress.show(position);
+    }
+
+    /// Takes the whole rows that are there by now, and waits for one where there is none; the last may be shorter.
+    fn fill(&mut self, rows: &mut Vec<u8>) -> io::Result<()> {
+        if self.ended {
+            return Ok(());
+        }
+        rows.append(&mut self.tail);
+        let begun = rows.len();
+        rows.resize(self.rows * self.length, 0);
+        let filled = files::read_at_least(&mut self.input, rows, begun, self.length)?;
+        self.ended = filled < self.length;
+        let whole = if self.ended { filled } else { filled - filled % self.length };
+        self.tail.extend_from_slice(&rows[whole..filled]);
+        rows.truncate(whole);
+        Ok(())
     }
 }
 
-fn hand_on(lines: &mut String, progress: &mut Progress) -> io::Result<()> {
-    progress.clear();
-    let mut out = io::stdout().lock();
-    out.write_all(lines.as_bytes())?;
-    out.flush()?;
-    lines.clear();
-    Ok(())
+/// The reader is not waited for: it may be waiting itself, for input.
+fn start_reader(mut reader: Reader, empty: Receiver<Batch>, report: Report) -> io::Result<()> {
+    let run = move || {
+        while let Ok(batch) = empty.recv() {
+            let event = reader.next(batch);
+            let last = matches!(event, Event::End(_));
+            if !report.send(event) || last {
+                return;
+            }
+        }
+    };
+    Builder::new().name("reader".to_owned()).spawn(run).map(drop)
 }
+
+/// Up to `jobs`, and at least one: with fewer the answers are the same.
+fn as_many_as_start(jobs: usize, start: impl Fn() -> io::Result<()>) -> io::Result<usize> {
+    start()?;
+    Ok(1 + (1..jobs).map_while(|_| start().ok()).count())
+}
+
+fn start_worker<'scope, F: Fn(u64, &[u8]) -> Answer + Sync>(
+    scope: &'scope Scope<'scope, '_>,
+    queue: &'scope Mutex<Receiver<Batch>>,
+    length: usize,
+    answer: &'scope F,
+    report: Report,
+) -> io::Result<()> {
+    let run = move || {
+        while let Some(mut batch) = next_of(queue) {
+            batch.answer(length, answer);
+            if !report.send(Event::Answered(batch)) {
+                return;
+            }
+        }
+    };
+    Builder::new().name("worker".to_owned()).stack_size(STACK).spawn_scoped(scope, run).map(drop)
+}
+
+fn next_of(queue: &Mutex<Receiver<Batch>>) -> Option<Batch> {
+    queue.lock().ok()?.recv().ok()
+}
+
+/// The calling thread's part.
+struct Writer<'a> {
+    streams: Streams<'a>,
+    progress: Progress,
+    events: Receiver<Event>,
+    /// To the workers.
+    work: Sender<Batch>,
+    /// To the reader.
+    spare: Sender<Batch>,
+    /// How many rows have been written.
+    written: u64,
+    /// What waits for rows before it, by the first position.
+    answered: BTreeMap<u64, Batch>,
+}
+
+impl Writer<'_> {
+    /// Until everything that was read is written; then the counts, and how reading ended.
+    fn run(mut self, batches: usize) -> Result<(Counts, io::Result<()>), Failure> {
+        for _ in 0..batches {
+            let _ = self.spare.send(Batch::default());
+        }
+        let (mut counts, mut end, mut under_way) = (Counts([0; 256]), None, 0);
+        while end.is_none() || under_way > 0 {
+            match self.events.recv() {
+                Ok(Event::Read(batch)) => {
+                    under_way += 1;
+                    let _ = self.work.send(batch);
+                }
+                Ok(Event::Answered(batch)) => {
+                    counts.add(&batch.numbers);
+                    self.answered.insert(batch.first, batch);
+                    under_way -= self.write_ready()?;
+                }
+                Ok(Event::End(result)) => end = Some(result),
+                Ok(Event::Lost) | Err(_) => panic::resume_unwind(Box::new("a thread has panicked")),
+            }
+        }
+        Ok((counts, end.unwrap_or(Ok(()))))
+    }
+
+    /// Writes the batches that no other has to come before; how many.
+    fn write_ready(&mut self) -> io::Result<usize> {
+        let mut count = 0;
+        while let Some(batch) = self.answered.remove(&(self.written + 1)) {
+            self.write(&batch)?;
+            self.written += batch.numbers.len() as u64;
+            count += 1;
+            let _ = self.spare.send(batch);
+        }
+        self.progress.show(self.written);
+        Ok(count)
+    }
+
+    fn write(&mut self, batch: &Batch) -> io::Result<()> {
+        let mut from = 0;
+        for (to, note) in &batch.notes {
+            self.write_text(&batch.text[from..*to])?;
+            self.progress.clear();
+            let _ = self.streams.error.write_all(note.as_bytes());
+            from = *to;
+        }
+        self.write_text(&batch.text[from..])
+    }
+
+    fn write_text(&mut self, text: &[u8]) -> io::Result<()> {
+        if self.streams.on_terminal && !text.is_empty() {
+            self.progress.clear();
+        }
+        self.streams.out.write_all(text)
+    }
+}
+
+#[cfg(test)]
+mod tests;

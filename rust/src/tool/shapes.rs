@@ -4,7 +4,10 @@ use std::ffi::OsStr;
 
 use shearcotter::{Refusal, Shape};
 
+use crate::arguments::Given;
 use crate::failure::Failure;
+use crate::status::Status;
+use crate::{explain, help, names};
 
 /// A position, a name, or m,n,t.
 pub fn parse(word: &OsStr) -> Result<Shape, Failure> {
@@ -12,31 +15,41 @@ pub fn parse(word: &OsStr) -> Result<Shape, Failure> {
     if let Some(shape) = Shape::named(&text) {
         return Ok(shape);
     }
-    let Some(numbers) = numbers(&text) else {
-        return Err(Failure::usage(format!("no such shape: {text}")));
+    let shape = match numbers(&text).as_deref() {
+        Some([position]) => at(*position).map_err(|refusal| explain::position(&text, refusal)),
+        Some([m, n, t]) => by_numbers(*m, *n, *t).map_err(|refusal| explain::shape(&text, [*m, *t], refusal)),
+        _ => return Err(Failure::usage(format!("no such shape: {}; see shearcotter shapes", names::shown(word)))),
     };
-    let shape = match numbers[..] {
-        [position] => u8::try_from(position).map_or(Err(Refusal::BadShape), Shape::at),
-        [m, n, t] => by_numbers(m, n, t),
-        _ => return Err(Failure::usage(format!("no such shape: {text}"))),
-    };
-    shape.map_err(|refusal| Failure::Refused(format!("shape {text}"), refusal))
+    shape.map_err(|explained| Failure::Refused(format!("shape {text}"), explained, Status::Failed))
 }
 
 /// Decimal numbers split by commas; one too long to hold counts as the greatest.
 fn numbers(text: &str) -> Option<Vec<u64>> {
-    let digits = |part: &str| !part.is_empty() && part.bytes().all(|byte| byte.is_ascii_digit());
-    let number = |part: &str| digits(part).then(|| part.parse().unwrap_or(u64::MAX));
-    text.split(',').map(number).collect()
+    text.split(',').map(decimal).collect()
+}
+
+/// A decimal number; one too long to hold counts as the greatest.
+pub fn decimal(text: &str) -> Option<u64> {
+    let digits = !text.is_empty() && text.bytes().all(|byte| byte.is_ascii_digit());
+    digits.then(|| text.parse().unwrap_or(u64::MAX))
+}
+
+fn at(position: u64) -> Result<Shape, Refusal> {
+    u8::try_from(position).map_or(Err(Refusal::BadShape), Shape::at)
 }
 
 fn by_numbers(m: u64, n: u64, t: u64) -> Result<Shape, Refusal> {
-    let m = u8::try_from(m).map_err(|_| Refusal::BadWidth)?;
     let limited = |x: u64| u16::try_from(x).unwrap_or(u16::MAX);
-    Shape::new(m, limited(n), limited(t))
+    let width = u8::try_from(m).map_err(|_| Refusal::BadWidth)?;
+    Shape::new(width, limited(n), limited(t))
 }
 
-pub fn table() -> String {
+/// The command `shapes`.
+pub fn list(_: &Given) -> Result<Status, Failure> {
+    help::print(&table())
+}
+
+fn table() -> String {
     let mut text = format!(
         "{:<9} {:<15} {:>2} {:>5} {:>4} {:>9} {:>11} {:>8} {:>8}\n",
         "position", "name", "m", "n", "t", "key file", "public key", "capsule", "pattern"

@@ -1,7 +1,8 @@
-//! What the tests share: hexadecimal, the vectors' folder, the raw calls by slices, runs of the tool.
+//! What the tests share: hexadecimal, the vectors' folder, the raw calls by slices, runs of the tool, terminals.
 
 pub mod raw_calls;
 pub mod run;
+pub mod terminal;
 pub mod vectors;
 
 /// Bytes from hexadecimal; `-` is none.

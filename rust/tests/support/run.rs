@@ -2,8 +2,9 @@
 
 use std::io::Write;
 use std::path::{Path, PathBuf};
-use std::process::{Command, Output, Stdio};
+use std::process::{Child, Command, Output, Stdio};
 use std::sync::atomic::{AtomicUsize, Ordering};
+use std::time::{Duration, Instant};
 use std::{env, fs, process, thread};
 
 pub fn tool() -> Command {
@@ -22,6 +23,21 @@ pub fn run(words: &[&str], input: &[u8]) -> Output {
     let output = child.wait_with_output().expect("the tool ends");
     writer.join().expect("the writer ends");
     output
+}
+
+/// The exit status of a run that has to end by itself.
+pub fn ended(child: &mut Child) -> i32 {
+    let started = Instant::now();
+    loop {
+        if let Some(status) = child.try_wait().expect("the tool's state") {
+            return status.code().expect("an exit status");
+        }
+        if started.elapsed() > Duration::from_secs(60) {
+            let _ = child.kill();
+            panic!("the tool does not end");
+        }
+        thread::sleep(Duration::from_millis(5));
+    }
 }
 
 pub fn status(output: &Output) -> i32 {

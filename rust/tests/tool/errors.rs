@@ -1,22 +1,10 @@
-//! Bad usage and missing files give 2, refusals give 1, both in words.
+//! Failing files give 2, a refused shape too, a refused key gives 3; all in words.
 
 use std::fs::File;
 
-use super::{fails, with_k1};
+use super::{fails, fails_on, with_k1};
 use crate::bench_keys::{K1, K3};
 use crate::support::run::{status, text, tool};
-
-#[test]
-fn bad_usage() {
-    fails(&[], 2, "no command");
-    fails(&["unlock"], 2, "no such command: unlock");
-    fails(&["open", "--fast", "key.bin"], 2, "no such option: --fast");
-    fails(&["check"], 2, "usage: shearcotter check KEY");
-    fails(&["open", "a", "b", "c"], 2, "usage: shearcotter open KEY [FILE]");
-    fails(&["shapes", "1"], 2, "usage: shearcotter shapes");
-    fails(&["lock", "mceliece1", "a", "b", "c"], 2, "no such shape: mceliece1");
-    fails(&["lock", "4,6", "a", "b", "c"], 2, "no such shape: 4,6");
-}
 
 #[test]
 fn missing_files() {
@@ -30,11 +18,13 @@ fn missing_files() {
     }
     fails(&["publish", &missing, &folder.at("out")], 2, "missing: ");
     fails(&["lock", "4,6,1", &missing, &key, &folder.at("out")], 2, "missing: ");
+    let public = folder.write("public.bin", &[3, 1, 2, 0]);
+    fails(&["lock", "4,6,1", &public, &missing, &folder.at("out")], 2, "missing: ");
     fails(&["publish", &key, &folder.at("none/out")], 2, "out: ");
     let itself = folder.path().to_str().expect("a plain path");
     fails(&["check", itself], 2, "directory");
     fails(&["publish", &key, itself], 2, "not a regular file");
-    assert_eq!(folder.names(), ["key.bin"]);
+    assert_eq!(folder.names(), ["key.bin", "public.bin"]);
 }
 
 #[test]
@@ -42,33 +32,49 @@ fn refused_keys() {
     let (folder, _) = with_k1();
     let mut twice = K1;
     twice[13] = 1;
-    let twice = folder.write("twice.bin", &twice);
+    let file = folder.write("twice.bin", &twice);
     for command in ["check", "open", "read"] {
-        fails(&[command, &twice], 1, "twice.bin: refused 5: support element twice");
+        fails(&[command, &file], 3, "twice.bin: refused 5: support element twice: ");
+        fails(&[command, "--quiet", &file], 3, "twice.bin: refused 5: ");
     }
-    let empty = folder.write("empty.bin", &[]);
-    fails(&["check", &empty], 1, "refused 1: width missing or not 4, 12, 13");
-    let long = folder.write("long.bin", &[4; 300_000]);
-    fails(&["check", &long], 1, "refused 2: key file ends too early or too late");
+    fails(&["publish", &file, &folder.at("out")], 3, "twice.bin: refused 5: ");
+    fails_on(&["check", "-"], &twice, 3, "shearcotter: standard input: refused 5: ");
     let k3 = folder.write("k3.bin", &K3);
-    fails(&["open", &k3], 1, "refused 23: the first m*t columns are dependent: no public key");
-    fails(&["publish", &k3, &folder.at("out")], 1, "refused 23");
+    fails(&["open", &k3], 3, "k3.bin: refused 23: the first m*t columns are dependent: no public key: ");
+    fails(&["publish", &k3, &folder.at("out")], 3, "k3.bin: refused 23: ");
+    assert_eq!(folder.names(), ["k3.bin", "key.bin", "twice.bin"]);
 }
 
 #[test]
 fn refused_shapes() {
-    for shape in ["0", "6", "256", "99999999999999999999", "4,4,1", "4,17,1", "13,70000,1", "12,4096,129"] {
-        fails(&["lock", shape, "a", "b", "c"], 1, "refused 3: shape out of limits");
+    let lock = |shape: &str, says: &str| fails(&["lock", shape, "a", "b", "c"], 2, says);
+    for shape in ["0", "6", "256", "99999999999999999999"] {
+        lock(shape, &format!("shape {shape}: refused 3: position not 1 to 5: found {shape}"));
     }
-    fails(&["lock", "5,6,1", "a", "b", "c"], 1, "refused 1: width");
-    fails(&["lock", "260,6,1", "a", "b", "c"], 1, "refused 1: width");
+    let limits = "expected t from 1 to 128, n above m*t and at most 2^m";
+    for (shape, bits, elements) in
+        [("4,4,1", 4, 16), ("4,17,1", 4, 16), ("13,70000,1", 13, 8192), ("12,4096,129", 1548, 4096)]
+    {
+        let found = format!("found {shape}, where m*t is {bits} and 2^m is {elements}\n");
+        lock(shape, &format!("shape {shape}: refused 3: shape out of limits: {limits}, {found}"));
+    }
+    lock("4,6,99999999999999999999", "at most 2^m, found 4,6,99999999999999999999\n");
+    for m in ["5", "260"] {
+        let found = format!("refused 1: width missing or not 4, 12, 13: expected 4, 12 or 13, found m {m}");
+        lock(&format!("{m},6,1"), &found);
+    }
+    for shape in ["mceliece1", "4,6", "", "4,6,1,1", "4,6,x", "4, 6,1", "-1"] {
+        fails(&["lock", "--", shape, "a", "b", "c"], 2, &format!("no such shape: {shape}; see shearcotter shapes"));
+    }
 }
 
 #[test]
 fn a_failing_standard_input() {
     let (folder, key) = with_k1();
-    let unreadable = File::open(folder.path()).expect("the folder opens");
-    let output = tool().args(["open", &key]).stdin(unreadable).output().expect("the tool ends");
-    assert_eq!((status(&output), text(&output.stdout)), (2, ""));
-    assert!(text(&output.stderr).starts_with("shearcotter: standard input: "), "{}", text(&output.stderr));
+    for words in [vec!["open", &key], vec!["read", &key, "-"], vec!["check", "-"]] {
+        let unreadable = File::open(folder.path()).expect("the folder opens");
+        let output = tool().args(&words).stdin(unreadable).output().expect("the tool ends");
+        assert_eq!((status(&output), text(&output.stdout)), (2, ""), "{words:?}");
+        assert!(text(&output.stderr).starts_with("shearcotter: standard input: "), "{}", text(&output.stderr));
+    }
 }

@@ -2,30 +2,71 @@
 
 use super::{accepted, outcome};
 
-const COMMANDS: [&str; 6] = ["check", "publish", "lock", "open", "read", "shapes"];
+const COMMANDS: [&str; 9] = ["check", "publish", "lock", "open", "read", "shapes", "help", "man", "completions"];
+
+const STATUSES: &str = "
+Exit status:
+  0  everything was accepted
+  1  some row was refused: a capsule, a word or a pattern
+  2  bad usage or a bad shape, or a file failed
+  3  the key was refused: a key file or a public key
+";
+
+/// A text that is accepted, within 80 columns.
+fn help(words: &[&str]) -> String {
+    let (status, out, error) = outcome(words, &[]);
+    assert_eq!((status, error.as_str()), (0, ""), "{words:?}");
+    for line in out.lines() {
+        assert!(line.chars().count() <= 80, "{words:?}: {line}");
+        assert_eq!(line, line.trim_end(), "{words:?}");
+    }
+    assert_eq!(out.matches("Exit status").count(), 1, "{words:?}");
+    assert!(out.contains(STATUSES), "{out}");
+    out
+}
 
 #[test]
 fn help_names_every_command() {
-    for word in ["--help", "-h"] {
-        let (status, out, error) = outcome(&[word], &[]);
-        assert_eq!((status, error.as_str()), (0, ""));
-        for command in COMMANDS {
-            assert!(out.contains(&format!("shearcotter {command}")), "{out}");
-        }
-        assert!(out.contains("Exit status: 0"), "{out}");
+    let text = help(&["help"]);
+    for words in [&["--help"][..], &["-h"], &["--quiet", "--help"], &["--version", "-h"]] {
+        assert_eq!(help(words), text);
+    }
+    for command in COMMANDS {
+        assert!(text.lines().any(|line| line.split_whitespace().next() == Some(command)), "{command}");
     }
 }
 
 #[test]
 fn help_for_each_command() {
     for command in COMMANDS {
-        for words in [vec![command, "--help"], vec![command, "KEY", "-h"]] {
-            let (status, out, error) = outcome(&words, &[]);
-            assert_eq!((status, error.as_str()), (0, ""));
-            assert!(out.starts_with(&format!("shearcotter {command}")), "{out}");
-            assert!(out.contains("Exit status: 0"), "{out}");
+        let text = help(&["help", command]);
+        assert!(text.starts_with(&format!("Usage: shearcotter {command} [OPTION]...")), "{text}");
+        assert!(text.contains("\n  --quiet ") && text.contains("\n  -h, --help "), "{text}");
+        for words in [vec!["--help", command], vec![command, "--help"], vec![command, "KEY", "-h"]] {
+            assert_eq!(help(&words), text);
+        }
+        for words in [vec![command, "--format", "--help"], vec![command, "a", "b", "--what", "-h"]] {
+            assert_eq!(help(&words), text);
         }
     }
+}
+
+#[test]
+fn help_names_operands_options_and_values() {
+    let open = help(&["help", "open"]);
+    for part in [
+        "[OPTION]... KEY [FILE]",
+        "  FILE  ",
+        "--format FORMAT",
+        "--jobs N ",
+        "from 1 to 1024",
+        "--explain ",
+        "  json ",
+    ] {
+        assert!(open.contains(part), "{part}: {open}");
+    }
+    assert!(open.contains("places where it is not given"), "{open}");
+    assert!(help(&["help", "lock"]).contains("raw where it is not given"));
 }
 
 #[test]
@@ -39,6 +80,7 @@ fn version() {
 fn shapes() {
     let (status, out, error) = outcome(&["shapes"], &[]);
     assert_eq!((status, error.as_str()), (0, ""));
+    assert!(out.lines().all(|line| line.len() <= 80), "{out}");
     let lines: Vec<Vec<&str>> = out.lines().map(|line| line.split_whitespace().collect()).collect();
     assert_eq!(lines.len(), 6);
     let expected = ["4", "mceliece6960119", "13", "6960", "119", "14163", "1047319", "194", "870"];

@@ -14,7 +14,7 @@ fn refused_key(name: &str, said: &str, key: &str, input: &[u8]) {
         assert_eq!(status(&output), 2, "{name}");
         return;
     }
-    assert_eq!(status(&output), 1, "{name}");
+    assert_eq!(status(&output), 3, "{name}");
     if let Some(number) = said.strip_prefix("key refused ") {
         let words = format!("refused {}:", number.trim_end());
         assert!(text(&output.stderr).contains(&words), "{name}: {}", text(&output.stderr));
@@ -34,7 +34,7 @@ fn compare(name: &str, wanted: impl Fn(usize) -> bool) {
     if stdout.starts_with(b"key ") {
         return refused_key(name, text(&stdout), key, &input);
     }
-    let output = run(&["open", key], &input);
+    let output = run(&["open", "--quiet", key], &input);
     assert!(output.stdout == stdout, "{name}: {}", text(&output.stdout));
     let refused = text(&stdout).contains("refused");
     assert_eq!(status(&output), i32::from(refused), "{name}");

@@ -1,0 +1,103 @@
+//! Packed rows: capsules, words and patterns, and public keys, which are rows back to back.
+
+use shearcotter::{Refusal, Shape};
+
+use super::{bytes_found, counted, Explained};
+
+/// What a row is.
+#[derive(Clone, Copy)]
+pub enum Row {
+    Capsule,
+    Word,
+    Pattern,
+}
+
+impl Row {
+    pub fn name(self) -> &'static str {
+        match self {
+            Row::Capsule => "capsule",
+            Row::Word => "word",
+            Row::Pattern => "pattern",
+        }
+    }
+
+    pub fn plural(self) -> &'static str {
+        match self {
+            Row::Capsule => "capsules",
+            Row::Word => "words",
+            Row::Pattern => "patterns",
+        }
+    }
+
+    fn bits(self, shape: Shape) -> usize {
+        match self {
+            Row::Capsule => capsule_bits(shape),
+            Row::Word | Row::Pattern => usize::from(shape.n()),
+        }
+    }
+
+    /// Bytes of a row.
+    pub fn length(self, shape: Shape) -> usize {
+        self.bits(shape).div_ceil(8)
+    }
+}
+
+fn capsule_bits(shape: Shape) -> usize {
+    usize::from(shape.m()) * usize::from(shape.t())
+}
+
+fn wrong_length(name: &str) -> String {
+    format!("{name} of wrong byte length")
+}
+
+/// What the number says of a row.
+pub fn words(kind: Row, refusal: Refusal) -> String {
+    match refusal {
+        Refusal::BadBytes => wrong_length(kind.name()),
+        _ => refusal.condition().to_owned(),
+    }
+}
+
+/// A capsule, word or pattern.
+pub fn row(kind: Row, shape: Shape, bytes: &[u8], refusal: Refusal) -> Explained {
+    let found = match refusal {
+        Refusal::BadBytes => format!("expected {}, found {}", counted(kind.length(shape), "byte"), bytes.len()),
+        Refusal::FillerSet => filler(kind.bits(shape), bytes, 0).unwrap_or_default(),
+        Refusal::NotTOnes => {
+            let ones: u32 = bytes.iter().map(|byte| byte.count_ones()).sum();
+            format!("expected {} (t), found {ones}", counted(shape.t().into(), "one"))
+        }
+        _ => String::new(),
+    };
+    Explained::new(refusal, words(kind, refusal), found)
+}
+
+/// A public key, of which at most one byte past its length was read.
+pub fn public_key(shape: Shape, bytes: &[u8], refusal: Refusal) -> Explained {
+    let length = shape.public_length();
+    match refusal {
+        Refusal::BadBytes => {
+            let found =
+                format!("expected {} for {shape}, {}", counted(length, "byte"), bytes_found(bytes.len(), length));
+            Explained::new(refusal, wrong_length("public key"), found)
+        }
+        Refusal::FillerSet => Explained::new(refusal, refusal.condition(), public_filler(shape, bytes)),
+        _ => Explained::new(refusal, refusal.condition(), ""),
+    }
+}
+
+/// The first row of a public key with a filler bit set, counted from 0.
+fn public_filler(shape: Shape, bytes: &[u8]) -> String {
+    let bits = usize::from(shape.n()) - capsule_bits(shape);
+    let width = bits.div_ceil(8);
+    let mut rows = bytes.chunks(width).enumerate();
+    let found = rows.find_map(|(i, row)| filler(bits, row, i * width).map(|found| format!("row {i}: {found}")));
+    found.unwrap_or_default()
+}
+
+/// The last byte of a row that starts at a byte of its file, where it has a one past the row's bits.
+fn filler(bits: usize, row: &[u8], start: usize) -> Option<String> {
+    let (last, most) = (row.last()?, u8::MAX.checked_shr((8 - bits as u32 % 8) % 8)?);
+    let at = start + row.len() - 1;
+    (*last > most).then(|| format!("expected byte {at} up to {most:02x}, found {last:02x} (hexadecimal)"))
+}

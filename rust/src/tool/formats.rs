@@ -1,0 +1,110 @@
+//! How rows and their patterns are printed.
+
+use shearcotter::Pattern;
+
+use crate::explain::Explained;
+use crate::rows::Answer;
+use crate::table::Word;
+use crate::{failure, json};
+
+#[derive(Clone, Copy, PartialEq, Eq)]
+pub enum Format {
+    Places,
+    Hex,
+    Raw,
+    Json,
+}
+
+/// The formats by their words, in the order of `WORDS`.
+const FORMATS: [Format; 4] = [Format::Places, Format::Hex, Format::Raw, Format::Json];
+
+pub const WORDS: &[Word] = &[
+    Word { name: "places", about: "the places of the ones, rising, from 0, split by blanks" },
+    Word { name: "hex", about: "the pattern's bytes as one hexadecimal word" },
+    Word { name: "raw", about: "the pattern's bytes, back to back, and nothing else" },
+    Word { name: "json", about: "an object a line: position, answer, number, words, ones and places" },
+];
+
+impl Format {
+    /// By one of the words; the parsing takes no other.
+    pub fn named(word: &str) -> Format {
+        let place = WORDS.iter().position(|known| known.name == word);
+        FORMATS[place.unwrap_or_default()]
+    }
+}
+
+/// The words of rows.
+pub const OPEN: &str = "open";
+pub const READ: &str = "read";
+pub const REFUSED: &str = "refused";
+
+/// How the rows of a file are answered.
+pub struct Form {
+    pub format: Format,
+    /// What was expected and found goes behind a refusal.
+    pub explain: bool,
+    /// The word of an accepted row.
+    pub word: &'static str,
+    /// Whether the number of ones stands before the places.
+    pub counted: bool,
+    /// The file's name as shown.
+    pub file: String,
+}
+
+impl Form {
+    pub fn accepted(&self, position: u64, pattern: &Pattern) -> Answer {
+        let text = match self.format {
+            Format::Raw => pattern.bytes().to_vec(),
+            Format::Places => self.line(position, pattern, &separated(pattern, " ")),
+            Format::Hex => self.line(position, pattern, &hex(pattern.bytes())),
+            Format::Json => {
+                let (ones, places) = (pattern.ones(), separated(pattern, ","));
+                let answer = json_answer(position, self.word, 0, "accepted");
+                format!("{{{answer},\"ones\":{ones},\"places\":[{places}]}}\n").into_bytes()
+            }
+        };
+        Answer { text, notes: String::new(), number: 0 }
+    }
+
+    fn line(&self, position: u64, pattern: &Pattern, written: &str) -> Vec<u8> {
+        let count = if self.counted { format!(" {}", pattern.ones()) } else { String::new() };
+        let blank = if written.is_empty() { "" } else { " " };
+        format!("{position} {}{count}{blank}{written}\n", self.word).into_bytes()
+    }
+
+    /// With raw a refused row is named on standard error, else on standard output.
+    pub fn refused(&self, position: u64, explained: &Explained) -> Answer {
+        let number = explained.number;
+        let said = match (self.format, self.explain) {
+            (Format::Json, _) => self.refused_json(position, explained),
+            (_, true) => format!("{position} {explained}"),
+            (Format::Raw, false) => format!("{position} {}", explained.without_found()),
+            (_, false) => format!("{position} {REFUSED} {number}"),
+        };
+        match self.format {
+            Format::Raw => Answer { text: vec![], notes: failure::line(&format!("{}: {said}", self.file)), number },
+            _ => Answer { text: (said + "\n").into_bytes(), notes: String::new(), number },
+        }
+    }
+
+    fn refused_json(&self, position: u64, explained: &Explained) -> String {
+        let Explained { number, words, found } = explained;
+        let answer = json_answer(position, REFUSED, *number, words);
+        let wanted = self.explain && !found.is_empty();
+        let found = if wanted { format!(",\"explained\":{}", json::quoted(found)) } else { String::new() };
+        format!("{{{answer}{found}}}")
+    }
+}
+
+fn json_answer(position: u64, word: &str, number: u8, words: &str) -> String {
+    format!("\"position\":{position},\"answer\":\"{word}\",\"number\":{number},\"words\":{}", json::quoted(words))
+}
+
+fn separated(pattern: &Pattern, separator: &str) -> String {
+    pattern.places().map(|place| place.to_string()).collect::<Vec<_>>().join(separator)
+}
+
+fn hex(bytes: &[u8]) -> String {
+    let digit = |half: u8| char::from(b"0123456789abcdef"[usize::from(half)]);
+    bytes.iter().flat_map(|byte| [digit(byte >> 4), digit(byte & 15)]).collect()
+}

@@ -1,0 +1,259 @@
+//! The threads, on inputs, answers and outputs made for them.
+
+use std::io::ErrorKind;
+use std::sync::atomic::{AtomicUsize, Ordering};
+use std::sync::mpsc::RecvTimeoutError;
+use std::sync::{Arc, Barrier};
+
+use super::*;
+
+const ALL_TIME: Duration = Duration::from_secs(60);
+
+/// What the work gives; a failure where it panics, or does not end.
+fn ends<T: Send + 'static>(work: impl FnOnce() -> T + Send + 'static) -> Result<T, RecvTimeoutError> {
+    let (done, answer) = mpsc::channel();
+    thread::spawn(move || drop(done.send(work())));
+    let result = answer.recv_timeout(ALL_TIME);
+    assert!(!matches!(result, Err(RecvTimeoutError::Timeout)), "it does not end");
+    result
+}
+
+fn rows(input: impl Read + Send + 'static, length: usize) -> Rows {
+    Rows { name: "input".into(), input: Box::new(input), length, progress: Progress::new(None, "rows", false) }
+}
+
+fn each_into(
+    out: &mut dyn Write,
+    rows: Rows,
+    jobs: usize,
+    answer: impl Fn(u64, &[u8]) -> Answer + Sync,
+) -> Result<Counts, Failure> {
+    each_to(Streams { out, error: &mut io::sink(), on_terminal: false }, rows, jobs, answer)
+}
+
+fn line(position: u64, row: &[u8]) -> Answer {
+    Answer { text: format!("{position} {row:?}\n").into_bytes(), notes: String::new(), number: row[0] % 3 }
+}
+
+/// Gives 1 to 7 bytes at a time.
+struct Pieces(Vec<u8>);
+
+impl Read for Pieces {
+    fn read(&mut self, bytes: &mut [u8]) -> io::Result<usize> {
+        let count = (1 + self.0.len() % 7).min(bytes.len()).min(self.0.len());
+        bytes[..count].copy_from_slice(&self.0[..count]);
+        self.0.drain(..count);
+        Ok(count)
+    }
+}
+
+/// Reads fail.
+struct Broken;
+
+impl Read for Broken {
+    fn read(&mut self, _: &mut [u8]) -> io::Result<usize> {
+        Err(ErrorKind::ConnectionReset.into())
+    }
+}
+
+/// Reads never come back.
+struct Silent;
+
+impl Read for Silent {
+    fn read(&mut self, _: &mut [u8]) -> io::Result<usize> {
+        loop {
+            thread::park();
+        }
+    }
+}
+
+/// Nobody reads it.
+struct Closed;
+
+impl Write for Closed {
+    fn write(&mut self, _: &[u8]) -> io::Result<usize> {
+        Err(ErrorKind::BrokenPipe.into())
+    }
+
+    fn flush(&mut self) -> io::Result<()> {
+        Ok(())
+    }
+}
+
+/// How long each write was.
+struct Lengths(Vec<usize>);
+
+impl Write for Lengths {
+    fn write(&mut self, bytes: &[u8]) -> io::Result<usize> {
+        self.0.push(bytes.len());
+        Ok(bytes.len())
+    }
+
+    fn flush(&mut self) -> io::Result<()> {
+        Ok(())
+    }
+}
+
+#[test]
+fn lines_in_order_on_any_number_of_threads() {
+    let bytes: Vec<u8> = (0..5000_u32).map(|i| (i * i / 7) as u8).collect();
+    let expected: Vec<Answer> = (1..).zip(bytes.chunks(3)).map(|(position, row)| line(position, row)).collect();
+    let text: Vec<u8> = expected.iter().flat_map(|answer| answer.text.clone()).collect();
+    for jobs in [1, 2, 3, 16] {
+        let mut out = vec![];
+        // Some rows take longer, so that later ones are answered before them.
+        let counts = each_into(&mut out, rows(Pieces(bytes.clone()), 3), jobs, |position, row| {
+            thread::sleep(Duration::from_micros(if position % 50 == 1 { 3000 } else { 0 }));
+            line(position, row)
+        });
+        let counts = counts.ok().expect("all is written");
+        assert!(out == text, "{jobs} jobs");
+        let of = |number| expected.iter().filter(|answer| answer.number == number).count() as u64;
+        assert_eq!([0, 1, 2, 3].map(|number| counts.of(number)), [0, 1, 2, 3].map(of));
+        assert_eq!((counts.total(), counts.refused()), (1667, of(1) + of(2)));
+    }
+}
+
+#[test]
+fn as_many_rows_at_a_time_as_jobs() {
+    let result = ends(|| {
+        let together = Barrier::new(3);
+        each_into(&mut vec![], rows(Pieces(vec![0; 9]), 1), 3, |position, row| {
+            together.wait();
+            line(position, row)
+        })
+        .is_ok()
+    });
+    assert_eq!(result, Ok(true));
+}
+
+#[test]
+fn fewer_workers_where_not_all_start() {
+    let started = |room: usize| {
+        let count = AtomicUsize::new(0);
+        let start = || match count.fetch_add(1, Ordering::Relaxed) {
+            earlier if earlier < room => Ok(()),
+            _ => Err(ErrorKind::WouldBlock.into()),
+        };
+        as_many_as_start(4, start).ok()
+    };
+    assert_eq!([0, 1, 3, 4, 9].map(started), [None, Some(1), Some(3), Some(4), Some(4)]);
+}
+
+#[test]
+fn quick_rows_travel_together_and_slow_ones_alone() {
+    let mut out = Lengths(vec![]);
+    let quick = |_: u64, _: &[u8]| Answer { text: vec![0], notes: String::new(), number: 0 };
+    each_into(&mut out, rows(io::repeat(7).take(100_000), 1), 2, quick).ok().expect("all is written");
+    assert_eq!(out.0.iter().sum::<usize>(), 100_000);
+    assert!(out.0.len() < 5_000, "{} writes", out.0.len());
+    let mut out = Lengths(vec![]);
+    let slow = |_: u64, _: &[u8]| {
+        thread::sleep(2 * SHORT);
+        Answer { text: vec![0], notes: String::new(), number: 0 }
+    };
+    each_into(&mut out, rows(io::repeat(7).take(40), 1), 2, slow).ok().expect("all is written");
+    assert_eq!(out.0, [1; 40]);
+}
+
+#[test]
+fn notes_stand_behind_their_lines() {
+    /// Both streams in one text.
+    #[derive(Clone)]
+    struct Page(Arc<Mutex<Vec<u8>>>);
+    impl Write for Page {
+        fn write(&mut self, bytes: &[u8]) -> io::Result<usize> {
+            self.0.lock().expect("the page").write(bytes)
+        }
+        fn flush(&mut self) -> io::Result<()> {
+            Ok(())
+        }
+    }
+    let page = Page(Arc::default());
+    let streams = Streams { out: &mut page.clone(), error: &mut page.clone(), on_terminal: false };
+    let answer = |position: u64, _: &[u8]| {
+        let notes = if position % 3 == 1 { format!("note on {position}\n") } else { String::new() };
+        Answer { text: format!("{position}\n").into_bytes(), notes, number: 0 }
+    };
+    each_to(streams, rows(io::repeat(7).take(1000), 1), 2, answer).ok().expect("all is written");
+    let note = |i: u64| if i % 3 == 1 { format!("{i}\nnote on {i}\n") } else { format!("{i}\n") };
+    let expected: String = (1..=1000).map(note).collect();
+    assert!(*page.0.lock().expect("the page") == expected.into_bytes());
+}
+
+#[test]
+fn a_failing_read_comes_behind_the_rows_before_it() {
+    let mut out = vec![];
+    let result = each_into(&mut out, rows(Pieces(vec![7; 35]).chain(Broken), 2), 2, |position, row| {
+        thread::sleep(SHORT);
+        line(position, row)
+    });
+    let failure = result.err().expect("a failure").to_string();
+    assert!(failure.starts_with("input: "), "{failure}");
+    let expected: String = (1..=17).map(|position| format!("{position} [7, 7]\n")).collect();
+    assert_eq!(String::from_utf8(out), Ok(expected));
+}
+
+#[test]
+fn a_closed_output_ends_the_workers_though_the_reader_waits() {
+    let secret = Arc::new(());
+    let held = Arc::clone(&secret);
+    let result = ends(move || {
+        each_into(&mut Closed, rows(Pieces(vec![7; 10]).chain(Silent), 1), 2, move |position, row| {
+            let _holds = &held;
+            line(position, row)
+        })
+        .err()
+    });
+    assert!(matches!(result, Ok(Some(Failure::Closed))));
+    assert_eq!(Arc::strong_count(&secret), 1);
+}
+
+#[test]
+fn an_endless_input_waits_for_the_output() {
+    const ENOUGH: usize = 50_000;
+    /// From when on enough rows are answered: waits until no more are, then is closed.
+    struct Slow(Arc<AtomicUsize>);
+    impl Write for Slow {
+        fn write(&mut self, bytes: &[u8]) -> io::Result<usize> {
+            let mut seen = ENOUGH - 1;
+            while seen < self.0.load(Ordering::Relaxed) {
+                seen = self.0.load(Ordering::Relaxed);
+                thread::sleep(Duration::from_millis(200));
+            }
+            if seen < ENOUGH {
+                return Ok(bytes.len());
+            }
+            Closed.write(bytes)
+        }
+        fn flush(&mut self) -> io::Result<()> {
+            Ok(())
+        }
+    }
+    let answered = Arc::new(AtomicUsize::new(0));
+    let (count, mut out) = (Arc::clone(&answered), Slow(Arc::clone(&answered)));
+    let result = ends(move || {
+        each_into(&mut out, rows(io::repeat(7), 100), 3, move |position, row| {
+            count.fetch_add(1, Ordering::Relaxed);
+            line(position, row)
+        })
+        .err()
+    });
+    assert!(matches!(result, Ok(Some(Failure::Closed))));
+    let most_under_way = 3 * FOR_EACH_WORKER * (2 * MANY / 100);
+    assert!(answered.load(Ordering::Relaxed) <= ENOUGH + 2 * most_under_way, "{answered:?}");
+}
+
+#[test]
+fn a_panic_ends_it() {
+    for jobs in [1, 4] {
+        let result = ends(move || {
+            each_into(&mut vec![], rows(Pieces(vec![7; 100]).chain(Silent), 1), jobs, |position, row| {
+                assert!(position < 5, "a panic made for this test");
+                line(position, row)
+            })
+            .is_ok()
+        });
+        assert_eq!(result, Err(RecvTimeoutError::Disconnected));
+    }
+}
