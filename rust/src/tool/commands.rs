@@ -170,3 +170,46 @@ Prints completions of commands, options and operands, for the shell to read:
 pub fn named(word: impl AsRef<OsStr>) -> Option<&'static Command> {
     COMMANDS.iter().find(|command| word.as_ref() == command.name)
 }
+
+#[cfg(test)]
+mod tests {
+    use super::COMMANDS;
+    use crate::table::{Choice, Command};
+
+    #[test]
+    fn every_name_stands_once() {
+        for (i, command) in COMMANDS.iter().enumerate() {
+            assert!(COMMANDS[..i].iter().all(|before| before.name != command.name), "{}", command.name);
+            let options: Vec<&str> = command.options().map(|choice| choice.name).collect();
+            for (j, option) in options.iter().enumerate() {
+                assert!(!options[..j].contains(option), "{} {option}", command.name);
+            }
+        }
+    }
+
+    /// The completions go by an option's name, whatever the command.
+    #[test]
+    fn an_option_takes_the_same_everywhere() {
+        let options: Vec<&Choice> = COMMANDS.iter().flat_map(Command::options).collect();
+        for one in &options {
+            let same = options.iter().filter(|other| other.name == one.name);
+            same.for_each(|other| assert_eq!((one.in_help(), one.values()), (other.in_help(), other.values())));
+        }
+    }
+
+    #[test]
+    fn optional_operands_come_last() {
+        for command in COMMANDS {
+            assert!(command.operands.is_sorted_by_key(|operand| operand.optional), "{}", command.name);
+        }
+    }
+
+    #[test]
+    fn texts_have_their_form() {
+        for command in COMMANDS {
+            assert!(!command.about.ends_with('.') && !command.about.contains('\n'), "{}", command.name);
+            assert!(command.details.ends_with(".\n") || command.details.ends_with(")\n"), "{}", command.name);
+            assert!(command.details.is_ascii(), "{}", command.name);
+        }
+    }
+}

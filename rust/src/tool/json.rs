@@ -190,10 +190,10 @@ impl Reader<'_> {
         }
         let high = self.unit()?;
         let code = match high {
-            0xd800..=0xdbff if self.passes("\\") => {
-                let low = self.unit()?;
-                0x1_0000 + ((high - 0xd800) << 10) + (low.wrapping_sub(0xdc00) & 0x3ff)
-            }
+            0xd800..=0xdbff if self.passes("\\") => match self.unit()? {
+                low @ 0xdc00..=0xdfff => 0x1_0000 + ((high - 0xd800) << 10) + (low - 0xdc00),
+                _ => high,
+            },
             _ => high,
         };
         char::from_u32(code).ok_or_else(|| self.wrong("no character"))
@@ -246,8 +246,15 @@ mod tests {
         let deep = "[".repeat(100_000);
         let lines =
             ["", "[1]", "{", "{}x", "{\"a\"}", "{\"a\":}", "{\"a\":01}", "{\"a\":1,}", "{\"a\":1 \"b\":2}", "nul"];
-        let texts =
-            ["{\"a\":\"", "{\"a\":\"\\x\"}", "{\"a\":\"\\ud800\"}", "{\"a\":1.}", "{\"a\":\"\\u12\"}", "{\"a\":+1}"];
+        let texts = [
+            "{\"a\":\"",
+            "{\"a\":\"\\x\"}",
+            "{\"a\":\"\\ud800\"}",
+            "{\"a\":\"\\ud800\\u0041\"}",
+            "{\"a\":1.}",
+            "{\"a\":\"\\u12\"}",
+            "{\"a\":+1}",
+        ];
         for line in lines.iter().chain(&texts).chain(&["{\"a\":1,\"a\":2}", "{\"a\":\"\u{1}\"}", deep.as_str()]) {
             assert!(parse(line).is_err(), "{line}");
         }
