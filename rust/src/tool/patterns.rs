@@ -1,6 +1,7 @@
 //! The patterns of a file, in each of the formats that `open` and `read` print.
 
 use std::ffi::OsStr;
+use std::fs::File;
 use std::io::{self, BufRead, BufReader, Read};
 
 use shearcotter::Shape;
@@ -19,7 +20,7 @@ const LONGEST: usize = 1 << 20;
 /// The patterns of a file, one after another.
 pub struct Patterns {
     name: String,
-    input: BufReader<Box<dyn Read>>,
+    input: BufReader<File>,
     shape: Shape,
     format: Format,
     /// How many have been read: the position of the last.
@@ -28,8 +29,8 @@ pub struct Patterns {
 
 impl Patterns {
     pub fn new(name: &OsStr, shape: Shape, format: Format) -> Result<Patterns, Failure> {
-        let input: Box<dyn Read> = Box::new(Input::open(name)?.file);
-        Ok(Patterns { name: names::input(name), input: BufReader::new(input), shape, format, count: 0 })
+        let input = BufReader::new(Input::open(name)?.file);
+        Ok(Patterns { name: names::input(name), input, shape, format, count: 0 })
     }
 
     /// Where the last one stands.
