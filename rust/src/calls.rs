@@ -13,11 +13,16 @@ use crate::{raw, wiping, Refusal};
 const FRAMES: usize = 4096;
 /// The same with the copies of station and reply that builds without optimisation make.
 const COPIES: usize = FRAMES + size_of::<raw::Station>() + size_of::<raw::Reply>();
+/// What each call on a secret takes.
+const TAKEN: [usize; 6] =
+    [raw::STACK_LOAD, raw::STACK_PUBLISH, raw::STACK_LOCK, raw::STACK_OPEN, raw::STACK_READ, raw::STACK_DROP];
 // All of it lies in the stack that is made sure of.
 const _: () = {
-    let most = raw::STACK - COPIES - FRAMES;
-    assert!(raw::STACK_LOAD <= most && raw::STACK_PUBLISH <= most && raw::STACK_DROP <= most);
-    assert!(raw::STACK_OPEN <= most && raw::STACK_READ <= most && raw::STACK_LOCK <= most);
+    let mut i = 0;
+    while i < TAKEN.len() {
+        assert!(TAKEN[i] + COPIES + FRAMES <= raw::STACK);
+        i += 1;
+    }
 };
 
 /// Touches [`raw::STACK`] bytes of stack, page after page, so that a call that would not fit ends here.
