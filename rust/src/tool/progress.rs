@@ -30,18 +30,22 @@ impl Progress {
     pub fn show(&mut self, done: u64) {
         let now = Instant::now();
         if self.next.is_some_and(|next| now >= next) {
-            let bar = text(done, self.total, self.unit, now - self.started);
-            put(&format!("\r{bar:<width$}", width = self.width));
-            self.width = bar.len();
+            put(&self.draw(&text(done, self.total, self.unit, now - self.started)));
             self.next = Some(now + BETWEEN);
         }
+    }
+
+    /// What draws a bar over the one that stands there, all of it.
+    fn draw(&mut self, bar: &str) -> String {
+        let drawn = format!("\r{bar:<width$}", width = self.width);
+        self.width = bar.len();
+        drawn
     }
 
     /// Takes the bar away until it is shown next: before lines on the same terminal, and at the end.
     pub fn clear(&mut self) {
         if self.width > 0 {
-            put(&format!("\r{:width$}\r", "", width = self.width));
-            self.width = 0;
+            put(&(self.draw("") + "\r"));
             self.next = Some(Instant::now());
         }
     }
@@ -102,6 +106,13 @@ mod tests {
         assert_eq!(after(12, 4, 3), "[##############################] 100 % 4 of 3 words");
         assert!(after(12, 999, 1000).contains(" 99 % "));
         assert!(after(12, 57, 100).contains(" 57 % "));
+    }
+
+    #[test]
+    fn a_bar_covers_the_one_before_it() {
+        let mut progress = Progress::new(None, "words", false);
+        let drawn = ["99 words", "100 words", "1 word", "2 words", ""].map(|bar| progress.draw(bar));
+        assert_eq!(drawn, ["\r99 words", "\r100 words", "\r1 word   ", "\r2 words", "\r       "]);
     }
 
     #[test]

@@ -90,7 +90,7 @@ pub fn each(rows: Rows, jobs: usize, answer: impl Fn(u64, &[u8]) -> Answer + Syn
     let mut out = files::standard_output()?;
     let on_terminal = out.is_terminal();
     let streams = Streams { out: &mut out, error: &mut io::stderr(), on_terminal };
-    each_to(streams, rows, jobs.max(1), answer)
+    each_to(streams, rows, jobs, answer)
 }
 
 /// Where answers go.

@@ -1,9 +1,10 @@
 //! Runs of the tool, and folders for their files.
 
-use std::io::Write;
+use std::io::{BufRead, BufReader, Write};
 use std::path::{Path, PathBuf};
 use std::process::{Child, Command, Output, Stdio};
 use std::sync::atomic::{AtomicUsize, Ordering};
+use std::sync::mpsc::{self, Receiver, RecvTimeoutError};
 use std::time::{Duration, Instant};
 use std::{env, fs, process, thread};
 
@@ -25,6 +26,29 @@ pub fn run(words: &[&str], input: &[u8]) -> Output {
     output
 }
 
+/// How long a test waits for what has to come.
+const LONG: Duration = Duration::from_secs(60);
+
+/// The lines of a run's standard output, read one at a time.
+pub struct Lines(Receiver<String>);
+
+impl Lines {
+    pub fn of(child: &mut Child) -> Lines {
+        let out = BufReader::new(child.stdout.take().expect("its standard output"));
+        let (found, lines) = mpsc::sync_channel(0);
+        thread::spawn(move || out.lines().try_for_each(|line| found.send(line.expect("text"))));
+        Lines(lines)
+    }
+
+    /// The next line; none at the end.
+    pub fn next(&self) -> Option<String> {
+        match self.0.recv_timeout(LONG) {
+            Err(RecvTimeoutError::Timeout) => panic!("no line comes"),
+            line => line.ok(),
+        }
+    }
+}
+
 /// The exit status of a run that has to end by itself.
 pub fn ended(child: &mut Child) -> i32 {
     let started = Instant::now();
@@ -32,7 +56,7 @@ pub fn ended(child: &mut Child) -> i32 {
         if let Some(status) = child.try_wait().expect("the tool's state") {
             return status.code().expect("an exit status");
         }
-        if started.elapsed() > Duration::from_secs(60) {
+        if started.elapsed() > LONG {
             let _ = child.kill();
             panic!("the tool does not end");
         }

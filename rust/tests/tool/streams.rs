@@ -2,7 +2,7 @@
 //! streams, and `-` for a file.
 
 use std::fs::{self, File, OpenOptions};
-use std::io::{BufRead, BufReader, Read, Write};
+use std::io::{Read, Write};
 use std::os::fd::OwnedFd;
 use std::os::unix::net::UnixStream;
 use std::process::{Child, Stdio};
@@ -11,7 +11,7 @@ use std::time::Duration;
 
 use super::{accepted, fails, outcome, with_k1};
 use crate::bench_keys::K1;
-use crate::support::run::{ended, run, status, text, tool, Folder};
+use crate::support::run::{ended, run, status, text, tool, Folder, Lines};
 use crate::support::vectors;
 
 /// Some rows are refused; without the summary, which names the file.
@@ -103,10 +103,10 @@ fn a_line_comes_before_the_next_capsule() {
     for jobs in ["1", "2", "5"] {
         let mut child = start(&["open", "--jobs", jobs, &key]);
         let mut input = child.stdin.take().expect("its standard input");
-        let mut lines = BufReader::new(child.stdout.take().expect("its standard output")).lines();
+        let lines = Lines::of(&mut child);
         for position in 1..=30 {
             input.write_all(&[0x03]).expect("a capsule");
-            let line = lines.next().expect("a line").expect("text");
+            let line = lines.next().expect("a line");
             assert_eq!(line, format!("{position} open 4"));
         }
         drop(input);
@@ -122,12 +122,12 @@ fn a_capsule_comes_in_pieces() {
     let key = folder.write("key.bin", &at("key.bin"));
     let mut child = start(&["open", &key]);
     let mut input = child.stdin.take().expect("its standard input");
-    let mut lines = BufReader::new(child.stdout.take().expect("its standard output")).lines();
+    let lines = Lines::of(&mut child);
     let capsule = at("capsule_reject.bin");
     for (position, end) in [(1, 1), (2, 50), (3, 95)] {
         input.write_all(&capsule[..end]).expect("a piece");
         input.write_all(&capsule[end..]).expect("the rest");
-        assert_eq!(lines.next().expect("a line").expect("text"), format!("{position} refused 13"));
+        assert_eq!(lines.next().expect("a line"), format!("{position} refused 13"));
     }
     drop(input);
     assert!(lines.next().is_none());
@@ -143,9 +143,9 @@ fn a_read_fails_behind_three_capsules() {
     command.args(["open", "--jobs", "2", &key]).stdin(stdin).stdout(Stdio::piped()).stderr(Stdio::piped());
     let mut child = command.spawn().expect("the tool starts");
     near.write_all(&[0x03, 0x00, 0x13]).expect("three capsules");
-    let mut lines = BufReader::new(child.stdout.take().expect("its standard output")).lines();
+    let lines = Lines::of(&mut child);
     for expected in ["1 open 4", "2 refused 13", "3 refused 9"] {
-        assert_eq!(lines.next().expect("a line").expect("text"), expected);
+        assert_eq!(lines.next().expect("a line"), expected);
     }
     // An end that is closed with a byte not read resets the connection.
     far.write_all(&[0]).expect("a byte");
@@ -168,9 +168,9 @@ fn most_memory(child: &Child) -> u64 {
 fn an_endless_input_takes_bounded_memory() {
     let (_folder, key) = with_k1();
     let mut child = start(&["open", "--jobs", "4", &key, "/dev/zero"]);
-    let mut lines = BufReader::new(child.stdout.take().expect("its standard output")).lines();
+    let lines = Lines::of(&mut child);
     for position in 1..=200_000 {
-        assert_eq!(lines.next().expect("a line").expect("text"), format!("{position} refused 13"));
+        assert_eq!(lines.next().expect("a line"), format!("{position} refused 13"));
     }
     // Time to read on, while nobody takes the lines.
     thread::sleep(Duration::from_millis(500));

@@ -46,7 +46,8 @@ fn done_in(bar: &str) -> Option<usize> {
     let percent = number_in(words.trim_start())?;
     let (done, rest) = number_in(percent.1.strip_prefix(" % ")?)?;
     let rest = rest.strip_prefix(&format!(" of {CAPSULES} capsules"))?;
-    let time = rest.is_empty() || number_in(rest.strip_prefix(", ")?)?.1 == " s left";
+    // Minutes too, on a machine that has other work.
+    let time = rest.is_empty() || matches!(number_in(rest.strip_prefix(", ")?)?.1, " s left" | " min left");
     let drawn = marks.trim_end_matches('.') == "#".repeat(30 * done / CAPSULES);
     (marks.len() == 30 && drawn && percent.0 == 100 * done / CAPSULES && time).then_some(done)
 }
@@ -64,7 +65,7 @@ fn a_bar_with_the_time_left() {
         let done: Option<Vec<usize>> = bars.iter().map(|bar| done_in(bar)).collect();
         let done = done.unwrap_or_else(|| panic!("{bars:?}"));
         assert!(done.len() > 2 && done.is_sorted() && done[0] > 0, "{bars:?}");
-        assert!(bars[0].ends_with(" s left"), "{bars:?}");
+        assert!(bars[0].ends_with(" left"), "{bars:?}");
         assert_eq!(session.screen(), summary(&capsules));
         assert!(!session.written.contains('\x1b'), "{:?}", session.written);
         assert_eq!(fs::read_to_string(&out).expect("lines"), lines().join("\n") + "\n");

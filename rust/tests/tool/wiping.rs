@@ -3,11 +3,11 @@
 #![cfg(target_os = "linux")]
 
 use std::fs::{self, File};
-use std::io::{BufRead, BufReader, Read, Seek, SeekFrom, Write};
+use std::io::{Read, Seek, SeekFrom, Write};
 use std::process::Stdio;
 
 use super::{standard, with_k1};
-use crate::support::run::tool;
+use crate::support::run::{tool, Lines};
 
 /// How often the bytes stand in the writable memory of a process.
 fn occurrences(process: u32, bytes: &[u8]) -> usize {
@@ -39,8 +39,8 @@ fn no_bytes_of_the_key_file_are_left() {
     let mut child = read.spawn().expect("the tool starts");
     let mut input = child.stdin.take().expect("its standard input");
     input.write_all(&word).expect("a word");
-    let mut lines = BufReader::new(child.stdout.take().expect("its standard output")).lines();
-    assert!(lines.next().expect("a line").expect("text").starts_with("1 read 64 "));
+    let lines = Lines::of(&mut child);
+    assert!(lines.next().expect("a line").starts_with("1 read 64 "));
     // The station has the support and g apart: only the file has t between them.
     let between = &file[3 + 2 * 3480..7 + 2 * 3496];
     assert_eq!(occurrences(child.id(), between), 0);
