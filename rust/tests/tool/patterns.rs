@@ -1,9 +1,10 @@
 //! Patterns that lock takes: in each format, several at once, all or none.
 
 use std::fs;
+use std::process::Command;
 
 use super::{accepted, fails, outcome, standard, with_k1};
-use crate::support::run::Folder;
+use crate::support::run::{status, text, Folder};
 
 /// A folder with K1's public key.
 fn with_public() -> (Folder, String) {
@@ -126,6 +127,16 @@ fn a_file_without_patterns_is_refused() {
         let says = "refused 8: pattern of wrong byte length: expected 1 byte, found 0\n";
         leaves(format, b"", 1, says);
     }
+}
+
+#[test]
+fn a_line_without_end_is_not_read_to_it() {
+    let (_folder, public) = with_public();
+    let line = "ulimit -v 500000; exec \"$0\" lock --format places 4,6,1 \"$1\" /dev/zero -";
+    let shell = Command::new("sh").args(["-c", line, env!("CARGO_BIN_EXE_shearcotter"), &public]).output();
+    let output = shell.expect("the shell starts");
+    let expected = "shearcotter: /dev/zero: line 1: longer than 1048576 bytes\n";
+    assert_eq!((status(&output), text(&output.stderr)), (2, expected));
 }
 
 #[test]
