@@ -52,13 +52,15 @@ fn no_secret_outlives_its_owner() {
     child.end();
 }
 
-/// The raw calls wipe nothing: after them, all that is looked for is found.
+/// The raw calls wipe nothing: after them the key and the pattern are found, and numbers worked out from them. Which of these are
+/// still there is the compiler's choice.
 #[test]
 fn what_the_calls_leave_is_found() {
     let secrets = Secrets::of_the_vector();
     let mut child = Child::start(Mode::Raw);
     let found = found_at(&mut child, Point::Opened, &secrets);
     child.end();
-    let missing: Vec<_> = secrets.names().into_iter().filter(|name| !found.contains_key(name)).collect();
-    assert!(missing.is_empty(), "not found: {missing:?}; found: {found:?}");
+    let held = [KEY, G, PATTERN];
+    assert!(held.iter().all(|name| found.contains_key(name)), "{found:?}");
+    assert!(found.keys().any(|name| !held.contains(name)), "{found:?}");
 }

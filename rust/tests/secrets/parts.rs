@@ -1,6 +1,6 @@
 //! What is looked for in memory: the key, the pattern, and numbers that opening works out from them.
 
-use std::collections::{BTreeMap, BTreeSet, HashMap};
+use std::collections::{BTreeMap, HashMap};
 
 use super::child::FOLDER;
 use super::memory::Stretch;
@@ -94,10 +94,6 @@ impl Secrets {
         self.add_list("points of the pattern", &points);
         self.add_list("g at the points", &values);
         self.add_list("register", &points.iter().fold(vec![1], by_point));
-    }
-
-    pub fn names(&self) -> BTreeSet<&'static str> {
-        self.parts.values().flatten().map(|part| part.name).collect()
     }
 
     pub fn in_memory(&self, memory: &[Stretch]) -> Found {
