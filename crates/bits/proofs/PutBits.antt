@@ -1,17 +1,19 @@
 -- Bits written one after another from a place on: what each bit is then, and the packed row that they make. Assumes nothing.
 use mathlib.Core.Path.{_≡_, refl, sym, ap, ap₂, _∙_}
 use mathlib.Core.List.{List, [], _∷_, _++_, map}
-use Prim.Native.Nat.{ℕ, zero, suc, _+_, _*_, _/_, _%_, _≤_, _<_}
+use Prim.Native.Nat.{ℕ, zero, suc, _+_, _-_, _*_, _/_, _%_, _≤_, _<_}
 use native.Mathlib.Nat.{add-zero, zero-add, mod-eq-of-lt, not-suc-le-zero, le-of-suc-le-suc}
 use native.Mathlib.Numerals.{add-one}
 use native.Mathlib.Decide.{decLt}
 use native.Mathlib.Omega.{arith}
 use borrow.Author.Tests.{le-leb, lt-leb}
+use borrow.Rule.Slice.PartMut.{putMid}
 use lib.ListN.{length, getD, take, drop, set, replicate, length-replicate, length-drop, take-append-drop, drop-of-length-le, List·getD-append, List·getD-eq-default}
 use lib.Seq.{drop-cons, drop-drop, length-take-le, ext-getD, set-append-left}
 use Rattle.bits.specs.Bits.{Bytes, Row, bytesFor, bitAt, withBit, setBit, putBits, unpack, pack, over, from, rowWritten}
 use Rattle.bits.proofs.Bits.{bit-zeros, bytes-zeros, bits-determine, length-setBit, bytes-setBit, set-bit-same, set-bit-other}
 use Rattle.bits.proofs.Pack.{row-lt, row-length, length-unpack, unpack-at, unpack-ext, bytes-enough, length-pack, bytes-pack, bit-pack, pack-unpack, well-formed-zeros}
+use Rattle.bits.proofs.Parts.{part-all, part-back}
 
 -- as a loop over a list of bits writes them: one more, and none left
 pub put-next : (l : List ℕ) (j : ℕ) (s : List ℕ) → j < length l
@@ -61,13 +63,16 @@ put-part bs (suc q) (x ∷ s) h =
     let e : 8 * suc q ≡ 8 + 8 * q = omega arith in
     ap (λ (j : ℕ). putBits bs j (x ∷ s)) e ∙ put-behind bs x s (8 * q) ∙ ap (_∷_ x) (put-part bs q s (le-of-suc-le-suc h))
 
--- k bits more, put into the part from byte q on, which is lent and comes back as y
-pub put-lent : (l : List ℕ) (q k : ℕ) (s y : List ℕ) → q ≤ length s → 8 * q + k ≤ length l
-    → y ≡ putBits (take k (drop (8 * q) l)) 0 (drop q s)
-    → putBits (drop (8 * q + k) l) (8 * q + k) (take q s ++ y) ≡ putBits (drop (8 * q) l) (8 * q) s
-put-lent l q k s y h m e =
+-- k bits more, put into the part from byte q on of n bytes, which is lent and comes back as y
+pub put-lent : (l : List ℕ) (q k n : ℕ) (s y : List ℕ) → length s ≡ n → q ≤ n → 8 * q + k ≤ length l
+    → y ≡ putBits (take k (drop (8 * q) l)) 0 (take (n - q) (drop q s))
+    → putBits (drop (8 * q + k) l) (8 * q + k) (putMid q (n - q) s y) ≡ putBits (drop (8 * q) l) (8 * q) s
+put-lent l q k n s y z h m e =
+    let bits : List ℕ = take k (drop (8 * q) l) in
+    let part : take (n - q) (drop q s) ≡ drop q s = ap (λ (i : ℕ). take (i - q) (drop q s)) (sym z) ∙ part-all q s in
+    let back : putMid q (n - q) s y ≡ take q s ++ y = ap (λ (i : ℕ). putMid q (i - q) s y) (sym z) ∙ part-back q s y in
     ap (putBits (drop (8 * q + k) l) (8 * q + k))
-    (ap (λ (t : List ℕ). take q s ++ t) e ∙ sym (put-part (take k (drop (8 * q) l)) q s h))
+    (back ∙ ap (λ (t : List ℕ). take q s ++ t) (e ∙ ap (putBits bits 0) part) ∙ sym (put-part bits q s (omega arith)))
     ∙ put-more l (8 * q) k s m
 
 pub length-putBits : (bs : List ℕ) (i : ℕ) (s : List ℕ) → length (putBits bs i s) ≡ length s

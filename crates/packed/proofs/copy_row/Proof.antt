@@ -1,26 +1,16 @@
 -- The loop's invariant: the bits from 8·q on are left to write. Assumes nothing.
 use mathlib.Core.Path.{_≡_, refl, sym, ap, _∙_}
-use mathlib.Core.List.{List, _++_, map}
+use mathlib.Core.List.{List, map}
 use Prim.Native.Nat.{ℕ, _+_, _-_, _*_, _%_, _≤_}
 use native.Mathlib.Omega.{arith}
 use borrow.Rule.Slice.PartMut.{putMid, same-len-mid}
 use lib.ListN.{length, take, drop}
-use Rattle.bits.specs.Bits.{from, bytesFor, bitAt, putBits}
+use Rattle.bits.specs.Bits.{from, bitAt, putBits}
 use Rattle.bits.proofs.Lists.{length-map-from, map-from-part}
 use Rattle.bits.proofs.Pack.{bytes-enough}
-use Rattle.bits.proofs.Parts.{part-all, part-back}
 use Rattle.bits.proofs.PutBits.{put-lent, put-end}
 use Rattle.packed.proofs.copy_row.Statement.{statement}
 use Rattle.packed.proofs.copy_row.Tie as tie
-
--- what copy_bits leaves of the part from byte q on
-part-put : (s out y : List ℕ) (b w q k : ℕ) → 8 * q + k ≤ w
-    → y ≡ putBits (map (bitAt s) (from (b + 8 * q) k)) 0 (take (length out - q) (drop q out))
-    → y ≡ putBits (take k (drop (8 * q) (map (bitAt s) (from b w)))) 0 (drop q out)
-part-put s out y b w q k h e =
-    e
-    ∙ ap (putBits (map (bitAt s) (from (b + 8 * q) k)) 0) (part-all q out)
-    ∙ ap (λ (t : List ℕ). putBits t 0 (drop q out)) (sym (map-from-part (bitAt s) b w (8 * q) k h))
 
 abbrev Inv-loop : tie.InvT-loop
 Inv-loop out₀ s b w whole q₀ out q =
@@ -65,12 +55,13 @@ loop-again c =
     let bits : List ℕ = map (bitAt (a .s .now)) (from (a .b) (a .w)) in
     let size : length bits ≡ a .w = length-map-from (bitAt (a .s .now)) (a .b) (a .w) in
     let next : 8 * (l .q + 1) ≡ 8 * l .q + 8 = omega arith in
-    let y = part-put (a .s .now) (l .out) (q .last .0) (a .b) (a .w) (l .q) 8 (omega arith) (q .ensures) in (
+    let part = map-from-part (bitAt (a .s .now)) (a .b) (a .w) (8 * l .q) 8 (omega arith) in
+    let lent : List ℕ = take (length (l .out) - l .q) (drop (l .q) (l .out)) in (
       omega arith,
       same-len-mid (l .q) (length (l .out) - l .q) (l .out) (q .last .0) (q .kept .0) ∙ l .inv .1,
       ap (λ (i : ℕ). putBits (drop i bits) i (putMid (l .q) (length (l .out) - l .q) (l .out) (q .last .0))) next
-          ∙ ap (putBits (drop (8 * l .q + 8) bits) (8 * l .q + 8)) (part-back (l .q) (l .out) (q .last .0))
-          ∙ put-lent bits (l .q) 8 (l .out) (q .last .0) (omega (arith, bytes-enough (a .w))) (omega arith) y
+          ∙ put-lent bits (l .q) 8 (length (l .out)) (l .out) (q .last .0) refl (omega (arith, bytes-enough (a .w))) (omega arith)
+          (q .ensures ∙ ap (λ (t : List ℕ). putBits t 0 lent) (sym part))
           ∙ l .inv .2,
     )
 
@@ -106,10 +97,11 @@ returns c =
     let bits : List ℕ = map (bitAt (a .s .now)) (from (a .b) (a .w)) in
     let size : length bits ≡ a .w = length-map-from (bitAt (a .s .now)) (a .b) (a .w) in
     let k : ℕ = a .w % 8 in
-    let y = part-put (a .s .now) (l .out) (q .last .0) (a .b) (a .w) (l .q) k (omega arith) (q .ensures) in
-    part-back (l .q) (l .out) (q .last .0)
-    ∙ sym (put-end bits (8 * l .q + k) (take (l .q) (l .out) ++ q .last .0) (omega arith))
-    ∙ put-lent bits (l .q) k (l .out) (q .last .0) (omega (arith, bytes-enough (a .w))) (omega arith) y
+    let part = map-from-part (bitAt (a .s .now)) (a .b) (a .w) (8 * l .q) k (omega arith) in
+    let lent : List ℕ = take (length (l .out) - l .q) (drop (l .q) (l .out)) in
+    sym (put-end bits (8 * l .q + k) (putMid (l .q) (length (l .out) - l .q) (l .out) (q .last .0)) (omega arith))
+    ∙ put-lent bits (l .q) k (length (l .out)) (l .out) (q .last .0) refl (omega (arith, bytes-enough (a .w))) (omega arith)
+    (q .ensures ∙ ap (λ (t : List ℕ). putBits t 0 lent) (sym part))
     ∙ l .inv .2
 
 pub copy-row-spec : {M : Type 1} → statement M

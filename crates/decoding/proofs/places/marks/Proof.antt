@@ -1,32 +1,21 @@
 -- The loop's invariant: the marks from place 8·q on are left to write. Assumes nothing.
 use mathlib.Core.Path.{_≡_, refl, sym, ap, _∙_}
-use mathlib.Core.List.{List, _++_, map}
+use mathlib.Core.List.{List, map}
 use Prim.Native.Nat.{ℕ, _+_, _-_, _*_, _≤_}
 use native.Mathlib.Omega.{arith}
 use borrow.Author.Needs.{needs}
 use borrow.Rule.Slice.PartMut.{putMid, same-len-mid}
 use lib.ListN.{length, take, drop, replicate, length-map}
 use Rattle.bits.specs.Bits.{putBits}
-use Rattle.bits.proofs.Parts.{part-all, part-back}
 use Rattle.bits.proofs.PutBits.{put-lent, put-end}
 use Rattle.decoding.specs.Parts.{mark}
 use Rattle.decoding.proofs.Packed.{packed-put, map-part, row-marks}
 use Rattle.decoding.proofs.places.marks.Statement.{statement}
 use Rattle.decoding.proofs.places.marks.Tie as tie
 
--- what mark_bits leaves of the pattern's part from byte q on, with the marks of k values from `at` on
-part-put : (values pattern y : List ℕ) (q at k : ℕ) → at ≡ 8 * q → length pattern ≡ 1024
-    → y ≡ putBits (map mark (take k (drop at values))) 0 (take (1024 - q) (drop q pattern))
-    → y ≡ putBits (take k (drop (8 * q) (map mark values))) 0 (drop q pattern)
-part-put values pattern y q at k h n e =
-    e
-    ∙ ap (putBits (map mark (take k (drop at values))) 0)
-    (ap (λ (i : ℕ). take (i - q) (drop q pattern)) (sym n) ∙ part-all q pattern)
-    ∙ ap (λ (l : List ℕ). putBits l 0 (drop q pattern)) (map-part mark at k values ∙ ap (λ (i : ℕ). take k (drop i (map mark values))) h)
-
--- the part comes back as y
-part-came : (pattern y : List ℕ) (q : ℕ) → length pattern ≡ 1024 → putMid q (1024 - q) pattern y ≡ take q pattern ++ y
-part-came pattern y q n = ap (λ (i : ℕ). putMid q (i - q) pattern y) (sym n) ∙ part-back q pattern y
+-- the marks of k values from `at` on
+marks-part : (values : List ℕ) (q at k : ℕ) → at ≡ 8 * q → map mark (take k (drop at values)) ≡ take k (drop (8 * q) (map mark values))
+marks-part values q at k h = map-part mark at k values ∙ ap (λ (i : ℕ). take k (drop i (map mark values))) h
 
 abbrev Inv-loop : tie.InvT-loop
 Inv-loop values whole pattern₀ q₀ at₀ pattern q at =
@@ -81,14 +70,14 @@ loop-again c =
     let size : length bits ≡ length (a .values .now) = length-map (a .values .now) mark in
     let next : 8 * (l .q + 1) ≡ 8 * l .q + 8 = omega arith in
     let eight : l .at + 8 - l .at ≡ 8 = omega arith in
-    let y = part-put (a .values .now) (l .pattern) (h .last .0) (l .q) (l .at) 8 (l .inv .1) (l .inv .2)
-    (h .ensures ∙ ap (λ (k : ℕ). putBits (map mark (take k (drop (l .at) (a .values .now)))) 0 (take (1024 - l .q) (drop (l .q) (l .pattern)))) eight) in (
+    let part = ap (λ (k : ℕ). map mark (take k (drop (l .at) (a .values .now)))) eight ∙ marks-part (a .values .now) (l .q) (l .at) 8 (l .inv .1) in
+    let lent : List ℕ = take (1024 - l .q) (drop (l .q) (l .pattern)) in (
       omega arith,
       omega arith,
       same-len-mid (l .q) (1024 - l .q) (l .pattern) (h .last .0) (h .kept .0) ∙ l .inv .2,
       ap (λ (i : ℕ). putBits (drop i bits) i (putMid (l .q) (1024 - l .q) (l .pattern) (h .last .0))) next
-          ∙ ap (putBits (drop (8 * l .q + 8) bits) (8 * l .q + 8)) (part-came (l .pattern) (h .last .0) (l .q) (l .inv .2))
-          ∙ put-lent bits (l .q) 8 (l .pattern) (h .last .0) (omega arith) (omega arith) y
+          ∙ put-lent bits (l .q) 8 1024 (l .pattern) (h .last .0) (l .inv .2) (omega arith) (omega arith)
+          (h .ensures ∙ ap (λ (t : List ℕ). putBits t 0 lent) part)
           ∙ l .inv .3,
     )
 
@@ -124,10 +113,11 @@ returns c =
     let bits : List ℕ = map mark (a .values .now) in
     let size : length bits ≡ length (a .values .now) = length-map (a .values .now) mark in
     let k : ℕ = length (a .values .now) - l .at in
-    let y = part-put (a .values .now) (l .pattern) (h .last .0) (l .q) (l .at) k (l .inv .1) (l .inv .2) (h .ensures) in
-    part-came (l .pattern) (h .last .0) (l .q) (l .inv .2)
-    ∙ sym (put-end bits (8 * l .q + k) (take (l .q) (l .pattern) ++ h .last .0) (omega arith))
-    ∙ put-lent bits (l .q) k (l .pattern) (h .last .0) (omega arith) (omega arith) y
+    let part = marks-part (a .values .now) (l .q) (l .at) k (l .inv .1) in
+    let lent : List ℕ = take (1024 - l .q) (drop (l .q) (l .pattern)) in
+    sym (put-end bits (8 * l .q + k) (putMid (l .q) (1024 - l .q) (l .pattern) (h .last .0)) (omega arith))
+    ∙ put-lent bits (l .q) k 1024 (l .pattern) (h .last .0) (l .inv .2) (omega arith) (omega arith)
+    (h .ensures ∙ ap (λ (t : List ℕ). putBits t 0 lent) part)
     ∙ l .inv .3
     ∙ packed-put (row-marks (a .values .now)) (omega arith)
 
