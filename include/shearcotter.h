@@ -233,7 +233,7 @@ shearcotter_reply shearcotter_publish(shearcotter_station station, uint8_t *out,
                                       size_t work_length);
 
 /* Writes the pattern with exactly t ones that locks to the capsule, and counts its ones. The station stays.
- * Refused: 21, 25, 24, 8, 9, 10, 13. */
+ * Refused: 21, 25, 24, 8, 9, 10, 13. A sender must not learn of 13: docs/FORMATS.md, 'Classic McEliece's objects'. */
 shearcotter_reply shearcotter_open(shearcotter_station station, const uint8_t *capsule, size_t capsule_length, uint8_t *out,
                                    size_t out_length);
 
