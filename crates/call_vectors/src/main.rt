@@ -17,8 +17,9 @@ use vectors::line::output;
 use vectors::line::refused;
 use vectors::line::size;
 use vectors::tally::Tally;
+use vectors::tally::agreements;
 use vectors::tally::counted;
-use vectors::tally::print;
+use vectors::tally::differences;
 
 // The bytes of calls.txt at most.
 const TEXT: usize = 300000;
@@ -219,6 +220,15 @@ fn run(text: &[u8]) -> Replay {
     s
 }
 
+// Writes the kind's numbers behind its name.
+fn print(t: Tally, kind: usize, name: &[u8]) {
+    io::write_all(STDOUT_FILENO, name);
+    io::print_decimal(STDOUT_FILENO, agreements(t, kind));
+    io::write_all(STDOUT_FILENO, b" agreements, ");
+    io::print_decimal(STDOUT_FILENO, differences(t, kind));
+    io::write_all(STDOUT_FILENO, b" differences\n");
+}
+
 fn main() {
     let name = b"calls.txt";
     let fd = os::open_read(name);
@@ -232,7 +242,7 @@ fn main() {
     let s = run(&text[..n]);
     let t = s.tally;
     io::write_all(STDOUT_FILENO, b"lists: ");
-    io::print_decimal(STDOUT_FILENO, t.agree[LIST]);
+    io::print_decimal(STDOUT_FILENO, agreements(t, LIST));
     print(t, CALL, b", calls: ");
     print(t, LOAD, b"load: ");
     print(t, PUBLISH, b"publish: ");

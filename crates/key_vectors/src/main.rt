@@ -4,12 +4,14 @@ ghost use Prim.Native.Nat.{_+_, _*_, _≤_, _<_};
 ghost use lib.ListN.{length};
 use key::shape::ShapeAnswer;
 use key::shape::shape;
+use libc::STDOUT_FILENO;
 use station::Station;
 use vectors::line::digit;
 use vectors::line::end;
 use vectors::tally::Tally;
+use vectors::tally::agreements;
 use vectors::tally::counted;
-use vectors::tally::print;
+use vectors::tally::differences;
 
 // The bytes of keyfiles.txt at most, and those of a key file.
 const TEXT: usize = 100000;
@@ -90,6 +92,15 @@ fn standard(name: &[u8], position: u8) -> bool {
     let n = io::read_full(fd, &mut file);
     libc::close(fd);
     has_shape(&file[..n], position)
+}
+
+// Writes the kind's numbers behind its name.
+fn print(t: Tally, kind: usize, name: &[u8]) {
+    io::write_all(STDOUT_FILENO, name);
+    io::print_decimal(STDOUT_FILENO, agreements(t, kind));
+    io::write_all(STDOUT_FILENO, b" agreements, ");
+    io::print_decimal(STDOUT_FILENO, differences(t, kind));
+    io::write_all(STDOUT_FILENO, b" differences\n");
 }
 
 fn main() {

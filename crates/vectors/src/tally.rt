@@ -1,6 +1,7 @@
 // Agreements and differences of cases of several kinds.
-use libc::STDOUT_FILENO;
 ghost use mathlib.Core.Path.{_≡_};
+ghost use Prim.Native.Nat.{_%_};
+ghost use lib.ListN.{getD};
 ghost use Rattle.vectors.specs.Tallies.{noCases, countedOf};
 
 // The kinds at most.
@@ -34,12 +35,18 @@ pub fn counted(mut t: Tally, kind: usize, agrees: bool) -> Tally
     t
 }
 
-// Writes the kind's numbers behind its name, to standard output, of which no contract can speak.
-pub fn print(t: Tally, kind: usize, name: &[u8]) {
+// The agreements of a kind.
+pub fn agreements(t: Tally, kind: usize) -> u64
+    ensures { λ r. ⌜ r ≡ getD (t .agree) (kind % 8) 0 ⌝ }
+{
     let k = kind % KINDS;
-    io::write_all(STDOUT_FILENO, name);
-    io::print_decimal(STDOUT_FILENO, t.agree[k]);
-    io::write_all(STDOUT_FILENO, b" agreements, ");
-    io::print_decimal(STDOUT_FILENO, t.differ[k]);
-    io::write_all(STDOUT_FILENO, b" differences\n");
+    t.agree[k]
+}
+
+// The differences of a kind.
+pub fn differences(t: Tally, kind: usize) -> u64
+    ensures { λ r. ⌜ r ≡ getD (t .differ) (kind % 8) 0 ⌝ }
+{
+    let k = kind % KINDS;
+    t.differ[k]
 }

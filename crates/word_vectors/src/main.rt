@@ -19,7 +19,8 @@ use vectors::line::output;
 use vectors::line::refused;
 use vectors::line::size;
 use vectors::tally::Tally;
-use vectors::tally::print;
+use vectors::tally::agreements;
+use vectors::tally::differences;
 
 // The bytes of words.txt at most.
 const TEXT: usize = 500000;
@@ -215,6 +216,15 @@ fn by_running() {
         b"K2 read 03 00 gives 03 00, two ones",
         reads(key, b"read 0300 ok 0300 2"),
     );
+}
+
+// Writes the kind's numbers behind its name.
+fn print(t: Tally, kind: usize, name: &[u8]) {
+    io::write_all(STDOUT_FILENO, name);
+    io::print_decimal(STDOUT_FILENO, agreements(t, kind));
+    io::write_all(STDOUT_FILENO, b" agreements, ");
+    io::print_decimal(STDOUT_FILENO, differences(t, kind));
+    io::write_all(STDOUT_FILENO, b" differences\n");
 }
 
 fn main() {

@@ -2,12 +2,13 @@
 
 mod child;
 mod freed;
-mod memory;
 mod parts;
 mod stack;
 
 use child::{Child, Mode, Point};
 use parts::{Found, Secrets};
+
+use crate::support::memory;
 
 const KEY: &str = "support";
 const G: &str = "g";

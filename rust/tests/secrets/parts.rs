@@ -3,11 +3,11 @@
 use std::collections::{BTreeMap, HashMap};
 
 use super::child::FOLDER;
-use super::memory::Stretch;
 use super::{G, KEY, PATTERN};
 use crate::independent::bits::places;
 use crate::independent::key::Key;
 use crate::independent::poly;
+use crate::support::memory::Stretch;
 use crate::support::vectors;
 
 /// How often a secret is found, and in which mappings, by the secret's name.

@@ -1,5 +1,7 @@
-//! What the tests share: hexadecimal, the vectors' folder, the raw calls by slices, runs of the tool, terminals.
+//! What the tests share: hexadecimal, the vectors' folder, the raw calls by slices, runs of the tool, terminals, memory.
 
+#[cfg(target_os = "linux")]
+pub mod memory;
 pub mod raw_calls;
 pub mod run;
 pub mod terminal;

@@ -2,29 +2,17 @@
 
 #![cfg(target_os = "linux")]
 
-use std::fs::{self, File};
-use std::io::{Read, Seek, SeekFrom, Write};
+use std::io::Write;
 use std::process::Stdio;
 
 use super::{standard, with_k1};
+use crate::support::memory;
 use crate::support::run::{tool, Lines};
 
-/// How often the bytes stand in the writable memory of a process.
+/// How often the bytes stand in the memory of a process.
 fn occurrences(process: u32, bytes: &[u8]) -> usize {
-    let maps = fs::read_to_string(format!("/proc/{process}/maps")).expect("its memory map");
-    let mut memory = File::open(format!("/proc/{process}/mem")).expect("its memory");
-    let mut count = 0;
-    for line in maps.lines().filter(|line| line.contains(" rw")) {
-        let range = line.split(' ').next().and_then(|range| range.split_once('-')).expect("a range");
-        let [start, end] = [range.0, range.1].map(|at| u64::from_str_radix(at, 16).expect("an address"));
-        let mut part = vec![0; (end - start) as usize];
-        memory.seek(SeekFrom::Start(start)).expect("a place");
-        // Some ranges of the kernel cannot be read.
-        if memory.read_exact(&mut part).is_ok() {
-            count += part.windows(bytes.len()).filter(|window| *window == bytes).count();
-        }
-    }
-    count
+    let count = |part: memory::Stretch| part.bytes.windows(bytes.len()).filter(|window| *window == bytes).count();
+    memory::private(process).into_iter().map(count).sum()
 }
 
 #[test]
