@@ -13,14 +13,13 @@ use crate::{raw, wiping, Refusal};
 const FRAMES: usize = 4096;
 /// The same with the copies of station and reply that builds without optimisation make.
 const COPIES: usize = FRAMES + size_of::<raw::Station>() + size_of::<raw::Reply>();
-/// What each call on a secret takes.
-const TAKEN: [usize; 6] =
-    [raw::STACK_LOAD, raw::STACK_PUBLISH, raw::STACK_LOCK, raw::STACK_OPEN, raw::STACK_READ, raw::STACK_DROP];
-// All of it lies in the stack that is made sure of.
+// What each call on a secret takes lies in the stack that is made sure of.
 const _: () = {
+    let taken =
+        [raw::STACK_LOAD, raw::STACK_PUBLISH, raw::STACK_LOCK, raw::STACK_OPEN, raw::STACK_READ, raw::STACK_DROP];
     let mut i = 0;
-    while i < TAKEN.len() {
-        assert!(TAKEN[i] + COPIES + FRAMES <= raw::STACK);
+    while i < taken.len() {
+        assert!(taken[i] + COPIES + FRAMES <= raw::STACK);
         i += 1;
     }
 };
