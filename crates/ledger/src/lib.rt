@@ -1,1 +1,1 @@
-// The station. So far its definitions, in specs/, and laws about them, in proofs/.
+// The station: its definitions, in specs/, and laws about them, in proofs/.
