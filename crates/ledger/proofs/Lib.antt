@@ -1,4 +1,5 @@
 pub mod Table
+pub mod Forms
 pub mod StepLaws
 pub mod LedgerLaws
 pub mod Demand1

@@ -1,4 +1,7 @@
 pub mod Station
+pub mod Loading
+pub mod Publishing
+pub mod Questions
 pub mod Calls
 pub mod Ledger
 pub mod Systems
