@@ -11,9 +11,9 @@ use borrow.Author.Tests.{eq-eqb, ne-eqb}
 use lib.Dec.{eqb}
 use lib.ListN.{length, getD, take, set, replicate, length-set}
 use lib.Seq.{getD-set-same, getD-set-other, ext-getD, take-suc}
-use Rattle.bits.specs.Bits.{Bytes, from, ones}
+use Rattle.bits.specs.Bits.{Bytes, from}
 use Rattle.bits.proofs.Lists.{length-map-from, map-from-at}
-use Rattle.records.specs.Records.{occurrences, countsOf}
+use Rattle.records.specs.Records.{occurrences, countsOf, total}
 
 -- occurrences
 pub occurrences-append : (v : ℕ) (a b : List ℕ) → occurrences v (a ++ b) ≡ occurrences v a + occurrences v b
@@ -70,33 +70,33 @@ pub counts-next : (l : List ℕ) (i : ℕ) → i < length l → getD l i 0 < 256
     → set (countsOf (take i l)) (getD l i 0) (getD (countsOf (take i l)) (getD l i 0) 0 + 1) ≡ countsOf (take (i + 1) l)
 counts-next l i h b = counts-more (take i l) (getD l i 0) b ∙ ap countsOf (sym (take-suc l i 0 h)) ∙ ap (λ (j : ℕ). countsOf (take j l)) (sym (add-one i))
 
--- the sum of the numbers of a list is `ones`
-ones-add : (f g : ℕ → ℕ) (l : List ℕ) → ones (map (λ v. f v + g v) l) ≡ ones (map f l) + ones (map g l)
-unfolding ones
-ones-add f g [] = refl
-ones-add f g (x ∷ l) = ap (_+_ (f x + g x)) (ones-add f g l) ∙ (omega arith)
+-- sums
+total-add : (f g : ℕ → ℕ) (l : List ℕ) → total (map (λ v. f v + g v) l) ≡ total (map f l) + total (map g l)
+unfolding total
+total-add f g [] = refl
+total-add f g (x ∷ l) = ap (_+_ (f x + g x)) (total-add f g l) ∙ (omega arith)
 
-ones-past : (x k n : ℕ) → x < k → ones (map (λ v. cond (eqb x v) 1 0) (from k n)) ≡ 0
-unfolding ones from
-ones-past x k zero h = refl
-ones-past x k (suc n) h = ap₂ _+_ (ap (λ (b : Bool). cond b 1 0) (ne-eqb x k (λ e. omega arith))) (ones-past x (suc k) n (omega arith))
+total-past : (x k n : ℕ) → x < k → total (map (λ v. cond (eqb x v) 1 0) (from k n)) ≡ 0
+unfolding total from
+total-past x k zero h = refl
+total-past x k (suc n) h = ap₂ _+_ (ap (λ (b : Bool). cond b 1 0) (ne-eqb x k (λ e. omega arith))) (total-past x (suc k) n (omega arith))
 
 -- a number stands once among n from k on
-ones-once : (x k n : ℕ) → k ≤ x → x < k + n → ones (map (λ v. cond (eqb x v) 1 0) (from k n)) ≡ 1
-unfolding ones from
-ones-once x k zero h b = absurd (omega arith)
-ones-once x k (suc n) h b = go (ℕ-discrete x k) (ones-once x (suc k) n)
+total-once : (x k n : ℕ) → k ≤ x → x < k + n → total (map (λ v. cond (eqb x v) 1 0) (from k n)) ≡ 1
+unfolding total from
+total-once x k zero h b = absurd (omega arith)
+total-once x k (suc n) h b = go (ℕ-discrete x k) (total-once x (suc k) n)
   where
-    go : Dec (x ≡ k) → (suc k ≤ x → x < suc k + n → ones (map (λ v. cond (eqb x v) 1 0) (from (suc k) n)) ≡ 1)
-        → cond (eqb x k) 1 0 + ones (map (λ v. cond (eqb x v) 1 0) (from (suc k) n)) ≡ 1
-    go (yes e) ih = ap₂ _+_ (ap (λ (b : Bool). cond b 1 0) (eq-eqb x k e)) (ones-past x (suc k) n (omega arith))
+    go : Dec (x ≡ k) → (suc k ≤ x → x < suc k + n → total (map (λ v. cond (eqb x v) 1 0) (from (suc k) n)) ≡ 1)
+        → cond (eqb x k) 1 0 + total (map (λ v. cond (eqb x v) 1 0) (from (suc k) n)) ≡ 1
+    go (yes e) ih = ap₂ _+_ (ap (λ (b : Bool). cond b 1 0) (eq-eqb x k e)) (total-past x (suc k) n (omega arith))
     go (no e) ih = ap₂ _+_ (ap (λ (b : Bool). cond b 1 0) (ne-eqb x k e)) (ih (omega arith) (omega arith))
 
 -- the counts of bytes add up to their number
-pub counts-sum : (l : List ℕ) → Bytes l → ones (countsOf l) ≡ length l
-unfolding countsOf occurrences ones from
+pub counts-sum : (l : List ℕ) → Bytes l → total (countsOf l) ≡ length l
+unfolding countsOf occurrences total from
 counts-sum [] h = refl
 counts-sum (x ∷ l) h =
-    ones-add (λ v. cond (eqb x v) 1 0) (λ v. occurrences v l) (from 0 256)
-    ∙ ap₂ _+_ (ones-once x 0 256 (omega arith) (h 0)) (counts-sum l (λ k. h (suc k)))
+    total-add (λ v. cond (eqb x v) 1 0) (λ v. occurrences v l) (from 0 256)
+    ∙ ap₂ _+_ (total-once x 0 256 (omega arith) (h 0)) (counts-sum l (λ k. h (suc k)))
     ∙ (omega arith)

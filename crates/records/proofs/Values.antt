@@ -7,13 +7,13 @@ use Prim.Native.Nat.{ℕ, zero, suc, _+_, _-_, _*_, _/_, _≤_, _<_}
 use native.Mathlib.Omega.{arith}
 use borrow.Author.Tests.{eq-eqb, ne-eqb, le-ltb}
 use lib.ListN.{length, getD, take, drop, length-map}
-use Rattle.bits.specs.Bits.{Bytes, bytesFor, unpack, ones, fillerClear}
+use Rattle.bits.specs.Bits.{Bytes, bytesFor, unpack, fillerClear}
 use Rattle.field.specs.Numbers.{firstOf}
 use Rattle.key.specs.Keys.{Key}
 use Rattle.code.specs.Publish.{capsuleBits}
 use Rattle.decoder.specs.Reading.{opening}
 use Rattle.decoder.specs.Calls.{isNone, openConditions}
-use Rattle.records.specs.Records.{capsulesOf, capsuleConditions, recordOf, recordsOf, countsOf}
+use Rattle.records.specs.Records.{capsulesOf, capsuleConditions, recordOf, recordsOf, countsOf, total}
 use Rattle.records.proofs.Cut.{cut-number, cut-within, cut-map}
 use Rattle.records.proofs.Counts.{counts-sum}
 
@@ -73,7 +73,7 @@ module _ (k : Key) (buffer : List ℕ) where
       go (c ∷ r) (suc i) = go r i
 
   -- the counts add up to the number of capsules
-  pub records-sum : ones (countsOf (recordsOf k buffer)) ≡ length (capsulesOf k buffer)
+  pub records-sum : total (countsOf (recordsOf k buffer)) ≡ length (capsulesOf k buffer)
   records-sum = counts-sum (recordsOf k buffer) records-bytes ∙ records-length
 
   module _ (h : 0 < bytesFor (capsuleBits k)) where
