@@ -70,7 +70,7 @@ well-length : (n : ℕ) (s : List ℕ) → wellFormed n s ≡ true → eqb (leng
 unfolding wellFormed
 well-length n s w = and-left (eqb (length s) (bytesFor n)) (fillerClear n s) w
 
-well-filler : (n : ℕ) (s : List ℕ) → wellFormed n s ≡ true → fillerClear n s ≡ true
+pub well-filler : (n : ℕ) (s : List ℕ) → wellFormed n s ≡ true → fillerClear n s ≡ true
 unfolding wellFormed
 well-filler n s w = and-right (eqb (length s) (bytesFor n)) (fillerClear n s) w
 

@@ -13,3 +13,4 @@ pub mod LocksOpens
 pub mod CodeWords
 pub mod Loads
 pub mod OwnWords
+pub mod Reports

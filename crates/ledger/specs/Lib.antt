@@ -7,3 +7,4 @@ pub mod Ledger
 pub mod Systems
 pub mod Demands
 pub mod OwnWords
+pub mod Reports

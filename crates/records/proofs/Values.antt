@@ -4,12 +4,15 @@ use mathlib.Core.Logic.{_⊎_, inl, inr}
 use mathlib.Core.Bool.{Bool, true, false, cond}
 use mathlib.Core.List.{List, [], _∷_, map}
 use Prim.Native.Nat.{ℕ, zero, suc, _+_, _-_, _*_, _/_, _≤_, _<_}
+use native.Mathlib.Nat.{mul-le-mul}
 use native.Mathlib.Omega.{arith}
 use borrow.Author.Tests.{eq-eqb, ne-eqb, le-ltb}
 use lib.ListN.{length, getD, take, drop, length-map}
 use Rattle.bits.specs.Bits.{Bytes, bytesFor, unpack, fillerClear}
 use Rattle.field.specs.Numbers.{firstOf}
-use Rattle.key.specs.Keys.{Key}
+use Rattle.field.proofs.Table.{width-pos}
+use Rattle.key.specs.Keys.{Key, keyNumber}
+use Rattle.key.proofs.Accepted.{Accepted, accepted}
 use Rattle.code.specs.Publish.{capsuleBits}
 use Rattle.decoder.specs.Reading.{opening}
 use Rattle.decoder.specs.Calls.{isNone, openConditions}
@@ -57,6 +60,13 @@ module _ (k : Key) (capsule : List ℕ) where
     pub record-opening : fillerClear (capsuleBits k) capsule ≡ true → recordOf k capsule ≡ cond (isNone (opening k (unpack (capsuleBits k) capsule))) 13 0
     unfolding recordOf capsuleConditions firstOf
     record-opening h = rw (eq-eqb _ _ a, h)
+
+-- a capsule of a key that load accepts has a byte
+pub capsule-some : (k : Key) → keyNumber k ≡ 0 → 0 < bytesFor (capsuleBits k)
+unfolding bytesFor capsuleBits
+capsule-some k z =
+    let a : Accepted k = accepted k z in
+    omega (arith, mul-le-mul (width-pos (k .m) (a .width)) (a .limits .some))
 
 module _ (k : Key) (buffer : List ℕ) where
   pub records-length : length (recordsOf k buffer) ≡ length (capsulesOf k buffer)
