@@ -140,7 +140,7 @@ module _ (s : Station) (c : Call) (passes : stop s c .0 ≡ false) (a : Answer) 
       let o = answer-ones _ _ (sym e ∙ h) in
       ap (acceptance (moved s c)) (o .1) ∙ lower-accepted s c passes (o .0)
 
-not-not : (b : Bool) → not (not b) ≡ b
+pub not-not : (b : Bool) → not (not b) ≡ b
 not-not true = refl
 not-not false = refl
 

@@ -68,7 +68,7 @@ accepted-station s c e =
     ap (λ (r : Reply). r .station)
     (sym (reply-accepted s c (sym (Step.step-number (view s) c) ∙ sym (same s c .number) ∙ e) refl))
 
-question-left : (s : Station) (q : Question) → handed s (ask q) .reply .station ≡ s
+pub question-left : (s : Station) (q : Question) → handed s (ask q) .reply .station ≡ s
 unfolding moved refusal
 question-left s q = go (handed s (ask q) .reply .refused) refl
   where
