@@ -72,11 +72,11 @@ module _ (k : ℕ) (row : List ℕ) where
 
 -- 25 by the key's number
 module _ (k : Key) where
-  unsound-some : (keyNumber k ≡ 0 → ⊥) → unsound k ≡ true
+  pub unsound-some : (keyNumber k ≡ 0 → ⊥) → unsound k ≡ true
   unfolding unsound
   unsound-some h = ap not (ne-eqb _ _ h)
 
-  unsound-none : keyNumber k ≡ 0 → unsound k ≡ false
+  pub unsound-none : keyNumber k ≡ 0 → unsound k ≡ false
   unfolding unsound
   unsound-none z = ap not (eq-eqb _ _ z)
 
