@@ -235,13 +235,14 @@ impl Station {
                 counts: [0; 256],
             };
         }
+        let published = is_published(state);
         let counted = reporting::report(
             self.key.m,
             self.key.n,
             self.key.t,
             &self.key.support,
             &self.key.g,
-            is_published(state),
+            published,
             capsules,
             records,
         );

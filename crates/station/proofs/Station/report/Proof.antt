@@ -31,8 +31,8 @@ returns-2 : tie.Need-returns-2
 unfolding countedOf
 returns-2 c =
     let p = c .before .before .before in
-    let b = p .before .before in
-    let l = b .before .before .before .before in
+    let b = p .before .before .before .before .before in
+    let l = b .before in
     let a = l .before .before .before .before .args in
     let k = sym (l .before .is-empty .ensures) ∙ l .if1 .left in (
       ap (λ (x : Counted). record { station = a .t1; refused = x .refused; counts = x .counts }) (p .report .ensures .0)
