@@ -1,7 +1,8 @@
-// Runs data/words.txt through load, publish, read, open and lock, and counts agreements and differences.
+// Runs data/words.txt through load, publish, read, open, report and lock, and counts agreements and differences.
 // A line is `key FILE`; `public T`, or `public -` where publish refuses; or a case of the key before it: `publish ok`,
 // `read WORD ok PATTERN ONES`, `open CAPSULE ok PATTERN` as if published, `lock PATTERN ok CAPSULE`, or one of the
-// four with `refused NUMBER` from `ok` on. Bytes are in hexadecimal, and `-` is none.
+// four with `refused NUMBER` from `ok` on. Bytes are in hexadecimal, and `-` is none. A capsule of `open`
+// that has the right length is also reported on.
 use key::kept::Key;
 use libc::STDOUT_FILENO;
 use reading::Answer;
@@ -35,6 +36,8 @@ const READ: usize = 2;
 const OPEN: usize = 3;
 
 const LOCK: usize = 4;
+
+const REPORT: usize = 5;
 
 // An answer as two numbers.
 struct Outcome {
@@ -119,6 +122,27 @@ fn opens(key: Key, line: &[u8]) -> bool {
     r.refused as u16 == refused(line, 2) && r.ones == ones && holds(&out, output(line, 2))
 }
 
+// A report on the capsule has open's number for its only record, and counts it.
+fn reports(key: Key, line: &[u8]) -> bool {
+    let mut records = [FILLER; 64];
+    let b = bytes_of(line, 1);
+    let capsule = b.bytes;
+    let n = size(&capsule, b.count);
+    let r = reporting::report(
+        key.m,
+        key.n,
+        key.t,
+        &key.support,
+        &key.g,
+        true,
+        &capsule[..n],
+        &mut records,
+    );
+    let number = (refused(line, 2) % 256) as u8;
+    let counts = r.counts;
+    r.refused == 0 && records[0] == number && records[1] == FILLER && counts[number as usize] == 1
+}
+
 // Lock gives the number and the capsule.
 fn locks(key: Key, public: Bytes, line: &[u8]) -> bool {
     let mut out = [FILLER; 64];
@@ -144,6 +168,15 @@ fn counted(mut s: State, kind: usize, agrees: bool) -> State {
     s
 }
 
+// The state after a report on a capsule of the right length.
+fn reported(s: State, line: &[u8]) -> State {
+    if refused(line, 2) == 8 {
+        return s;
+    }
+    let key = s.key;
+    counted(s, REPORT, reports(key, line))
+}
+
 // The state at a key's line.
 fn keyed(mut s: State, line: &[u8]) -> State {
     let r = key_of(line);
@@ -160,7 +193,7 @@ fn step(mut s: State, line: &[u8]) -> State {
     match letter(line, 0) {
         b'k' => keyed(s, line),
         b'r' => counted(s, READ, reads(key, line)),
-        b'o' => counted(s, OPEN, opens(key, line)),
+        b'o' => reported(counted(s, OPEN, opens(key, line)), line),
         b'l' => counted(s, LOCK, locks(key, public, line)),
         _ => {
             if letter(line, 5) == b's' {
@@ -243,6 +276,7 @@ fn main() {
     print(t, PUBLISH, b"publish: ");
     print(t, READ, b"read: ");
     print(t, OPEN, b"open: ");
+    print(t, REPORT, b"report: ");
     print(t, LOCK, b"lock: ");
     by_running();
 }
