@@ -13,7 +13,8 @@ use Rattle.key.specs.Kept.{kept}
 use Rattle.key.specs.Keys.{Key}
 use Rattle.code.specs.Publish.{capsuleBits}
 use Rattle.ledger.specs.Station.{Station}
-use Rattle.ledger.specs.Calls.{open-capsule}
+use Rattle.ledger.specs.Questions.{open-capsule}
+use Rattle.ledger.specs.Calls.{ask}
 use Rattle.station.specs.Replies.{view, handed}
 use Rattle.station.specs.declared.Reply.{Reply}
 use Rattle.station.proofs.StepView.{same}
@@ -23,12 +24,12 @@ use Rattle.opener.proofs.Shape.{Four}
 
 -- the line, from what the station hands back
 pub line-parts : (s : Code.Station) (p : ℕ) (capsule : List ℕ) {r : Reply} {out : List ℕ}
-    → r ≡ handed s (open-capsule capsule room) .reply → out ≡ handed s (open-capsule capsule room) .output
+    → r ≡ handed s (ask (open-capsule capsule room)) .reply → out ≡ handed s (ask (open-capsule capsule room)) .output
     → line (view s) p capsule ≡ decimal p ++ (answer (r .refused) (unpack (s .key .n) out) ++ newline)
 unfolding line view kept handed
 line-parts s p capsule {r} {out} e f =
-    ap (λ (k : ℕ). decimal p ++ (answer k (unpack (s .key .n) (handed s (open-capsule capsule room) .output)) ++ newline))
-    (sym (same s (open-capsule capsule room) .number) ∙ sym (ap (λ (x : Reply). x .refused) e))
+    ap (λ (k : ℕ). decimal p ++ (answer k (unpack (s .key .n) (handed s (ask (open-capsule capsule room)) .output)) ++ newline))
+    (sym (same s (ask (open-capsule capsule room)) .number) ∙ sym (ap (λ (x : Reply). x .refused) e))
     ∙ ap (λ (o : List ℕ). decimal p ++ (answer (r .refused) (unpack (s .key .n) o) ++ newline)) (sym f)
 
 take-min : (c : ℕ) (l : List ℕ) (n : ℕ) → length l ≡ n → take (min c n) l ≡ take c l

@@ -16,12 +16,12 @@ use Rattle.field.proofs.Numbers.{first-clear}
 use Rattle.key.specs.Keys.{Key}
 use Rattle.code.specs.Publish.{capsuleBits, publicBytes, workBytes}
 use Rattle.decoder.specs.Reading.{reading, exactly, opening}
-use Rattle.decoder.specs.Calls.{found, isNone}
+use Rattle.decoder.specs.Calls.{found, isNone, openConditions}
 use Rattle.decoder.proofs.Sanity.{Corrects, reading-sound}
-use Rattle.decoder.specs.Calls as Calls
-use Rattle.ledger.specs.Station.{Station, heldBy, openConditions, Result, openOf, gives}
-use Rattle.ledger.specs.Calls.{open-capsule, conditionsOf, step}
-use Rattle.ledger.proofs.StepLaws.{step-number, unless-accepted}
+use Rattle.ledger.specs.Station.{Station, heldBy, Result}
+use Rattle.ledger.specs.Questions.{open-capsule, questionConditions, gives, given}
+use Rattle.ledger.specs.Calls.{ask, conditionsOf, made, step}
+use Rattle.ledger.proofs.StepLaws.{step-number, step-made}
 use Rattle.opener.specs.Report.{keyRefused, newline, refuses, opens, decimal, place, places, answer, room, line, lines, cut, opened}
 use Rattle.opener.proofs.Digits.{decimal-short}
 use Rattle.opener.proofs.Shape.{Four}
@@ -64,28 +64,28 @@ found-some k w (some e) h i =
 
 module _ (s : Station) (capsule out : List ℕ) where
   -- open's numbers are at most 25
-  open-number : step s (open-capsule capsule out) .number < 26
-  unfolding Numbered conditionsOf openConditions Calls.openConditions
+  open-number : step s (ask (open-capsule capsule out)) .number < 26
+  unfolding Numbered conditionsOf questionConditions openConditions
   open-number =
-      rw (step-number s (open-capsule capsule out))
-      (first-below 26 (openConditions (heldBy s) capsule out)
+      rw (step-number s (ask (open-capsule capsule out)))
+      (first-below 26 (conditionsOf (heldBy s) (ask (open-capsule capsule out)))
       (omega arith, (omega arith, (omega arith, (omega arith, (omega arith, (omega arith, (omega arith, omega arith))))))))
 
-  open-some : firstOf (openConditions (heldBy s) capsule out) ≡ 0 → isNone (opening (s .key) (unpack (capsuleBits (s .key)) capsule)) ≡ false
-  unfolding openConditions Calls.openConditions heldBy
-  open-some z =
+  open-some : step s (ask (open-capsule capsule out)) .number ≡ 0 → isNone (opening (s .key) (unpack (capsuleBits (s .key)) capsule)) ≡ false
+  unfolding conditionsOf questionConditions openConditions heldBy
+  open-some h =
+      let z = sym (step-number s (ask (open-capsule capsule out))) ∙ h in
       let a = first-clear _ 23 _ (first-clear _ 24 _ (first-clear _ 20 _ z .1) .1) .1 in
       first-clear _ 12 _ (first-clear _ 9 _ (first-clear _ 8 _ (first-clear _ 7 _ a .1) .1) .1) .0
 
-  open-pattern : step s (open-capsule capsule out) .number ≡ 0
-      → Pattern (s .key) (unpack (s .key .n) (step s (open-capsule capsule out) .output))
-  unfolding conditionsOf step openOf gives opening
+  open-pattern : step s (ask (open-capsule capsule out)) .number ≡ 0
+      → Pattern (s .key) (unpack (s .key .n) (step s (ask (open-capsule capsule out)) .output))
+  unfolding made given gives opening
   open-pattern h =
-      let z = sym (step-number s (open-capsule capsule out)) ∙ h in
       let o = opening (s .key) (unpack (capsuleBits (s .key)) capsule) in
-      let p = found-some (s .key) _ o refl (open-some z) in
+      let p = found-some (s .key) _ o refl (open-some h) in
       subst (Pattern (s .key))
-      (sym (ap (λ (r : Result). unpack (s .key .n) (r .output)) (unless-accepted s out _ _ z) ∙ unpack-over (p .bits) out))
+      (sym (ap (λ (r : Result). unpack (s .key .n) (r .output)) (step-made s (ask (open-capsule capsule out)) h) ∙ unpack-over (p .bits) out))
       p
 
 -- a blank and two digits for each one
@@ -109,7 +109,7 @@ module _ (s : Station) (f : Four (s .key)) (b : ℕ) (h : s .key .t ≤ b) (two 
   line-few : (p : ℕ) (capsule : List ℕ) → p < 100000 → length (line s p capsule) ≤ 11 + 3 * b
   unfolding line newline
   line-few p capsule l =
-      let r = step s (open-capsule capsule room) in
+      let r = step s (ask (open-capsule capsule room)) in
       let e = unpack (s .key .n) (r .output) in
       let a = answer-few (r .number) e (open-number s capsule room) (open-pattern s capsule room) in
       omega (arith, length-append (decimal p) (answer (r .number) e ++ newline), length-append (answer (r .number) e) newline, decimal-short 4 p l, a)

@@ -7,7 +7,10 @@ use lib.ListN.{length, getD, take, drop, replicate}
 use Rattle.bits.specs.Bits.{bytesFor, unpack}
 use Rattle.code.specs.Publish.{capsuleBits}
 use Rattle.ledger.specs.Station.{Station, fresh, Result}
-use Rattle.ledger.specs.Calls.{load, publish, open-capsule, step}
+use Rattle.ledger.specs.Loading.{key-file}
+use Rattle.ledger.specs.Publishing.{systematic}
+use Rattle.ledger.specs.Questions.{open-capsule}
+use Rattle.ledger.specs.Calls.{load, publish, ask, step}
 
 -- The words, in ASCII.
 
@@ -61,7 +64,7 @@ room = replicate 64 0
 -- the line of the capsule at position p
 unfoldable pub line : Station → ℕ → List ℕ → List ℕ
 line s p capsule =
-    let r : Result = step s (open-capsule capsule room) in
+    let r : Result = step s (ask (open-capsule capsule room)) in
     decimal p ++ (answer (r .number) (unpack (s .key .n) (r .output)) ++ newline)
 
 -- the lines of the capsules from position p on
@@ -90,7 +93,7 @@ afterPublish r input = unlessRefused (r .number) (opened (r .station) input)
 
 -- after loading
 unfoldable pub afterLoad : Result → List ℕ → List ℕ
-afterLoad r input = unlessRefused (r .number) (afterPublish (step (r .station) (publish room room)) input)
+afterLoad r input = unlessRefused (r .number) (afterPublish (step (r .station) (publish (systematic room room))) input)
 
 -- the width of a key file is 12 or 13
 unfoldable pub large : List ℕ → Bool
@@ -98,7 +101,7 @@ large file = eqb (getD file 0 0) 12 || eqb (getD file 0 0) 13
 
 -- the text for a key file and capsules
 unfoldable pub whole : List ℕ → List ℕ → List ℕ
-whole file input = cond (large file) tooLarge (afterLoad (step fresh (load file)) input)
+whole file input = cond (large file) tooLarge (afterLoad (step fresh (load (key-file file))) input)
 
 -- of the file its first 4,096 bytes, of the input its first 65,536
 unfoldable pub report : List ℕ → List ℕ → List ℕ

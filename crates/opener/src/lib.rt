@@ -9,6 +9,7 @@ ghost use Prim.Native.Nat.{_+_, _^_, _≤_, _<_};
 ghost use lib.ListN.{length, take, drop, replicate};
 ghost use Rattle.bits.specs.Bits.{bytesFor, unpack};
 ghost use Rattle.code.specs.Publish.{capsuleBits};
+ghost use Rattle.ledger.specs.Publishing.{systematic};
 ghost use Rattle.ledger.specs.Calls.{publish};
 ghost use Rattle.station.specs.Replies.{view, handed};
 ghost use Rattle.opener.specs.Report.{keyRefused, newline, room};
@@ -173,7 +174,7 @@ fn key_refused(number: u8, out: &mut [u8]) -> usize
 
 // Publish with room for T and its workspace.
 fn publish(station: Station) -> Reply
-    ensures { λ r. ⌜ r ≡ handed station (publish room room) .reply ⌝ }
+    ensures { λ r. ⌜ r ≡ handed station (publish (systematic room room)) .reply ⌝ }
 {
     let mut public = [0u8; 64];
     let mut work = [0u8; 64];
