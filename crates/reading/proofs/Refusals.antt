@@ -1,7 +1,7 @@
 -- The numbers of read and open, by the tests of the code. Assumes nothing.
 use mathlib.Core.Path.{_≡_, refl, ap, _∙_}
 use mathlib.Core.Bool.{Bool, true, false, cond, not}
-use mathlib.Core.List.{List, [], _∷_}
+use mathlib.Core.List.{List, [], _∷_, _++_}
 use Prim.Native.Nat.{ℕ, _≤_, _<_}
 use borrow.Author.Tests.{eq-eqb, ne-eqb, lt-ltb, le-ltb, eqb-true, ltb-false, not-false}
 use lib.Dec.{eqb, ltb}
@@ -32,13 +32,17 @@ module _ (k : ℕ) (row : List ℕ) where
     unfolding rowChecks firstOf
     row-right h = rw (eq-eqb _ _ a, h)
 
-  -- where neither holds
-  pub row-clear : firstOf (rowChecks k row) ≡ 0 → wellFormed k row ≡ true
+  -- where neither holds the number is that of the conditions behind them
+  row-first : (cs : List (Bool × ℕ)) → firstOf (rowChecks k row ++ cs) ≡ 0 → (wellFormed k row ≡ true) × (firstOf cs ≡ 0)
   unfolding rowChecks
-  row-clear e =
+  row-first cs e =
       let c8 = first-clear (not (eqb (length row) (bytesFor k))) 7 _ e in
       let c9 = first-clear (not (fillerClear k row)) 8 _ (c8 .1) in
-      well-formed k row (eqb-true _ _ (not-false _ (c8 .0))) (not-false _ (c9 .0))
+      (well-formed k row (eqb-true _ _ (not-false _ (c8 .0))) (not-false _ (c9 .0)), c9 .1)
+
+  pub row-clear : firstOf (rowChecks k row) ≡ 0 → wellFormed k row ≡ true
+  unfolding rowChecks
+  row-clear e = row-first [] e .0
 
   -- and 10
   module _ (n len : ℕ) where
@@ -61,20 +65,18 @@ module _ (k : ℕ) (row : List ℕ) where
 
     -- where none holds
     pub buffers-clear : firstOf (bufferChecks k n row len) ≡ 0 → (wellFormed k row ≡ true) × (bytesFor n ≤ len)
-    unfolding rowChecks bufferChecks
+    unfolding bufferChecks
     buffers-clear e =
-        let c8 = first-clear (not (eqb (length row) (bytesFor k))) 7 _ e in
-        let c9 = first-clear (not (fillerClear k row)) 8 _ (c8 .1) in
-        let c10 = first-clear (ltb len (bytesFor n)) 9 _ (c9 .1) in
-        (well-formed k row (eqb-true _ _ (not-false _ (c8 .0))) (not-false _ (c9 .0)), ltb-false _ _ (c10 .0))
+        let r = row-first ((ltb len (bytesFor n), 10) ∷ []) e in
+        (r .0, ltb-false _ _ (first-clear (ltb len (bytesFor n)) 9 [] (r .1) .0))
 
 -- 25 by the key's number
 module _ (k : Key) where
-  unsound-some : (keyNumber k ≡ 0 → ⊥) → unsound k ≡ true
+  pub unsound-some : (keyNumber k ≡ 0 → ⊥) → unsound k ≡ true
   unfolding unsound
   unsound-some h = ap not (ne-eqb _ _ h)
 
-  unsound-none : keyNumber k ≡ 0 → unsound k ≡ false
+  pub unsound-none : keyNumber k ≡ 0 → unsound k ≡ false
   unfolding unsound
   unsound-none z = ap not (eq-eqb _ _ z)
 

@@ -1,14 +1,30 @@
 -- A list cut into parts of c numbers: how many parts there are, and which numbers each has. Assumes nothing.
 use mathlib.Core.Path.{_≡_, refl, sym, ap, _∙_}
 use mathlib.Core.List.{List, [], _∷_, map}
-use Prim.Native.Nat.{ℕ, zero, suc, _+_, _-_, _*_, _/_, _≤_, _<_}
-use native.Mathlib.Nat.{zero-mul, suc-mul, add-comm, le-of-suc-le-suc, not-suc-le-zero, div-eq-of-lt, add-div-right, le-div-iff-mul-le}
+use Prim.Native.Nat.{ℕ, zero, suc, _+_, _-_, _*_, _/_, _≤_, _<_, min}
+use native.Mathlib.Nat.{zero-mul, suc-mul, add-comm, le-of-suc-le-suc, not-suc-le-zero, div-eq-of-lt, add-div-right, le-div-iff-mul-le, min-eq-left, min-eq-right}
 use native.Mathlib.Decide.{decLe}
 use native.Mathlib.Numerals.{add-one}
 use native.Mathlib.Omega.{arith}
 use lib.ListN.{length, getD, take, drop, length-drop}
-use lib.Seq.{take-nil, drop-nil, drop-drop}
+use lib.Seq.{take-all, take-nil, drop-nil, drop-drop}
 use Rattle.records.specs.Records.{cut}
+
+-- c numbers from i on, or what is left
+pub take-within : (c i : ℕ) (l : List ℕ) {k : ℕ} → k ≡ min c (length l - i) → take (i + k - i) (drop i l) ≡ take c (drop i l)
+take-within c i l {k} e =
+    let d : i + k - i ≡ k = omega arith in
+    rw (d, e) (go (decLe c (length l - i)))
+  where
+    n : length (drop i l) ≡ length l - i
+    n = length-drop i l
+
+    go : Dec (c ≤ length l - i) → take (min c (length l - i)) (drop i l) ≡ take c (drop i l)
+    go (yes h) = ap (λ (k : ℕ). take k (drop i l)) (min-eq-left h)
+    go (no h) =
+        let b : length l - i ≤ c = omega arith in
+        ap (λ (k : ℕ). take k (drop i l)) (min-eq-right b)
+        ∙ take-all (length l - i) (drop i l) (omega (arith, n)) ∙ sym (take-all c (drop i l) (omega (arith, n)))
 
 -- more parts than numbers change nothing
 pub cut-enough : (k j c : ℕ) (l : List ℕ) → 0 < c → length l ≤ k → length l ≤ j → cut k c l ≡ cut j c l

@@ -97,6 +97,12 @@ module _ (k : Key) (buffer : List ℕ) where
       unfolding capsulesOf
       capsule-within = cut-within (bytesFor (capsuleBits k)) i buffer h b
 
+      -- the value of f at capsule i
+      pub capsules-map : (f : List ℕ → ℕ)
+          → getD (map f (capsulesOf k buffer)) i 0 ≡ f (take (bytesFor (capsuleBits k)) (drop (i * bytesFor (capsuleBits k)) buffer))
+      unfolding capsulesOf
+      capsules-map f = cut-map f (bytesFor (capsuleBits k)) i buffer h b
+
       pub records-at : getD (recordsOf k buffer) i 0 ≡ recordOf k (take (bytesFor (capsuleBits k)) (drop (i * bytesFor (capsuleBits k)) buffer))
-      unfolding recordsOf capsulesOf
-      records-at = cut-map (recordOf k) (bytesFor (capsuleBits k)) i buffer h b
+      unfolding recordsOf
+      records-at = capsules-map (recordOf k)

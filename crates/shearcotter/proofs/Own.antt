@@ -1,15 +1,18 @@
 -- Replies that hold the caller's own station, or its key. Assumes nothing.
 use Prim.Native.Nat.{ℕ, zero, suc}
 use mathlib.Core.Path.{_≡_, refl, sym, ap, _∙_}
+use mathlib.Core.List.{List}
 use native.Mathlib.Omega.{arith}
 use Rattle.key.specs.declared.kept.Key.{Key}
 use Rattle.ledger.specs.Loading.{Loading}
 use Rattle.ledger.specs.Publishing.{Publishing}
-use Rattle.ledger.specs.Calls.{Call, load, publish, step}
-use Rattle.station.specs.Replies.{byteOf, view, refusal, acceptance, moved, replyOf, handed}
+use Rattle.ledger.specs.Questions.{report}
+use Rattle.ledger.specs.Calls.{Call, load, publish, ask, step}
+use Rattle.station.specs.Replies.{byteOf, view, refusal, acceptance, moved, replyOf, handed, reportedOf}
 use Rattle.station.specs.declared.Station.{Station}
 use Rattle.station.specs.declared.Reply.{Reply}
-use Rattle.station.proofs.StepView.{refused-reply}
+use Rattle.station.specs.declared.Reported.{Reported}
+use Rattle.station.proofs.StepView.{refused-reply, question-left}
 
 -- a reply with another station
 abbrev pub with : Station → Reply → Reply
@@ -59,3 +62,12 @@ module _ (s : Station) (p : Publishing) (r : Reply) (e : r ≡ handed s (publish
       go : (n : ℕ) → replyOf n s (moved s (publish p)) (step (view s) (publish p) .count) .station .key ≡ s .key
       go zero = refl
       go (suc n) = refl
+
+-- a report leaves the station
+pub own-reported : (s : Station) (capsules records : List ℕ) {r : Reported} → (let h = handed s (ask (report capsules records)) in
+    r ≡ reportedOf h → record { station = s; refused = r .refused; counts = r .counts } ≡ reportedOf h)
+unfolding reportedOf
+own-reported s capsules records e =
+    let h = handed s (ask (report capsules records)) in
+    ap (λ (q : Reported). record { station = s; refused = q .refused; counts = q .counts }) e
+    ∙ ap (λ (t : Station). record { station = t; refused = h .reply .refused; counts = h .answer }) (sym (question-left s (report capsules records)))
