@@ -40,6 +40,9 @@ pub counts-at : (l : List ℕ) (v : ℕ) → v < 256 → getD (countsOf l) v 0 �
 unfolding countsOf
 counts-at l v h = map-from-at (λ v. occurrences v l) 0 256 v 0 h ∙ ap (λ (i : ℕ). occurrences i l) (zero-add v)
 
+pub counts-most : (l : List ℕ) (v : ℕ) → v < 256 → getD (countsOf l) v 0 ≤ length l
+counts-most l v h = rw (counts-at l v h) (occurrences-most v l)
+
 pub counts-none : countsOf [] ≡ replicate 256 0
 unfolding countsOf occurrences from
 counts-none = refl

@@ -6,6 +6,7 @@ use boundary::as_element;
 use boundary::as_shape;
 use field::Verdict;
 use station::Reply;
+use station::Reported;
 use station::Station;
 ghost use mathlib.Core.Path.{_≡_};
 ghost use lib.ListN.{drop};
@@ -15,9 +16,9 @@ ghost use Rattle.key.specs.Answers.{shapeOf};
 ghost use Rattle.code.specs.Lock.{lockNumber, lockOutput};
 ghost use Rattle.ledger.specs.Loading.{key-file};
 ghost use Rattle.ledger.specs.Publishing.{systematic};
-ghost use Rattle.ledger.specs.Questions.{open-capsule, read-word};
+ghost use Rattle.ledger.specs.Questions.{open-capsule, read-word, report};
 ghost use Rattle.ledger.specs.Calls.{load, publish, ask, drop-key};
-ghost use Rattle.station.specs.Replies.{freshStation, handed};
+ghost use Rattle.station.specs.Replies.{freshStation, handed, reportedOf};
 ghost use Rattle.boundary.specs.Boundary.{asElement, asShape};
 
 // The sum of two elements; 1 or 4 on refusal.
@@ -157,6 +158,22 @@ pub extern "C" fn shearcotter_read(own: Station, word: &[u8], out: &mut [u8]) ->
         station: own,
         refused: found.refused,
         ones: found.ones,
+    }
+}
+
+// The record of each capsule is written from the record buffer's start, and the records are counted by their value; 21, 25, 24 or
+// 31 on refusal.
+#[no_mangle]
+pub extern "C" fn shearcotter_report(own: Station, capsules: &[u8], records: &mut [u8]) -> Reported
+    ensures reply { λ r. ⌜ r ≡ reportedOf (handed own (ask (report (now (capsules .entry)) (now (records .entry))))) ⌝ }
+    ensures output { λ _. ⌜ now (records .exit) ≡ handed own (ask (report (now (capsules .entry)) (now (records .entry)))) .output ⌝ }
+{
+    let reported = own.report(capsules, records);
+    let counts = reported.counts;
+    Reported {
+        station: own,
+        refused: reported.refused,
+        counts,
     }
 }
 

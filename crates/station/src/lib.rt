@@ -9,9 +9,9 @@ ghost use lib.ListN.{drop};
 ghost use Rattle.ledger.specs.Station.{isEmpty, isUnpublished};
 ghost use Rattle.ledger.specs.Loading.{key-file};
 ghost use Rattle.ledger.specs.Publishing.{systematic};
-ghost use Rattle.ledger.specs.Questions.{open-capsule, read-word};
+ghost use Rattle.ledger.specs.Questions.{open-capsule, read-word, report};
 ghost use Rattle.ledger.specs.Calls.{load, publish, ask, drop-key};
-ghost use Rattle.station.specs.Replies.{stateOf, answerNumber, freshStation, refusal, acceptance, handed};
+ghost use Rattle.station.specs.Replies.{stateOf, answerNumber, freshStation, refusal, acceptance, handed, reportedOf};
 
 // One slot: the state and the key, the key of zeros where it is empty. State 0 is no key, 1 a key, any other a published key.
 #[repr(C)]
@@ -219,6 +219,38 @@ impl Station {
             return self.refuse(answer_number(answer));
         };
         self.accept(w)
+    }
+
+    // The record of each capsule is written from the record buffer's start: 0 where it is opened, else its refusal's number, and
+    // the records are counted by their value; 21, 25, 24 or 31 on refusal.
+    pub fn report(self, capsules: &[u8], records: &mut [u8]) -> Reported
+        ensures reply { λ r. ⌜ r ≡ reportedOf (handed self (ask (report (now (capsules .entry)) (now (records .entry))))) ⌝ }
+        ensures output { λ _. ⌜ now (records .exit) ≡ handed self (ask (report (now (capsules .entry)) (now (records .entry)))) .output ⌝ }
+    {
+        let state = self.state;
+        if is_empty(state) {
+            return Reported {
+                station: self,
+                refused: 21,
+                counts: [0; 256],
+            };
+        }
+        let counted = reporting::report(
+            self.key.m,
+            self.key.n,
+            self.key.t,
+            &self.key.support,
+            &self.key.g,
+            is_published(state),
+            capsules,
+            records,
+        );
+        let counts = counted.counts;
+        Reported {
+            station: self,
+            refused: counted.refused,
+            counts,
+        }
     }
 
     // Afterwards the station is a fresh one; 21 on refusal.
