@@ -41,13 +41,13 @@ prepared file = preparedWhole (take 4096 file)
 -- `key refused` and the number, `key too large`, or the text that follows an accepted key
 unfoldable pub keyText : KeyAnswer → List ℕ → List ℕ
 keyText Accepted text = text
-keyText (Refused n) text = keyRefused ++ (decimal n ++ newline)
+keyText (Refused n) text = (keyRefused ++ decimal n) ++ newline
 keyText TooLarge text = tooLarge
 
 -- m is 4, and the shape is within its limits
 unfoldable pub isFour : Key → Bool
 isFour k = eqb (k .m) 4 && inLimits 4 (k .n) (k .t)
 
--- the lines of the capsules in the input's first 65,536 bytes; none under a key of another shape
+-- the lines of the capsules in the input's first 65,536 bytes, and the total; nothing under a key of another shape
 unfoldable pub capsuleLines : Station → List ℕ → List ℕ
 capsuleLines s input = cond (isFour (s .key)) (opened s (take 65536 input)) []
