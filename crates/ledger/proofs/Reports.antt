@@ -19,7 +19,7 @@ use Rattle.code.specs.Publish.{capsuleBits}
 use Rattle.decoder.specs.Reading.{opening}
 use Rattle.decoder.specs.Calls.{isNone, openConditions}
 use Rattle.records.specs.Records.{capsulesOf, capsuleConditions, recordOf, recordsOf, countsOf, total, reportConditions}
-use Rattle.records.proofs.Values.{record-values, record-open, record-length, record-opening, capsule-some, records-length, records-sum, capsules-number, records-at}
+use Rattle.records.proofs.Values.{record-values, record-open, record-length, record-opening, bits-some, bytes-some, records-length, records-sum, capsules-number, records-at}
 use Rattle.ledger.specs.Station.{Station, isEmpty, isUnpublished, heldBy, Result}
 use Rattle.ledger.specs.Questions.{open-capsule, report, questionConditions, given}
 use Rattle.ledger.specs.Calls.{ask, conditionsOf, made, step}
@@ -117,7 +117,7 @@ module _ (sys : System) (sim : Simulates sys) where
       let q = ask (report capsules records) in
       let k = sys .view s .key in
       let a = report-accepts (sys .view s) capsules records (sym (same-number sys sim s q) ∙ z) in
-      let some = capsule-some k (a .good) in
+      let some : 0 < bytesFor (capsuleBits k) = bytes-some refl (bits-some k (a .good)) in
       let n : length (capsulesOf k capsules) ≡ capsuleNumber k capsules = capsules-number k capsules some in
       let l : length (recordsOf k capsules) ≡ capsuleNumber k capsules = records-length k capsules ∙ n in
       let out = same-output sys sim s q ∙ a .output in

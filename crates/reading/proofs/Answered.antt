@@ -87,9 +87,10 @@ module _ {q : ℕ} (x : ℕ) (o : Option (List ℕ)) (out : List ℕ) (e : q ≡
       (a .0, written-row (f .pattern) 0 n out b ∙ ap (λ (e : List ℕ). over (pack e) out) (c .bits) ∙ a .1)
 
 -- read
-module _ (k : Key) (word : List ℕ) (z : keyNumber (kept k) ≡ 0) where
-  pub found-reading : {f : Found} → f ≡ foundOf (decoded (kept k) (unpack (k .n) word)) → f ≡ foundOf (reading (kept k) (unpack (k .n) word))
-  found-reading e = e ∙ ap foundOf (decoded-reading k word z)
+module _ (k : Key) (word : List ℕ) where
+  pub found-reading : keyNumber (kept k) ≡ 0 → {f : Found} → f ≡ foundOf (decoded (kept k) (unpack (k .n) word))
+      → f ≡ foundOf (reading (kept k) (unpack (k .n) word))
+  found-reading z e = e ∙ ap foundOf (decoded-reading k word z)
 
   pub row-reading : (e : List ℕ) → reading (kept k) (unpack (k .n) word) ≡ some e → Row (k .n) e
   unfolding kept
@@ -171,7 +172,7 @@ module _ (k : Key) (capsule : List ℕ) (z : keyNumber (kept k) ≡ 0) (w : well
   found-opening e = e ∙ ap foundOf exactly-opening
 
   pub row-opening : (e : List ℕ) → opening (kept k) (unpack (capsuleBits (kept k)) capsule) ≡ some e → Row (k .n) e
-  row-opening e h = row-exactly (k .t) _ (row-reading k capsule z) e (sym opening-exactly ∙ h)
+  row-opening e h = row-exactly (k .t) _ (row-reading k capsule) e (sym opening-exactly ∙ h)
 
 module _ (unpublished : Bool) (k : Key) (capsule out : List ℕ) where
   pub open-refusal : {x : ℕ} → x ≡ firstOf (openChecks unpublished (kept k) capsule (length out)) → (x ≡ 0 → ⊥)

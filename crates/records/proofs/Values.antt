@@ -4,7 +4,7 @@ use mathlib.Core.Logic.{_⊎_, inl, inr}
 use mathlib.Core.Bool.{Bool, true, false, cond}
 use mathlib.Core.List.{List, [], _∷_, map}
 use Prim.Native.Nat.{ℕ, zero, suc, _+_, _-_, _*_, _/_, _≤_, _<_}
-use native.Mathlib.Nat.{mul-le-mul}
+use native.Mathlib.Nat.{mul-pos}
 use native.Mathlib.Omega.{arith}
 use borrow.Author.Tests.{eq-eqb, ne-eqb, le-ltb}
 use lib.ListN.{length, getD, take, drop, length-map}
@@ -19,6 +19,15 @@ use Rattle.decoder.specs.Calls.{isNone, openConditions}
 use Rattle.records.specs.Records.{capsulesOf, capsuleConditions, recordOf, recordsOf, countsOf, total}
 use Rattle.records.proofs.Cut.{cut-number, cut-within, cut-map}
 use Rattle.records.proofs.Counts.{counts-sum}
+
+-- a capsule has a bit, and a byte
+pub bits-some : (k : Key) → keyNumber k ≡ 0 → 0 < capsuleBits k
+unfolding capsuleBits
+bits-some k z = let A : Accepted k = accepted k z in mul-pos (width-pos (k .m) (A .width)) (A .limits .some)
+
+pub bytes-some : {c bits : ℕ} → c ≡ bytesFor bits → 0 < bits → 0 < c
+unfolding bytesFor
+bytes-some e h = omega arith
 
 -- one of three numbers, or 0
 first-values : (a b c : Bool) → let r : ℕ = firstOf ((a, 8) ∷ (b, 9) ∷ (c, 13) ∷ []) in (r ≡ 0) ⊎ (r ≡ 8) ⊎ (r ≡ 9) ⊎ (r ≡ 13)
@@ -61,13 +70,6 @@ module _ (k : Key) (capsule : List ℕ) where
     unfolding recordOf capsuleConditions firstOf
     record-opening h = rw (eq-eqb _ _ a, h)
 
--- a capsule of a key that load accepts has a byte
-pub capsule-some : (k : Key) → keyNumber k ≡ 0 → 0 < bytesFor (capsuleBits k)
-unfolding bytesFor capsuleBits
-capsule-some k z =
-    let a : Accepted k = accepted k z in
-    omega (arith, mul-le-mul (width-pos (k .m) (a .width)) (a .limits .some))
-
 module _ (k : Key) (buffer : List ℕ) where
   pub records-length : length (recordsOf k buffer) ≡ length (capsulesOf k buffer)
   unfolding recordsOf
@@ -86,8 +88,8 @@ module _ (k : Key) (buffer : List ℕ) where
   pub records-sum : total (countsOf (recordsOf k buffer)) ≡ length (capsulesOf k buffer)
   records-sum = counts-sum (recordsOf k buffer) records-bytes ∙ records-length
 
+  -- how many capsules there are, and which
   module _ (h : 0 < bytesFor (capsuleBits k)) where
-    -- how many they are, and which
     pub capsules-number : length (capsulesOf k buffer) ≡ (length buffer + (bytesFor (capsuleBits k) - 1)) / bytesFor (capsuleBits k)
     unfolding capsulesOf
     capsules-number = cut-number (bytesFor (capsuleBits k)) buffer h

@@ -25,13 +25,18 @@ use Rattle.reading.specs.Answers.{rowChecks}
 use Rattle.reading.proofs.Refusals.{row-clear}
 use Rattle.reading.proofs.Answered.{exactly-opening}
 use Rattle.records.specs.Records.{capsulesOf, capsuleConditions, recordOf, recordsOf}
-use Rattle.reporting.specs.Answers.{recordFound}
+use Rattle.reporting.specs.Answers.{recordFound, recordsFound}
 
 -- the number of a row's check
 pub row-number : (k : Key) (capsule : List ℕ) {bits x : ℕ} {v : Verdict} → bits ≡ k .m * k .t → v ≡ verdictOf (firstOf (rowChecks bits capsule)) → x ≡ numberOf v
     → x ≡ firstOf (rowChecks (capsuleBits (kept k)) capsule)
 unfolding kept capsuleBits
 row-number k capsule e v x = x ∙ verdict-number _ v ∙ ap (λ (b : ℕ). firstOf (rowChecks b capsule)) e
+
+none-found : (o : Option (List ℕ)) → firstOf ((isNone o, 13) ∷ []) ≡ cond (foundOf o .found) 0 13
+unfolding isNone foundOf firstOf
+none-found none = refl
+none-found (some e) = refl
 
 module _ (k : Keys.Key) (capsule : List ℕ) where
   -- 8, 9
@@ -42,11 +47,6 @@ module _ (k : Keys.Key) (capsule : List ℕ) where
 
   -- 13, or 0
   module _ (z : firstOf (rowChecks (capsuleBits k) capsule) ≡ 0) (f : Found) (ef : f ≡ foundOf (exactly (k .t) (decoded k (unpack (k .n) capsule)))) where
-    none-found : (o : Option (List ℕ)) → firstOf ((isNone o, 13) ∷ []) ≡ cond (foundOf o .found) 0 13
-    unfolding isNone foundOf firstOf
-    none-found none = refl
-    none-found (some e) = refl
-
     by-found : recordFound k capsule ≡ cond (f .found) 0 13
     unfolding recordFound rowChecks numbered
     by-found =
@@ -71,6 +71,6 @@ module _ (k : Key) (z : keyNumber (kept k) ≡ 0) where
           (exactly-opening k capsule z (row-clear (capsuleBits (kept k)) capsule w))
       go (no w) = sym (record-row (kept k) capsule refl w) ∙ first-take 2 (capsuleConditions (kept k) capsule) w
 
-  pub records-found : (capsules : List ℕ) → map (recordFound (kept k)) (capsulesOf (kept k) capsules) ≡ recordsOf (kept k) capsules
-  unfolding recordsOf
+  pub records-found : (capsules : List ℕ) → recordsFound (kept k) capsules ≡ recordsOf (kept k) capsules
+  unfolding recordsFound recordsOf
   records-found capsules = ap (λ (f : List ℕ → ℕ). map f (capsulesOf (kept k) capsules)) (fun-ext record-found)

@@ -1,11 +1,11 @@
 -- What report answers and writes. Assumes nothing.
 use mathlib.Core.Path.{_≡_, refl, sym, ap, ap₂, _∙_}
 use mathlib.Core.Bool.{Bool, true, false, cond}
-use mathlib.Core.List.{List, map}
+use mathlib.Core.List.{List}
 use Prim.Native.Nat.{ℕ}
 use borrow.Author.Tests.{eq-eqb, ne-eqb}
 use lib.Dec.{eqb}
-use lib.ListN.{length, take, replicate, length-map}
+use lib.ListN.{length, take, replicate}
 use lib.Seq.{take-at}
 use Rattle.bits.specs.Bits.{over}
 use Rattle.field.specs.Numbers.{firstOf}
@@ -13,10 +13,11 @@ use Rattle.key.specs.Kept.{kept}
 use Rattle.key.specs.Keys as Keys
 use Rattle.key.specs.declared.kept.Key.{Key}
 use Rattle.records.specs.Records.{capsulesOf, recordsOf, countsOf, reportConditions, reportNumber, reportOutput, reportCounts}
-use Rattle.reporting.specs.Answers.{countedOf, reportChecks, recordFound}
+use Rattle.reporting.specs.Answers.{countedOf, reportChecks, recordsFound}
 use Rattle.reporting.specs.declared.Counted.{Counted}
 use Rattle.reporting.proofs.Checks.{report-clear}
 use Rattle.reporting.proofs.Found.{records-found}
+use Rattle.reporting.proofs.Written.{length-found}
 
 module _ (unpublished : Bool) (k : Keys.Key) (capsules records : List ℕ) where
   -- the number is that of the checks
@@ -51,7 +52,7 @@ module _ (unpublished : Bool) (k : Keys.Key) (capsules records : List ℕ) where
 -- the records written, and the counts of as many bytes
 pub report-written : (unpublished : Bool) (k : Key) (capsules records : List ℕ) {r : ℕ} {out counts : List ℕ}
     → firstOf (reportChecks unpublished (kept k) capsules (length records)) ≡ 0
-    → r ≡ length (capsulesOf (kept k) capsules) → out ≡ over (map (recordFound (kept k)) (capsulesOf (kept k) capsules)) records
+    → r ≡ length (capsulesOf (kept k) capsules) → out ≡ over (recordsFound (kept k) capsules) records
     → counts ≡ countsOf (take r out)
     → (_≡_ {A = Counted} record { refused = 0; counts = counts } (countedOf unpublished (kept k) capsules records))
     × (out ≡ reportOutput unpublished (kept k) capsules records)
@@ -59,7 +60,7 @@ unfolding over
 report-written unpublished k capsules records {r} {out} z er eo ec =
     let f = records-found k (report-clear unpublished (kept k) capsules (length records) z .0) capsules in
     let o : out ≡ over (recordsOf (kept k) capsules) records = eo ∙ ap (λ (l : List ℕ). over l records) f in
-    let n : length (recordsOf (kept k) capsules) ≡ r = ap length (sym f) ∙ length-map (capsulesOf (kept k) capsules) (recordFound (kept k)) ∙ sym er in
+    let n : length (recordsOf (kept k) capsules) ≡ r = ap length (sym f) ∙ length-found (kept k) capsules ∙ sym er in
     let t : take r out ≡ recordsOf (kept k) capsules = ap (take r) o ∙ take-at (recordsOf (kept k) capsules) _ r n in
     let a = accepted unpublished (kept k) capsules records z in
     (ap (λ (l : List ℕ). record { refused = 0; counts = l }) (ec ∙ ap countsOf t) ∙ a .0, o ∙ a .1)

@@ -1,7 +1,7 @@
 -- What report answers, and the terms of its private functions. Assumes nothing.
 use Prim.Native.Nat.{ℕ}
 use mathlib.Core.Bool.{Bool}
-use mathlib.Core.List.{List, [], _∷_, _++_}
+use mathlib.Core.List.{List, [], _∷_, _++_, map}
 use lib.Dec.{ltb}
 use lib.ListN.{length}
 use Rattle.bits.specs.Bits.{unpack}
@@ -28,3 +28,7 @@ reportChecks unpublished k capsules len = (unsound k, 25) ∷ (unpublished, 24) 
 unfoldable pub recordFound : Key → List ℕ → ℕ
 recordFound k capsule =
     firstOf (rowChecks (capsuleBits k) capsule ++ ((isNone (exactly (k .t) (decoded k (unpack (k .n) capsule))), 13) ∷ []))
+
+-- of each capsule of a buffer
+unfoldable pub recordsFound : Key → List ℕ → List ℕ
+recordsFound k capsules = map (recordFound k) (capsulesOf k capsules)

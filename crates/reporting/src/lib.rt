@@ -6,7 +6,6 @@ use reading::check_row;
 use reading::open_checked;
 ghost use mathlib.Core.Path.{_≡_};
 ghost use mathlib.Core.Bool.{not};
-ghost use mathlib.Core.List.{map};
 ghost use Prim.Native.Nat.{_+_, _-_, _*_, _/_, _≤_, _<_};
 ghost use lib.ListN.{length, take, drop};
 ghost use Rattle.bits.specs.Bits.{bytesFor, over};
@@ -14,7 +13,7 @@ ghost use Rattle.field.specs.Numbers.{firstOf};
 ghost use Rattle.field.specs.Verdicts.{verdictOf};
 ghost use Rattle.key.specs.Kept.{kept, parts};
 ghost use Rattle.records.specs.Records.{capsulesOf, countsOf, reportOutput};
-ghost use Rattle.reporting.specs.Answers.{countedOf, reportChecks, recordFound};
+ghost use Rattle.reporting.specs.Answers.{countedOf, reportChecks, recordFound, recordsFound};
 
 // The number of a refusal, or 0, and how often each byte value stands in the records; zeros on refusal.
 pub struct Counted {
@@ -125,7 +124,7 @@ fn write_records<'a>(
     requires { ⌜ 0 < m * t ⌝ }
     requires { ⌜ length (capsulesOf (kept (parts m n t (now support) (now g))) (now capsules)) ≤ length (now records) ⌝ }
     ensures number { λ r. ⌜ r ≡ length (capsulesOf (kept (parts m n t (now (support .entry)) (now (g .entry)))) (now (capsules .entry))) ⌝ }
-    ensures output { λ _. ⌜ now (records .exit) ≡ over (map (recordFound (kept (parts m n t (now (support .entry)) (now (g .entry))))) (capsulesOf (kept (parts m n t (now (support .entry)) (now (g .entry)))) (now (capsules .entry)))) (now (records .entry)) ⌝ }
+    ensures output { λ _. ⌜ now (records .exit) ≡ over (recordsFound (kept (parts m n t (now (support .entry)) (now (g .entry)))) (now (capsules .entry))) (now (records .entry)) ⌝ }
 {
     let c = capsule_bytes(m, t);
     let count = capsule_count(capsules.len(), c);

@@ -3,7 +3,9 @@ use native.Mathlib.Omega.{arith}
 use borrow.Author.Needs.{needs}
 use Rattle.field.proofs.Verdicts.{refuses, accepts, verdict-accepted, verdict-refused}
 use Rattle.key.specs.Kept.{kept, parts}
-use Rattle.reporting.proofs.Checks.{report-unsound, report-unpublished, report-short, report-room, bits-some, bytes-some, count-capsules}
+use Rattle.code.specs.Publish.{capsuleBits}
+use Rattle.records.proofs.Values.{bits-some, bytes-some}
+use Rattle.reporting.proofs.Checks.{report-unsound, report-unpublished, report-short, report-room, count-capsules}
 use Rattle.reporting.proofs.check_report.Statement.{statement}
 use Rattle.reporting.proofs.check_report.Tie as tie
 
@@ -33,7 +35,7 @@ capsule-bytes-requires : tie.Need-capsule-bytes-requires
 capsule-bytes-requires c κs = search needs
 
 capsule-count-requires : tie.Need-capsule-count-requires
-unfolding kept
+unfolding kept capsuleBits
 capsule-count-requires c κs =
     let t = c .before .before in
     let a = t .before .before .before .before .args in
@@ -41,7 +43,7 @@ capsule-count-requires c κs =
     bytes-some (c .capsule-bytes .ensures) (bits-some (kept k) (verdict-accepted _ (t .before .before .check .ensures) (t .enum-told .given .1)))
 
 returns-3 : tie.Need-returns-3
-unfolding kept
+unfolding kept capsuleBits
 returns-3 c =
     let n = c .before in
     let b = n .before in
@@ -53,7 +55,7 @@ returns-3 c =
     refuses (report-short _ (kept k) (a .capsules .now) (a .len) z (b .before .if1 .left) (omega (arith, e)))
 
 returns-4 : tie.Need-returns-4
-unfolding kept
+unfolding kept capsuleBits
 returns-4 c =
     let n = c .before in
     let b = n .before in

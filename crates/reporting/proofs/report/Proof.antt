@@ -7,7 +7,9 @@ use lib.ListN.{length}
 use lib.Seq.{length-take-le}
 use Rattle.field.proofs.Verdicts.{verdict-accepted, verdict-taken}
 use Rattle.key.specs.Kept.{kept, parts}
-use Rattle.reporting.proofs.Checks.{report-clear, bits-some}
+use Rattle.code.specs.Publish.{capsuleBits}
+use Rattle.records.proofs.Values.{bits-some}
+use Rattle.reporting.proofs.Checks.{report-clear}
 use Rattle.reporting.proofs.Reported.{report-refused, report-written}
 use Rattle.reporting.proofs.report.Statement.{statement}
 use Rattle.reporting.proofs.report.Tie as tie
@@ -32,7 +34,7 @@ returns c =
     report-refused (not (a .published)) (kept k) (a .capsules .now) (a .records .now) (t .0) (t .1)
 
 write-records-requires : tie.Need-write-records-requires
-unfolding kept
+unfolding kept capsuleBits
 write-records-requires c κs =
     let t = c .before in
     let a = t .before .before .before .before .before .args in

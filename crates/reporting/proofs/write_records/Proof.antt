@@ -8,9 +8,12 @@ use lib.ListN.{length, take, length-set}
 use Rattle.bits.specs.Bits.{over}
 use Rattle.bits.proofs.Padded.{over-start}
 use Rattle.key.specs.Kept.{kept, parts}
+use Rattle.code.specs.Publish.{capsuleBits}
 use Rattle.records.specs.Records.{capsulesOf}
-use Rattle.reporting.proofs.Checks.{bytes-some, count-capsules}
-use Rattle.reporting.proofs.Written.{recordsFound, start-within, written-next, written-all}
+use Rattle.records.proofs.Values.{bytes-some}
+use Rattle.reporting.specs.Answers.{recordsFound}
+use Rattle.reporting.proofs.Checks.{count-capsules}
+use Rattle.reporting.proofs.Written.{start-within, written-next, written-all}
 use Rattle.reporting.proofs.write_records.Statement.{statement}
 use Rattle.reporting.proofs.write_records.Tie as tie
 
@@ -29,7 +32,7 @@ capsule-count-requires : tie.Need-capsule-count-requires Inv-loop μ-loop
 capsule-count-requires c κs = bytes-some (c .capsule-bytes .ensures) (c .before .before .before .pre .0)
 
 loop-holds : tie.Need-loop-holds Inv-loop μ-loop
-unfolding kept
+unfolding kept capsuleBits
 loop-holds c =
     let b = c .before in
     let s = b .before .before .before in
@@ -42,7 +45,7 @@ loop-holds c =
     )
 
 mul-record-at : tie.Need-mul-record-at Inv-loop μ-loop
-unfolding kept
+unfolding kept capsuleBits
 mul-record-at c =
     let l = c .before .loop in
     let b = c .before .before .before in
@@ -52,7 +55,7 @@ mul-record-at c =
     omega (arith, start-within k (a .capsules .now) (s .pre .0) (b .capsule-bytes .ensures) (l .i) (omega (arith, l .inv .0)))
 
 record-at-requires : tie.Need-record-at-requires Inv-loop μ-loop
-unfolding kept
+unfolding kept capsuleBits
 record-at-requires c κs =
     let l = c .before .loop in
     let b = c .before .before .before in
@@ -73,7 +76,7 @@ loop-less : tie.Need-loop-less Inv-loop μ-loop
 loop-less c = search needs
 
 loop-again : tie.Need-loop-again Inv-loop μ-loop
-unfolding kept
+unfolding kept capsuleBits
 loop-again c =
     let l = c .before .before .loop in
     let b = c .before .before .before .before in
@@ -91,7 +94,6 @@ same-length : tie.Need-same-length Inv-loop μ-loop
 same-length c = c .before .loop .inv .2
 
 returns : tie.Need-returns Inv-loop μ-loop
-unfolding recordsFound
 returns c =
     let l = c .before .loop in
     let a = c .before .before .before .before .before .before .args in

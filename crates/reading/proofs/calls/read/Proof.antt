@@ -68,7 +68,7 @@ returns-3 c =
     let k = parts (a .m) (a .n) (a .t) (a .support .now) (a .g .now) in
     let clear = verdict-accepted _ (t .before .before .check-word .ensures) (t .enum-told .given .1) in
     let z = read-clear (kept k) (a .word .now) (a .out .now) clear .0 in
-    let e = counted-some 14 _ (found-reading k (a .word .now) z (d .decode .ensures)) (n .counted .ensures) (row-reading k (a .word .now) z) (v .answer .given .1) in
+    let e = counted-some 14 _ (found-reading k (a .word .now) z (d .decode .ensures)) (n .counted .ensures) (row-reading k (a .word .now)) (v .answer .given .1) in
     let s = read-some k (a .word .now) (a .out .now) clear e in
     (s .0, c .before .before .give .ensures ∙ s .1)
 
