@@ -75,11 +75,7 @@ pub capsule-bits : {k : Key} → Four k → (0 < capsuleBits k) × (capsuleBits 
 unfolding capsuleBits
 capsule-bits {k} f = rw (f .width) (omega (arith, f .some), omega (arith, f .over, f .fits))
 
--- a capsule has a byte, and no more bytes than bits
-pub capsule-some : {c bits : ℕ} → c ≡ bytesFor bits → 0 < bits → 0 < c
-unfolding bytesFor
-capsule-some e h = omega arith
-
+-- a capsule has no more bytes than bits
 pub capsule-few : {c bits n : ℕ} → c ≡ bytesFor bits → bits < n → c ≤ n
 unfolding bytesFor
 capsule-few e h = omega arith

@@ -4,11 +4,12 @@ use Prim.Native.Nat.{_+_, _-_, _≤_}
 use native.Mathlib.Omega.{arith}
 use lib.ListN.{length, take, drop}
 use Rattle.records.specs.Records.{capsulesOf}
+use Rattle.records.proofs.Values.{bytes-some}
 use Rattle.station.specs.Replies.{view}
 use Rattle.opener.specs.Report.{line, lines}
 use Rattle.opener.proofs.Written.{Left, left-start, left-step, left-none}
 use Rattle.opener.proofs.Shape.{four}
-use Rattle.opener.proofs.Capsules.{linesLeft, lines-all, lines-next, lines-done, line-room, capsule-some, capsule-few, capsule-bits}
+use Rattle.opener.proofs.Capsules.{linesLeft, lines-all, lines-next, lines-done, line-room, capsule-few, capsule-bits}
 use Rattle.opener.proofs.Lengths.{lines-short}
 use Rattle.opener.proofs.lines.Statement.{statement}
 use Rattle.opener.proofs.lines.Tie as tie
@@ -34,7 +35,7 @@ line-at-requires c κs =
     let a = s .args in
     let l = c .before .before .loop in
     let n = c .before .before .before .capsule-bytes in
-    let h = capsule-some (n .ensures) (capsule-bits (four _ (s .pre .0)) .0) in
+    let h = bytes-some (n .ensures) (capsule-bits (four _ (s .pre .0)) .0) in
     let r = line-room (view (a .station)) (n .result) (l .p) (a .input .now) (l .i) h (omega arith) in
     let b = lines-short (view (a .station)) (four _ (s .pre .0)) (a .input .now) (s .pre .1) in
     (omega arith, omega (arith, l .inv .2 .place, r, b))
@@ -52,7 +53,7 @@ add-p c =
 loop-less : tie.Need-loop-less Inv-loop μ-loop
 loop-less c =
     let n = c .before .before .before .before .before .before in
-    omega (arith, capsule-some (n .capsule-bytes .ensures) (capsule-bits (four _ (n .before .before .before .pre .0)) .0))
+    omega (arith, bytes-some (n .capsule-bytes .ensures) (capsule-bits (four _ (n .before .before .before .pre .0)) .0))
 
 loop-again : tie.Need-loop-again Inv-loop μ-loop
 loop-again c =
@@ -61,7 +62,7 @@ loop-again c =
     let n = c .before .before .before .before .before .before .capsule-bytes in
     let l = c .before .before .before .before .before .loop in
     let p = c .before .before .line-at in
-    let h = capsule-some (n .ensures) (capsule-bits (four _ (s .pre .0)) .0) in (
+    let h = bytes-some (n .ensures) (capsule-bits (four _ (s .pre .0)) .0) in (
       p .kept .1 .1 .1 .1 .1 .0 ∙ l .inv .0,
       omega (arith, h, l .inv .1),
       left-step
