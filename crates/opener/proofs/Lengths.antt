@@ -1,4 +1,4 @@
--- The text is short: at most 17 bytes for each byte of input. Assumes nothing.
+-- The lines are short: at most 17 bytes for each byte of input. Assumes nothing.
 use mathlib.Core.Path.{_≡_, refl, sym, ap, subst, _∙_}
 use mathlib.Core.Bool.{Bool, true, false, true≢false, cond}
 use mathlib.Core.List.{List, [], _∷_, _++_}
@@ -8,7 +8,7 @@ use native.Mathlib.Nat.{suc-mul, mul-le-mul}
 use native.Mathlib.Decide.{decLt}
 use native.Mathlib.Omega.{arith}
 use lib.Dec.{eqb}
-use lib.ListN.{length, drop, length-append, length-drop}
+use lib.ListN.{length, length-append}
 use Rattle.bits.specs.Bits.{Row, end, off, on, bytesFor, unpack, ones}
 use Rattle.bits.proofs.Pack.{unpack-over}
 use Rattle.field.specs.Numbers.{firstOf}
@@ -16,13 +16,15 @@ use Rattle.field.proofs.Numbers.{first-clear}
 use Rattle.key.specs.Keys.{Key}
 use Rattle.code.specs.Publish.{capsuleBits, publicBytes, workBytes}
 use Rattle.decoder.specs.Reading.{reading, exactly, opening}
-use Rattle.decoder.specs.Calls.{found, isNone}
+use Rattle.decoder.specs.Calls.{found, isNone, openConditions}
 use Rattle.decoder.proofs.Sanity.{Corrects, reading-sound}
-use Rattle.decoder.specs.Calls as Calls
-use Rattle.ledger.specs.Station.{Station, heldBy, openConditions, Result, openOf, gives}
-use Rattle.ledger.specs.Calls.{open-capsule, conditionsOf, step}
-use Rattle.ledger.proofs.StepLaws.{step-number, unless-accepted}
-use Rattle.opener.specs.Report.{keyRefused, newline, refuses, opens, decimal, place, places, answer, room, line, lines, cut, opened}
+use Rattle.records.specs.Records.{cut, capsulesOf}
+use Rattle.records.proofs.Cut.{cut-number}
+use Rattle.ledger.specs.Station.{Station, heldBy, Result}
+use Rattle.ledger.specs.Questions.{open-capsule, questionConditions, gives, given}
+use Rattle.ledger.specs.Calls.{ask, conditionsOf, made, step}
+use Rattle.ledger.proofs.StepLaws.{step-number, step-made}
+use Rattle.opener.specs.Report.{keyRefused, newline, refuses, opens, decimal, place, places, answer, room, line, lines}
 use Rattle.opener.proofs.Digits.{decimal-short}
 use Rattle.opener.proofs.Shape.{Four}
 
@@ -64,28 +66,28 @@ found-some k w (some e) h i =
 
 module _ (s : Station) (capsule out : List ℕ) where
   -- open's numbers are at most 25
-  open-number : step s (open-capsule capsule out) .number < 26
-  unfolding Numbered conditionsOf openConditions Calls.openConditions
+  open-number : step s (ask (open-capsule capsule out)) .number < 26
+  unfolding Numbered conditionsOf questionConditions openConditions
   open-number =
-      rw (step-number s (open-capsule capsule out))
-      (first-below 26 (openConditions (heldBy s) capsule out)
+      rw (step-number s (ask (open-capsule capsule out)))
+      (first-below 26 (conditionsOf (heldBy s) (ask (open-capsule capsule out)))
       (omega arith, (omega arith, (omega arith, (omega arith, (omega arith, (omega arith, (omega arith, omega arith))))))))
 
-  open-some : firstOf (openConditions (heldBy s) capsule out) ≡ 0 → isNone (opening (s .key) (unpack (capsuleBits (s .key)) capsule)) ≡ false
-  unfolding openConditions Calls.openConditions heldBy
-  open-some z =
+  open-some : step s (ask (open-capsule capsule out)) .number ≡ 0 → isNone (opening (s .key) (unpack (capsuleBits (s .key)) capsule)) ≡ false
+  unfolding conditionsOf questionConditions openConditions heldBy
+  open-some h =
+      let z = sym (step-number s (ask (open-capsule capsule out))) ∙ h in
       let a = first-clear _ 23 _ (first-clear _ 24 _ (first-clear _ 20 _ z .1) .1) .1 in
       first-clear _ 12 _ (first-clear _ 9 _ (first-clear _ 8 _ (first-clear _ 7 _ a .1) .1) .1) .0
 
-  open-pattern : step s (open-capsule capsule out) .number ≡ 0
-      → Pattern (s .key) (unpack (s .key .n) (step s (open-capsule capsule out) .output))
-  unfolding conditionsOf step openOf gives opening
+  open-pattern : step s (ask (open-capsule capsule out)) .number ≡ 0
+      → Pattern (s .key) (unpack (s .key .n) (step s (ask (open-capsule capsule out)) .output))
+  unfolding made given gives opening
   open-pattern h =
-      let z = sym (step-number s (open-capsule capsule out)) ∙ h in
       let o = opening (s .key) (unpack (capsuleBits (s .key)) capsule) in
-      let p = found-some (s .key) _ o refl (open-some z) in
+      let p = found-some (s .key) _ o refl (open-some h) in
       subst (Pattern (s .key))
-      (sym (ap (λ (r : Result). unpack (s .key .n) (r .output)) (unless-accepted s out _ _ z) ∙ unpack-over (p .bits) out))
+      (sym (ap (λ (r : Result). unpack (s .key .n) (r .output)) (step-made s (ask (open-capsule capsule out)) h) ∙ unpack-over (p .bits) out))
       p
 
 -- a blank and two digits for each one
@@ -109,7 +111,7 @@ module _ (s : Station) (f : Four (s .key)) (b : ℕ) (h : s .key .t ≤ b) (two 
   line-few : (p : ℕ) (capsule : List ℕ) → p < 100000 → length (line s p capsule) ≤ 11 + 3 * b
   unfolding line newline
   line-few p capsule l =
-      let r = step s (open-capsule capsule room) in
+      let r = step s (ask (open-capsule capsule room)) in
       let e = unpack (s .key .n) (r .output) in
       let a = answer-few (r .number) e (open-number s capsule room) (open-pattern s capsule room) in
       omega (arith, length-append (decimal p) (answer (r .number) e ++ newline), length-append (answer (r .number) e) newline, decimal-short 4 p l, a)
@@ -121,53 +123,31 @@ module _ (s : Station) (f : Four (s .key)) (b : ℕ) (h : s .key .t ≤ b) (two 
       let r = lines-few cs (suc p) (omega arith) in
       omega (arith, r, length-append (line s p c) (lines s (suc p) cs), line-few p c (omega arith), suc-mul (length cs) (11 + 3 * b))
 
-cut-none : (k c : ℕ) (l : List ℕ) → length l ≡ 0 → length (cut k c l) ≡ 0
-unfolding cut
-cut-none zero c l e = refl
-cut-none (suc k) c [] e = refl
-cut-none (suc k) c (b ∷ l) e = absurd (omega arith)
-
--- the last part may be short
-cut-count : (k c : ℕ) (l : List ℕ) → 0 < c → length (cut k c l) * c < length l + c
-unfolding cut
-cut-count zero c l h = omega arith
-cut-count (suc k) c [] h = omega arith
-cut-count (suc k) c (b ∷ l) h = elim (decLt (length (b ∷ l)) c) [
-  | yes y ↦
-      let e : length (drop c (b ∷ l)) ≡ 0 = length-drop c (b ∷ l) ∙ (omega arith) in
-      let r = cut-none k c (drop c (b ∷ l)) e in
-      omega (arith, r, ap (λ (x : ℕ). x * c) r, suc-mul (length (cut k c (drop c (b ∷ l)))) c)
-  | no y ↦
-      let r = cut-count k c (drop c (b ∷ l)) h in
-      omega (arith, r, length-drop c (b ∷ l), suc-mul (length (cut k c (drop c (b ∷ l)))) c)
-]
-
 module _ (s : Station) (f : Four (s .key)) (input : List ℕ) where
   -- capsules of c bytes
-  opened-few : (c b : ℕ) → bytesFor (capsuleBits (s .key)) ≡ c → s .key .t ≤ b → 2 ≤ b → length (cut (length input) c input) < 100000
-      → length (opened s input) ≤ length (cut (length input) c input) * (11 + 3 * b)
-  unfolding opened
-  opened-few c b e h two l =
-      rw e (lines-few s f b h two (cut (length input) c input) 1 (omega arith))
+  lines-cut : (c b : ℕ) → bytesFor (capsuleBits (s .key)) ≡ c → 0 < c → s .key .t ≤ b → 2 ≤ b → (length input + (c - 1)) / c < 100000
+      → length (lines s 1 (capsulesOf (s .key) input)) ≤ (length input + (c - 1)) / c * (11 + 3 * b)
+  unfolding capsulesOf
+  lines-cut c b e h k two l =
+      let n = cut-number c input h in
+      rw (e, ← n) (lines-few s f b k two (cut (length input) c input) 1 (omega arith))
 
   -- a byte with t below 3, two bytes with t 3
-  pub opened-short : length input ≤ 65536 → length (opened s input) ≤ 1114112
+  pub lines-short : length input ≤ 65536 → length (lines s 1 (capsulesOf (s .key) input)) ≤ 1114112
   unfolding capsuleBits bytesFor
-  opened-short l = elim (decLt (s .key .t) 3) [
+  lines-short l = elim (decLt (s .key .t) 3) [
     | yes y ↦
         let c : bytesFor (capsuleBits (s .key)) ≡ 1 = ap (λ (m : ℕ). (m * s .key .t + 7) / 8) (f .width) ∙ (omega (arith, f .some)) in
-        let n = cut-count (length input) 1 input (omega arith) in
-        omega (arith, n, opened-few 1 2 c (omega arith) (omega arith) (omega (arith, n)))
+        omega (arith, lines-cut 1 2 c (omega arith) (omega arith) (omega arith) (omega arith))
     | no y ↦
         let c : bytesFor (capsuleBits (s .key)) ≡ 2 = ap (λ (m : ℕ). (m * s .key .t + 7) / 8) (f .width) ∙ (omega (arith, f .over, f .fits)) in
-        let n = cut-count (length input) 2 input (omega arith) in
-        omega (arith, n, opened-few 2 3 c (omega (arith, f .over, f .fits)) (omega arith) (omega (arith, n)))
+        omega (arith, lines-cut 2 3 c (omega arith) (omega (arith, f .over, f .fits)) (omega arith) (omega arith))
   ]
 
 -- `key refused ` and a number of one byte
-pub refused-short : (n : ℕ) → n < 256 → length (keyRefused ++ (decimal n ++ newline)) ≤ 1114112
+pub refused-short : (n : ℕ) → n < 256 → length ((keyRefused ++ decimal n) ++ newline) ≤ 1114176
 unfolding keyRefused newline
-refused-short n h = omega (arith, length-append (decimal n) newline, decimal-short 2 n (omega arith))
+refused-short n h = omega (arith, length-append (keyRefused ++ decimal n) newline, decimal-short 2 n (omega arith))
 
 -- T, its workspace and a pattern fit in `room`
 pub room-enough : (k : Key) → Four k → (publicBytes k ≤ length room) × (workBytes k ≤ length room) × (bytesFor (k .n) ≤ length room)

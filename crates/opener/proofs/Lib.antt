@@ -4,4 +4,5 @@ pub mod Text
 pub mod Shape
 pub mod Capsules
 pub mod Lengths
+pub mod Total
 pub mod Stages

@@ -11,7 +11,9 @@ use lib.ListN.{take}
 use Rattle.field.specs.Numbers.{firstOf}
 use Rattle.key.specs.Keys.{parse, keyNumber}
 use Rattle.key.proofs.Parse.{accepted-key}
-use Rattle.ledger.specs.Station.{isEmpty, heldBy, loadConditions, fresh}
+use Rattle.ledger.specs.Station.{isEmpty, heldBy, fresh}
+use Rattle.ledger.specs.Loading.{key-file, loadingConditions, loadedKey}
+use Rattle.ledger.specs.Publishing.{systematic}
 use Rattle.ledger.specs.Calls.{load, publish, conditionsOf, step}
 use Rattle.ledger.proofs.StepLaws.{step-number, load-station, publish-station}
 use Rattle.ledger.specs.Station as Definition
@@ -65,14 +67,14 @@ text-other TooLarge text h = refl
 
 module _ (file : List ℕ) where
   abbrev loads : Reply
-  loads = handed freshStation (load file) .reply
+  loads = handed freshStation (load (key-file file)) .reply
 
   abbrev publishes : Reply
-  publishes = handed (loads .station) (publish room room) .reply
+  publishes = handed (loads .station) (publish (systematic room room)) .reply
 
   -- load on the station that was made
-  pub loaded : {s : Station} {r : Reply} → s ≡ freshStation → r ≡ handed s (load file) .reply → r ≡ loads
-  loaded e h = h ∙ ap (λ (s : Station). handed s (load file) .reply) e
+  pub loaded : {s : Station} {r : Reply} → s ≡ freshStation → r ≡ handed s (load (key-file file)) .reply → r ≡ loads
+  loaded e h = h ∙ ap (λ (s : Station). handed s (load (key-file file)) .reply) e
 
   pub prepared-large : large file ≡ true → preparedWhole file ≡ record { station = freshStation; answer = TooLarge }
   unfolding preparedWhole
@@ -91,27 +93,27 @@ module _ (file : List ℕ) where
     unfolding publishedAfter
     prepared-published h = prepared-small ∙ ap (λ (b : Bool). cond b (readyOf publishes) (readyOf loads)) (eq-eqb (loads .refused) 0 h)
 
-  number : loads .refused ≡ step fresh (load file) .number
-  number = same freshStation (load file) .number ∙ ap (λ (t : Definition.Station). step t (load file) .number) view-fresh
+  number : loads .refused ≡ step fresh (load (key-file file)) .number
+  number = same freshStation (load (key-file file)) .number ∙ ap (λ (t : Definition.Station). step t (load (key-file file)) .number) view-fresh
 
-  station : view (loads .station) ≡ step fresh (load file) .station
-  station = same freshStation (load file) .station ∙ ap (λ (t : Definition.Station). step t (load file) .station) view-fresh
+  station : view (loads .station) ≡ step fresh (load (key-file file)) .station
+  station = same freshStation (load (key-file file)) .station ∙ ap (λ (t : Definition.Station). step t (load (key-file file)) .station) view-fresh
 
-  published-number : publishes .refused ≡ step (view (loads .station)) (publish room room) .number
-  published-number = same (loads .station) (publish room room) .number
+  published-number : publishes .refused ≡ step (view (loads .station)) (publish (systematic room room)) .number
+  published-number = same (loads .station) (publish (systematic room room)) .number
 
-  published-station : view (publishes .station) ≡ step (view (loads .station)) (publish room room) .station
-  published-station = same (loads .station) (publish room room) .station
+  published-station : view (publishes .station) ≡ step (view (loads .station)) (publish (systematic room room)) .station
+  published-station = same (loads .station) (publish (systematic room room)) .station
 
   -- a key that both accept is one of width 4
   four-wide : large file ≡ false → loads .refused ≡ 0 → publishes .refused ≡ 0 → isFour (view (publishes .station) .key) ≡ true
-  unfolding parse large conditionsOf loadConditions heldBy fresh isEmpty firstOf
+  unfolding parse large conditionsOf loadingConditions loadedKey heldBy fresh isEmpty firstOf
   four-wide small a b =
-      let sound : keyNumber (parse file) ≡ 0 = accepted-key file (sym (step-number fresh (load file)) ∙ sym number ∙ a) in
+      let sound : keyNumber (parse file) ≡ 0 = accepted-key file (sym (step-number fresh (load (key-file file))) ∙ sym number ∙ a) in
       let key : view (publishes .station) .key ≡ parse file =
       ap (λ (t : Definition.Station). t .key)
-      (published-station ∙ publish-station (view (loads .station)) room room (sym published-number ∙ b))
-      ∙ ap (λ (t : Definition.Station). t .key) (station ∙ load-station fresh file (sym number ∙ a)) in
+      (published-station ∙ publish-station (view (loads .station)) (systematic room room) (sym published-number ∙ b))
+      ∙ ap (λ (t : Definition.Station). t .key) (station ∙ load-station fresh (key-file file) (sym number ∙ a)) in
       rw key (accepted-four (parse file) sound small)
 
   module _ (input : List ℕ) where
@@ -122,18 +124,18 @@ module _ (file : List ℕ) where
     whole-large : large file ≡ true → whole file input ≡ text (preparedWhole file)
     unfolding whole text keyText
     whole-large h =
-        ap (λ (b : Bool). cond b tooLarge (afterLoad (step fresh (load file)) input)) h ∙ sym (ap text (prepared-large h))
+        ap (λ (b : Bool). cond b tooLarge (afterLoad (step fresh (load (key-file file))) input)) h ∙ sym (ap text (prepared-large h))
 
     module _ (small : large file ≡ false) where
       -- the numbers and the station of the calls for those of the definitions
       by-replies : whole file input ≡ unlessRefused (loads .refused) (unlessRefused (publishes .refused) (opened (view (publishes .station)) input))
       unfolding whole afterLoad afterPublish
       by-replies =
-          ap (λ (b : Bool). cond b tooLarge (afterLoad (step fresh (load file)) input)) small
-          ∙ ap (λ (n : ℕ). unlessRefused n (afterPublish (step (step fresh (load file) .station) (publish room room)) input)) (sym number)
-          ∙ ap (λ (t : Definition.Station). unlessRefused (loads .refused) (afterPublish (step t (publish room room)) input)) (sym station)
+          ap (λ (b : Bool). cond b tooLarge (afterLoad (step fresh (load (key-file file))) input)) small
+          ∙ ap (λ (n : ℕ). unlessRefused n (afterPublish (step (step fresh (load (key-file file)) .station) (publish (systematic room room))) input)) (sym number)
+          ∙ ap (λ (t : Definition.Station). unlessRefused (loads .refused) (afterPublish (step t (publish (systematic room room))) input)) (sym station)
           ∙ ap
-          (λ (n : ℕ). unlessRefused (loads .refused) (unlessRefused n (opened (step (view (loads .station)) (publish room room) .station) input)))
+          (λ (n : ℕ). unlessRefused (loads .refused) (unlessRefused n (opened (step (view (loads .station)) (publish (systematic room room)) .station) input)))
           (sym published-number)
           ∙ ap (λ (t : Definition.Station). unlessRefused (loads .refused) (unlessRefused (publishes .refused) (opened t input))) (sym published-station)
 

@@ -10,7 +10,7 @@ use borrow.Author.Tests.{eq-eqb, ne-eqb}
 use lib.Dec.{eqb}
 use lib.ListN.{length, getD, length-append}
 use Rattle.bits.specs.Bits.{from, bitAt, unpack}
-use Rattle.opener.specs.Report.{refuses, opens, decimal, place, places, answer, unlessRefused, large}
+use Rattle.opener.specs.Report.{refuses, opens, totalIs, areOpened, newline, decimal, place, places, answer, totalLine, unlessRefused, large}
 
 pub place-zero : (b i : ℕ) → b ≡ 0 → place b i ≡ []
 unfolding place
@@ -57,6 +57,11 @@ pub answer-refused : (n : ℕ) (e : List ℕ) → (n ≡ 0 → ⊥) → answer n
 unfolding answer
 answer-refused zero e h = absurd (h refl)
 answer-refused (suc n) e h = refl
+
+-- the three words and the newline of the total have 24 bytes
+pub total-length : (n a : ℕ) → length (totalLine n a) ≡ 24 + (length (decimal n) + (length (decimal a) + length (decimal (n - a))))
+unfolding totalLine totalIs areOpened refuses newline
+total-length n a = simp length-append (omega arith)
 
 pub key-accepted : (n : ℕ) (text : List ℕ) → n ≡ 0 → unlessRefused n text ≡ text
 unfolding unlessRefused

@@ -91,7 +91,7 @@ sets-over (b ∷ text) [] = sets-empty 1 text
 sets-over (b ∷ text) (x ∷ out) = sets-behind b out 0 text ∙ ap (_∷_ b) (sets-over text out)
 
 -- a text from the output's start on, no longer than the longest
-pub printed : {text out after : List ℕ} {end : ℕ} → Wrote text out 0 end after → end ≤ 1114112 → Printed text out end after
+pub printed : {text out after : List ℕ} {end : ℕ} → Wrote text out 0 end after → end ≤ 1114176 → Printed text out end after
 printed {text} {out} w h = record { place = w .place ∙ zero-add (length text); output = w .output ∙ sets-over text out; fits = h }
 
 pub printed-nothing : (out : List ℕ) → Printed [] out 0 out

@@ -6,8 +6,10 @@ use lib.Dec.{eqb}
 use lib.ListN.{take}
 use Rattle.key.specs.Shapes.{inLimits}
 use Rattle.key.specs.Keys.{Key}
-use Rattle.ledger.specs.Calls.{load, publish}
 use Rattle.ledger.specs.Station.{Station}
+use Rattle.ledger.specs.Loading.{key-file}
+use Rattle.ledger.specs.Publishing.{systematic}
+use Rattle.ledger.specs.Calls.{load, publish}
 use Rattle.station.specs.Replies.{freshStation, handed}
 use Rattle.station.specs.declared.Reply.{Reply}
 use Rattle.opener.specs.Report.{tooLarge, keyRefused, newline, decimal, room, opened, large}
@@ -26,11 +28,11 @@ readyOf r = record { station = r .station; answer = keyAnswer (r .refused) }
 
 -- after loading: a key that load accepts is published, with room for T and its workspace
 unfoldable pub publishedAfter : Reply → Ready
-publishedAfter r = cond (eqb (r .refused) 0) (readyOf (handed (r .station) (publish room room) .reply)) (readyOf r)
+publishedAfter r = cond (eqb (r .refused) 0) (readyOf (handed (r .station) (publish (systematic room room)) .reply)) (readyOf r)
 
 -- of a whole key file
 unfoldable pub preparedWhole : List ℕ → Ready
-preparedWhole file = cond (large file) (record { station = freshStation; answer = TooLarge }) (publishedAfter (handed freshStation (load file) .reply))
+preparedWhole file = cond (large file) (record { station = freshStation; answer = TooLarge }) (publishedAfter (handed freshStation (load (key-file file)) .reply))
 
 -- of the file its first 4,096 bytes
 unfoldable pub prepared : List ℕ → Ready
@@ -39,13 +41,13 @@ prepared file = preparedWhole (take 4096 file)
 -- `key refused` and the number, `key too large`, or the text that follows an accepted key
 unfoldable pub keyText : KeyAnswer → List ℕ → List ℕ
 keyText Accepted text = text
-keyText (Refused n) text = keyRefused ++ (decimal n ++ newline)
+keyText (Refused n) text = (keyRefused ++ decimal n) ++ newline
 keyText TooLarge text = tooLarge
 
 -- m is 4, and the shape is within its limits
 unfoldable pub isFour : Key → Bool
 isFour k = eqb (k .m) 4 && inLimits 4 (k .n) (k .t)
 
--- the lines of the capsules in the input's first 65,536 bytes; none under a key of another shape
+-- the lines of the capsules in the input's first 65,536 bytes, and the total; nothing under a key of another shape
 unfoldable pub capsuleLines : Station → List ℕ → List ℕ
 capsuleLines s input = cond (isFour (s .key)) (opened s (take 65536 input)) []

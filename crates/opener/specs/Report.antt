@@ -1,13 +1,17 @@
--- Document 01, 'Bench keys': what the program prints, from the bytes of key.bin and of standard input. Assumes nothing.
+-- Document 01, 'Bench keys', and the last line of request L1: what the program prints, from the bytes of key.bin and of standard
+-- input. Assumes nothing.
 use mathlib.Core.Bool.{Bool, cond, _||_}
-use mathlib.Core.List.{List, [], _∷_, _++_}
-use Prim.Native.Nat.{ℕ, zero, suc, _+_, _/_, _%_}
+use mathlib.Core.List.{List, [], _∷_, _++_, map}
+use Prim.Native.Nat.{ℕ, zero, suc, _+_, _-_, _/_, _%_}
 use lib.Dec.{eqb, ltb}
-use lib.ListN.{length, getD, take, drop, replicate}
-use Rattle.bits.specs.Bits.{bytesFor, unpack}
-use Rattle.code.specs.Publish.{capsuleBits}
+use lib.ListN.{length, getD, take, replicate}
+use Rattle.bits.specs.Bits.{unpack}
+use Rattle.records.specs.Records.{capsulesOf, occurrences}
 use Rattle.ledger.specs.Station.{Station, fresh, Result}
-use Rattle.ledger.specs.Calls.{load, publish, open-capsule, step}
+use Rattle.ledger.specs.Loading.{key-file}
+use Rattle.ledger.specs.Publishing.{systematic}
+use Rattle.ledger.specs.Questions.{open-capsule}
+use Rattle.ledger.specs.Calls.{load, publish, ask, step}
 
 -- The words, in ASCII.
 
@@ -26,6 +30,14 @@ refuses = 32 ∷ 114 ∷ 101 ∷ 102 ∷ 117 ∷ 115 ∷ 101 ∷ 100 ∷ 32 ∷ 
 -- ` open`
 unfoldable pub opens : List ℕ
 opens = 32 ∷ 111 ∷ 112 ∷ 101 ∷ 110 ∷ []
+
+-- `total `
+unfoldable pub totalIs : List ℕ
+totalIs = 116 ∷ 111 ∷ 116 ∷ 97 ∷ 108 ∷ 32 ∷ []
+
+-- ` opened `
+unfoldable pub areOpened : List ℕ
+areOpened = 32 ∷ 111 ∷ 112 ∷ 101 ∷ 110 ∷ 101 ∷ 100 ∷ 32 ∷ []
 
 unfoldable pub newline : List ℕ
 newline = 10 ∷ []
@@ -61,7 +73,7 @@ room = replicate 64 0
 -- the line of the capsule at position p
 unfoldable pub line : Station → ℕ → List ℕ → List ℕ
 line s p capsule =
-    let r : Result = step s (open-capsule capsule room) in
+    let r : Result = step s (ask (open-capsule capsule room)) in
     decimal p ++ (answer (r .number) (unpack (s .key .n) (r .output)) ++ newline)
 
 -- the lines of the capsules from position p on
@@ -69,20 +81,24 @@ unfoldable pub lines : Station → ℕ → List (List ℕ) → List ℕ
 lines s p [] = []
 lines s p (c ∷ cs) = line s p c ++ lines s (suc p) cs
 
--- at most k parts of c bytes, back to back; the last may be shorter
-unfoldable pub cut : ℕ → ℕ → List ℕ → List (List ℕ)
-cut zero c l = []
-cut (suc k) c [] = []
-cut (suc k) c (b ∷ l) = take c (b ∷ l) ∷ cut k c (drop c (b ∷ l))
+-- the numbers with which the capsules are answered in their lines
+unfoldable pub numbers : Station → List (List ℕ) → List ℕ
+numbers s capsules = map (λ c. step s (ask (open-capsule c room)) .number) capsules
 
--- the lines of a published station
+-- of n capsules a are opened, the others refused
+unfoldable pub totalLine : ℕ → ℕ → List ℕ
+totalLine n a = (totalIs ++ decimal n) ++ ((areOpened ++ decimal a) ++ ((refuses ++ decimal (n - a)) ++ newline))
+
+-- the lines of a published station, and how many of the capsules are opened
 unfoldable pub opened : Station → List ℕ → List ℕ
-opened s input = lines s 1 (cut (length input) (bytesFor (capsuleBits (s .key))) input)
+opened s input =
+    let cs : List (List ℕ) = capsulesOf (s .key) input in
+    lines s 1 cs ++ totalLine (length cs) (occurrences 0 (numbers s cs))
 
 -- `key refused` and the number, where there is one
 unfoldable pub unlessRefused : ℕ → List ℕ → List ℕ
 unlessRefused zero text = text
-unlessRefused (suc n) text = keyRefused ++ (decimal (suc n) ++ newline)
+unlessRefused (suc n) text = (keyRefused ++ decimal (suc n)) ++ newline
 
 -- after publishing
 unfoldable pub afterPublish : Result → List ℕ → List ℕ
@@ -90,7 +106,7 @@ afterPublish r input = unlessRefused (r .number) (opened (r .station) input)
 
 -- after loading
 unfoldable pub afterLoad : Result → List ℕ → List ℕ
-afterLoad r input = unlessRefused (r .number) (afterPublish (step (r .station) (publish room room)) input)
+afterLoad r input = unlessRefused (r .number) (afterPublish (step (r .station) (publish (systematic room room))) input)
 
 -- the width of a key file is 12 or 13
 unfoldable pub large : List ℕ → Bool
@@ -98,7 +114,7 @@ large file = eqb (getD file 0 0) 12 || eqb (getD file 0 0) 13
 
 -- the text for a key file and capsules
 unfoldable pub whole : List ℕ → List ℕ → List ℕ
-whole file input = cond (large file) tooLarge (afterLoad (step fresh (load file)) input)
+whole file input = cond (large file) tooLarge (afterLoad (step fresh (load (key-file file))) input)
 
 -- of the file its first 4,096 bytes, of the input its first 65,536
 unfoldable pub report : List ℕ → List ℕ → List ℕ

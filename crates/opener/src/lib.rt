@@ -1,4 +1,4 @@
-// The text that the program prints, from a key file and capsules (document 01, 'Bench keys').
+// The text that the program prints, from a key file and capsules (document 01, 'Bench keys', and request L1's last line).
 // A function with a place `at` writes its part from there on, as far as the output reaches, and gives the place behind it.
 use station::Reply;
 use station::Station;
@@ -9,9 +9,11 @@ ghost use Prim.Native.Nat.{_+_, _^_, _≤_, _<_};
 ghost use lib.ListN.{length, take, drop, replicate};
 ghost use Rattle.bits.specs.Bits.{bytesFor, unpack};
 ghost use Rattle.code.specs.Publish.{capsuleBits};
+ghost use Rattle.records.specs.Records.{capsulesOf, occurrences};
+ghost use Rattle.ledger.specs.Publishing.{systematic};
 ghost use Rattle.ledger.specs.Calls.{publish};
 ghost use Rattle.station.specs.Replies.{view, handed};
-ghost use Rattle.opener.specs.Report.{keyRefused, newline, room};
+ghost use Rattle.opener.specs.Report.{keyRefused, newline, room, numbers};
 ghost use Rattle.opener.specs.Report as Report;
 ghost use Rattle.opener.specs.Prepared.{keyAnswer, preparedWhole, prepared, keyText, isFour, capsuleLines};
 ghost use Rattle.opener.specs.Wrote.{Wrote, Printed};
@@ -66,6 +68,15 @@ fn decimal(n: usize, out: &mut [u8], at: usize) -> usize
     put(48 + (n % 10) as u8, out, next)
 }
 
+// A word and n in decimal.
+fn word_number(word: &[u8], n: usize, out: &mut [u8], at: usize) -> usize
+    requires { ⌜ at + length (now word ++ Report.decimal n) < 2 ^ 64 ⌝ }
+    ensures { λ r. ⌜ Wrote (now (word .entry) ++ Report.decimal n) (now (out .entry)) at r (now (out .exit)) ⌝ }
+{
+    let next = write(word, out, at);
+    decimal(n, out, next)
+}
+
 // Place i behind a blank, where its bit is one.
 fn place(bit: u8, i: usize, out: &mut [u8], at: usize) -> usize
     requires { ⌜ at + length (Report.place bit i) < 2 ^ 64 ⌝ }
@@ -98,8 +109,7 @@ fn answer(refused: u8, pattern: &[u8], n: usize, out: &mut [u8], at: usize) -> u
     ensures { λ r. ⌜ Wrote (Report.answer refused (unpack n (now (pattern .entry)))) (now (out .entry)) at r (now (out .exit)) ⌝ }
 {
     if refused != 0 {
-        let next = write(b" refused ", out, at);
-        return decimal(refused as usize, out, next);
+        return word_number(b" refused ", refused as usize, out, at);
     }
     let next = write(b" open", out, at);
     places(pattern, n, out, next)
@@ -147,8 +157,7 @@ fn capsule_bytes(station: Station) -> usize
 // The lines of the capsules.
 fn lines(station: Station, input: &[u8], out: &mut [u8]) -> usize
     requires { ⌜ (isFour (view station .key) ≡ true) × (length (now input) ≤ 65536) ⌝ }
-    ensures text { λ r. ⌜ Wrote (Report.opened (view station) (now (input .entry))) (now (out .entry)) 0 r (now (out .exit)) ⌝ }
-    ensures fits { λ r. ⌜ r ≤ 1114112 ⌝ }
+    ensures { λ r. ⌜ Wrote (Report.lines (view station) 1 (capsulesOf (view station .key) (now (input .entry)))) (now (out .entry)) 0 r (now (out .exit)) ⌝ }
 {
     let c = capsule_bytes(station);
     let mut at = 0;
@@ -162,18 +171,60 @@ fn lines(station: Station, input: &[u8], out: &mut [u8]) -> usize
     at
 }
 
+// The number of capsules: a short tail is one of them.
+fn capsule_count(station: Station, input: &[u8]) -> usize
+    requires { ⌜ (isFour (view station .key) ≡ true) × (length (now input) ≤ 65536) ⌝ }
+    ensures { λ r. ⌜ r ≡ length (capsulesOf (view station .key) (now (input .entry))) ⌝ }
+{
+    let c = capsule_bytes(station);
+    (input.len() + (c - 1)) / c
+}
+
+// How many of the capsules are opened: the count of 0 among the records of a report.
+fn opened_count(station: Station, input: &[u8]) -> usize
+    requires { ⌜ (isFour (view station .key) ≡ true) × (length (now input) ≤ 65536) ⌝ }
+    ensures { λ r. ⌜ r ≡ occurrences 0 (numbers (view station) (capsulesOf (view station .key) (now (input .entry)))) ⌝ }
+{
+    let mut records = [0u8; 65536];
+    let reported = station.report(input, &mut records);
+    let counts = reported.counts;
+    counts[0]
+}
+
+// `total`, the number of capsules, of those opened and of those refused.
+fn total_line(total: usize, opened: usize, out: &mut [u8], at: usize) -> usize
+    requires { ⌜ (opened ≤ total) × (at + length (Report.totalLine total opened) < 2 ^ 64) ⌝ }
+    ensures { λ r. ⌜ Wrote (Report.totalLine total opened) (now (out .entry)) at r (now (out .exit)) ⌝ }
+{
+    let next = word_number(b"total ", total, out, at);
+    let next = word_number(b" opened ", opened, out, next);
+    let next = word_number(b" refused ", total - opened, out, next);
+    put(b'\n', out, next)
+}
+
+// The lines of the capsules, and the total.
+fn opened(station: Station, input: &[u8], out: &mut [u8]) -> usize
+    requires { ⌜ (isFour (view station .key) ≡ true) × (length (now input) ≤ 65536) ⌝ }
+    ensures text { λ r. ⌜ Wrote (Report.opened (view station) (now (input .entry))) (now (out .entry)) 0 r (now (out .exit)) ⌝ }
+    ensures fits { λ r. ⌜ r ≤ 1114176 ⌝ }
+{
+    let at = lines(station, input, out);
+    let total = capsule_count(station, input);
+    let opened = opened_count(station, input);
+    total_line(total, opened, out, at)
+}
+
 // `key refused ` and the number.
 fn key_refused(number: u8, out: &mut [u8]) -> usize
-    ensures { λ r. ⌜ Wrote (keyRefused ++ (Report.decimal number ++ newline)) (now (out .entry)) 0 r (now (out .exit)) ⌝ }
+    ensures { λ r. ⌜ Wrote ((keyRefused ++ Report.decimal number) ++ newline) (now (out .entry)) 0 r (now (out .exit)) ⌝ }
 {
-    let at = write(b"key refused ", out, 0);
-    let next = decimal(number as usize, out, at);
-    put(b'\n', out, next)
+    let at = word_number(b"key refused ", number as usize, out, 0);
+    put(b'\n', out, at)
 }
 
 // Publish with room for T and its workspace.
 fn publish(station: Station) -> Reply
-    ensures { λ r. ⌜ r ≡ handed station (publish room room) .reply ⌝ }
+    ensures { λ r. ⌜ r ≡ handed station (publish (systematic room room)) .reply ⌝ }
 {
     let mut public = [0u8; 64];
     let mut work = [0u8; 64];
@@ -254,7 +305,7 @@ fn is_four(station: Station) -> bool
     key::shape::in_limits(4, key.n, key.t)
 }
 
-// The lines of the capsules in the first 65,536 bytes of the input; none under a key of another shape.
+// The lines of the capsules in the first 65,536 bytes of the input, and the total; nothing under a key of another shape.
 pub fn open_lines(station: Station, input: &[u8], out: &mut [u8]) -> usize
     ensures { λ r. ⌜ Printed (capsuleLines (view station) (now (input .entry))) (now (out .entry)) r (now (out .exit)) ⌝ }
 {
@@ -262,10 +313,10 @@ pub fn open_lines(station: Station, input: &[u8], out: &mut [u8]) -> usize
         return 0;
     }
     let i = bits::smaller(65536, input.len());
-    lines(station, &input[..i], out)
+    opened(station, &input[..i], out)
 }
 
-// The text that the program prints: that of the key, or the lines.
+// The text that the program prints: that of the key, or the lines and the total.
 pub fn report(file: &[u8], input: &[u8], out: &mut [u8]) -> usize
     ensures { λ r. ⌜ Printed (Report.report (now (file .entry)) (now (input .entry))) (now (out .entry)) r (now (out .exit)) ⌝ }
 {
@@ -278,9 +329,9 @@ pub fn report(file: &[u8], input: &[u8], out: &mut [u8]) -> usize
 }
 
 // Room for the longest text: zeros.
-pub fn longest() -> [u8; 1114112]
-    ensures zeros { λ r. ⌜ r ≡ replicate 1114112 0 ⌝ }
-    ensures size { λ r. ⌜ 1114112 ≡ length r ⌝ }
+pub fn longest() -> [u8; 1114176]
+    ensures zeros { λ r. ⌜ r ≡ replicate 1114176 0 ⌝ }
+    ensures size { λ r. ⌜ 1114176 ≡ length r ⌝ }
 {
-    [0; 1114112]
+    [0; 1114176]
 }

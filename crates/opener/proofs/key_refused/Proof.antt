@@ -8,24 +8,19 @@ use Rattle.opener.proofs.Digits.{decimal-short}
 use Rattle.opener.proofs.key_refused.Statement.{statement}
 use Rattle.opener.proofs.key_refused.Tie as tie
 
-slice-aggregate-write : tie.Need-slice-aggregate-write
-slice-aggregate-write c = search needs
+slice-aggregate-word-number : tie.Need-slice-aggregate-word-number
+slice-aggregate-word-number c = search needs
 
-write-requires : tie.Need-write-requires
-write-requires c κs = search needs
-
-decimal-requires : tie.Need-decimal-requires
-decimal-requires c κs =
-    let w = c .before .before .before in
-    let a = w .before .before .before .before .args in
-    omega (arith, w .write .ensures .place, decimal-short 19 (a .number) (omega arith))
+word-number-requires : tie.Need-word-number-requires
+word-number-requires c κs =
+    let a = c .before .before .before .args in
+    omega (arith, decimal-short 19 (a .number) (omega arith))
 
 put-requires : tie.Need-put-requires
 put-requires c κs =
-    let d = c .before .before .before in
-    let w = d .before .before .before .before in
+    let w = c .before .before .before in
     let a = w .before .before .before .before .args in
-    omega (arith, w .write .ensures .place, d .decimal .ensures .place, decimal-short 19 (a .number) (omega arith))
+    omega (arith, w .word-number .ensures .place, decimal-short 19 (a .number) (omega arith))
 
 same-length : tie.Need-same-length
 same-length c = search needs
@@ -33,19 +28,11 @@ same-length c = search needs
 returns : tie.Need-returns
 unfolding keyRefused newline
 returns c =
-    let d = c .before .before .before .before .before .before in
-    let w = d .before .before .before .before in
+    let w = c .before .before .before .before .before .before in
     let a = w .before .before .before .before .args in
-    joined keyRefused (decimal (a .number) ++ newline) (w .write .ensures)
-    (joined (decimal (a .number)) newline (d .decimal .ensures) (c .before .before .put .ensures))
+    joined (keyRefused ++ decimal (a .number)) newline (w .word-number .ensures) (c .before .before .put .ensures)
 
 pub key-refused-spec : {M : Type 1} → statement M
 key-refused-spec =
     tie.close
-    (tie.spec
-    slice-aggregate-write
-    write-requires
-    decimal-requires
-    put-requires
-    same-length
-    returns)
+    (tie.spec slice-aggregate-word-number word-number-requires put-requires same-length returns)

@@ -3,10 +3,10 @@ use mathlib.Core.Path.{_≡_, ap}
 use Prim.Native.Nat.{_+_, _-_}
 use borrow.Author.Needs.{needs}
 use lib.ListN.{take, drop}
+use Rattle.records.proofs.Cut.{take-within}
 use Rattle.station.specs.Replies.{view}
 use Rattle.opener.specs.Report.{line}
 use Rattle.opener.proofs.Written.{same-text}
-use Rattle.opener.proofs.Capsules.{take-within}
 use Rattle.opener.proofs.line_at.Statement.{statement}
 use Rattle.opener.proofs.line_at.Tie as tie
 

@@ -3,18 +3,20 @@ use mathlib.Core.Path.{_≡_, refl, _∙_}
 use Prim.Native.Nat.{_+_, _-_, _≤_}
 use native.Mathlib.Omega.{arith}
 use lib.ListN.{length, take, drop}
+use Rattle.records.specs.Records.{capsulesOf}
+use Rattle.records.proofs.Values.{bytes-some}
 use Rattle.station.specs.Replies.{view}
-use Rattle.opener.specs.Report.{line, opened}
+use Rattle.opener.specs.Report.{line, lines}
 use Rattle.opener.proofs.Written.{Left, left-start, left-step, left-none}
 use Rattle.opener.proofs.Shape.{four}
-use Rattle.opener.proofs.Capsules.{linesLeft, lines-all, lines-next, lines-done, line-room, capsule-some, capsule-few, capsule-bits}
-use Rattle.opener.proofs.Lengths.{opened-short}
+use Rattle.opener.proofs.Capsules.{linesLeft, lines-all, lines-next, lines-done, line-room, capsule-few, capsule-bits}
+use Rattle.opener.proofs.Lengths.{lines-short}
 use Rattle.opener.proofs.lines.Statement.{statement}
 use Rattle.opener.proofs.lines.Tie as tie
 
 abbrev Inv-loop : tie.InvT-loop
 Inv-loop station input out₀ c at₀ i₀ p₀ out at i p =
-    (length out ≡ length out₀) × (p ≤ i + 1) × Left (linesLeft (view station) c p input i) out at (opened (view station) input) out₀ 0
+    (length out ≡ length out₀) × (p ≤ i + 1) × Left (linesLeft (view station) c p input i) out at (lines (view station) 1 (capsulesOf (view station .key) input)) out₀ 0
 
 abbrev μ-loop : tie.MeasureT-loop
 μ-loop station input out₀ c at₀ i₀ p₀ out at i p = length input - i
@@ -33,9 +35,9 @@ line-at-requires c κs =
     let a = s .args in
     let l = c .before .before .loop in
     let n = c .before .before .before .capsule-bytes in
-    let h = capsule-some (n .ensures) (capsule-bits (four _ (s .pre .0)) .0) in
+    let h = bytes-some (n .ensures) (capsule-bits (four _ (s .pre .0)) .0) in
     let r = line-room (view (a .station)) (n .result) (l .p) (a .input .now) (l .i) h (omega arith) in
-    let b = opened-short (view (a .station)) (four _ (s .pre .0)) (a .input .now) (s .pre .1) in
+    let b = lines-short (view (a .station)) (four _ (s .pre .0)) (a .input .now) (s .pre .1) in
     (omega arith, omega (arith, l .inv .2 .place, r, b))
 
 add-i : tie.Need-add-i Inv-loop μ-loop
@@ -51,7 +53,7 @@ add-p c =
 loop-less : tie.Need-loop-less Inv-loop μ-loop
 loop-less c =
     let n = c .before .before .before .before .before .before in
-    omega (arith, capsule-some (n .capsule-bytes .ensures) (capsule-bits (four _ (n .before .before .before .pre .0)) .0))
+    omega (arith, bytes-some (n .capsule-bytes .ensures) (capsule-bits (four _ (n .before .before .before .pre .0)) .0))
 
 loop-again : tie.Need-loop-again Inv-loop μ-loop
 loop-again c =
@@ -60,7 +62,7 @@ loop-again c =
     let n = c .before .before .before .before .before .before .capsule-bytes in
     let l = c .before .before .before .before .before .loop in
     let p = c .before .before .line-at in
-    let h = capsule-some (n .ensures) (capsule-bits (four _ (s .pre .0)) .0) in (
+    let h = bytes-some (n .ensures) (capsule-bits (four _ (s .pre .0)) .0) in (
       p .kept .1 .1 .1 .1 .1 .0 ∙ l .inv .0,
       omega (arith, h, l .inv .1),
       left-step
@@ -75,14 +77,11 @@ same-length c = c .before .loop .inv .0
 
 returns : tie.Need-returns Inv-loop μ-loop
 returns c =
-    let s = c .before .before .before .before .before in
-    let a = s .args in
+    let a = c .before .before .before .before .before .args in
     let l = c .before .loop in
-    let w =
     left-none
     (lines-done (view (a .station)) (c .before .before .capsule-bytes .result) (l .p) (a .input .now) (l .i) (c .loop-test .left))
-    (l .inv .2) in
-    (w, omega (arith, w .place, opened-short (view (a .station)) (four _ (s .pre .0)) (a .input .now) (s .pre .1)))
+    (l .inv .2)
 
 pub lines-spec : {M : Type 1} → statement M
 lines-spec =

@@ -10,7 +10,7 @@ sized : (n : ℕ) → n ≡ length (replicate {A = ℕ} n 0)
 sized n = sym (length-replicate n 0)
 
 returns : tie.Need-returns
-returns c = (refl, sized 1114112)
+returns c = (refl, sized 1114176)
 
 pub longest-spec : {M : Type 1} → statement M
 longest-spec = tie.close (tie.spec returns)

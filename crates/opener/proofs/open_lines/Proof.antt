@@ -24,12 +24,12 @@ returns c =
 smaller-requires : tie.Need-smaller-requires
 smaller-requires c κs = search needs
 
-slice-aggregate-lines : tie.Need-slice-aggregate-lines
-slice-aggregate-lines c =
+slice-aggregate-opened : tie.Need-slice-aggregate-opened
+slice-aggregate-opened c =
     sym (taken-length 65536 (c .before .before .before .before .before .before .args .input .now) (c .before .smaller .ensures))
 
-lines-requires : tie.Need-lines-requires
-lines-requires c κs =
+opened-requires : tie.Need-opened-requires
+opened-requires c κs =
     let n = c .before .before .smaller in
     let a = c .before .before .before .before .before .before .before .args in
     let f = c .before .before .before in
@@ -40,7 +40,7 @@ same-length c = search needs
 
 returns-2 : tie.Need-returns-2
 returns-2 c =
-    let l = c .before .before .lines .ensures in
+    let l = c .before .before .opened .ensures in
     let n = c .before .before .before .before .before .smaller in
     let f = c .before .before .before .before .before .before in
     let a = f .before .before .before .before .args in
@@ -56,7 +56,7 @@ open-lines-spec =
     is-four-requires
     returns
     smaller-requires
-    slice-aggregate-lines
-    lines-requires
+    slice-aggregate-opened
+    opened-requires
     same-length
     returns-2)

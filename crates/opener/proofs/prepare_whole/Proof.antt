@@ -1,6 +1,7 @@
 -- The width, then what load and publish hand back. Assumes nothing.
 use mathlib.Core.Path.{_≡_, sym, ap, _∙_}
 use borrow.Author.Needs.{needs}
+use Rattle.ledger.specs.Publishing.{systematic}
 use Rattle.ledger.specs.Calls.{publish}
 use Rattle.station.specs.Replies.{handed}
 use Rattle.station.specs.declared.Station.{Station}
@@ -65,7 +66,7 @@ returns-3 c =
     let e = loaded (a .file .now) (f .fresh .ensures) (l .load .ensures) in
     let n = number-accepted (l .load .result .refused) (k .key-answer .ensures) (p .before .enum-told .given .1) in
     ap (λ (x : KeyAnswer). record { station = p .publish .result .station; answer = x }) (c .key-answer2 .ensures)
-    ∙ ap readyOf (p .publish .ensures ∙ ap (λ (r : Reply). handed (r .station) (publish room room) .reply) e)
+    ∙ ap readyOf (p .publish .ensures ∙ ap (λ (r : Reply). handed (r .station) (publish (systematic room room)) .reply) e)
     ∙ sym (prepared-published (a .file .now) (sym (l .before .before .large .ensures) ∙ l .before .if1 .left) (sym (ap (λ (r : Reply). r .refused) e) ∙ n))
 
 pub prepare-whole-spec : {M : Type 1} → statement M
