@@ -1,11 +1,12 @@
 //! The command `report`: the table, the total and the records, for files of many blocks, tails and pipes.
 
-use std::fs;
-use std::io::Write;
-use std::process::Stdio;
+use std::io::{Read, Write};
+use std::time::Duration;
+use std::{fs, thread};
 
+use super::streams::{most_memory, start};
 use super::{accepted, fails, outcome, some_refused, standard, with_k1};
-use crate::support::run::{ended, run, status, text, tool, Folder};
+use crate::support::run::{ended, run, status, text, Folder};
 
 const TABLE: &str = "0   opened                      1\n9   filler bit set              1\n\
                      13  no pattern for the capsule  1\ntotal 3 opened 1 refused 2\n";
@@ -121,12 +122,25 @@ fn records_are_the_numbers_of_open() {
 }
 
 #[test]
+fn an_endless_card_takes_bounded_memory() {
+    let (_folder, key) = with_k1();
+    let mut child = start(&["report", "--jobs", "4", &key, "/dev/zero", "--records", "-"]);
+    let mut records = child.stdout.take().expect("its standard output");
+    let mut some = vec![0; 2_000_000];
+    records.read_exact(&mut some).expect("records");
+    assert!(some.iter().all(|record| *record == 13));
+    // Time to read on, while nobody takes the records.
+    thread::sleep(Duration::from_millis(500));
+    assert!(most_memory(&child) < 32 * 1024, "{} KiB", most_memory(&child));
+    drop(records);
+    assert_eq!(ended(&mut child), 2);
+}
+
+#[test]
 fn a_pipe_in_pieces() {
     let folder = Folder::new();
     let key = folder.write("key", &standard("key.bin"));
-    let mut child = tool();
-    child.args(["report", &key, "--records", "-"]).stdin(Stdio::piped()).stdout(Stdio::piped()).stderr(Stdio::null());
-    let mut child = child.spawn().expect("the tool starts");
+    let mut child = start(&["report", &key, "--records", "-"]);
     let mut input = child.stdin.take().expect("its standard input");
     let capsule = standard("capsule_reject.bin");
     for end in [1, 50, 95] {

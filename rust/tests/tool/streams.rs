@@ -91,7 +91,7 @@ fn lines_in_order_at_a_standard_shape() {
 }
 
 /// A run with pipes for all three streams.
-fn start(words: &[&str]) -> Child {
+pub fn start(words: &[&str]) -> Child {
     let mut command = tool();
     command.args(words).stdin(Stdio::piped()).stdout(Stdio::piped()).stderr(Stdio::piped());
     command.spawn().expect("the tool starts")
@@ -158,7 +158,7 @@ fn a_read_fails_behind_three_capsules() {
 }
 
 /// The most memory that a run has had, in KiB.
-fn most_memory(child: &Child) -> u64 {
+pub fn most_memory(child: &Child) -> u64 {
     let status = fs::read_to_string(format!("/proc/{}/status", child.id())).expect("the process's state");
     let line = status.lines().find(|line| line.starts_with("VmHWM:")).expect("its memory");
     line.split_whitespace().nth(1).expect("a number").parse().expect("a number")
