@@ -8,16 +8,13 @@ use native.Mathlib.Omega.{arith}
 use lib.Dec.{eqb}
 use Rattle.field.specs.Numbers.{firstOf}
 use Rattle.key.specs.Keys.{Key, keyNumber, unsound}
-use Rattle.code.specs.PublicKey.{Matrix, publicKey, dependent}
-use Rattle.code.specs.Publish as Publish
-use Rattle.decoder.specs.Calls as Calls
-use Rattle.ledger.specs.Station.{State, loaded, published, Station, fresh, Held, isEmpty, isUnpublished, heldBy, loadConditions, publishConditions, openConditions, readConditions, dropConditions}
-use Rattle.ledger.specs.Calls.{Call, load, publish, open-capsule, read-word, drop-key, conditionsOf, step, run, answered}
+use Rattle.code.specs.PublicKey.{Matrix, publicKey}
+use Rattle.ledger.specs.Station.{State, loaded, published, Station, fresh, Held, isEmpty, isUnpublished, heldBy}
+use Rattle.ledger.specs.Calls.{Call, load, publish, ask, drop-key, conditionsOf, made, step, run, answered}
 use Rattle.ledger.specs.Ledger.{Ledger, blank, heldIn, ledgerNumber, entered, ledgerAfter, expected}
 use Rattle.ledger.specs.Demands.{keyHeld}
-use Rattle.field.proofs.Numbers.{first-clear}
-use Rattle.key.proofs.Parse.{accepted-key}
-use Rattle.ledger.proofs.StepLaws.{moved, callNumber, step-number, step-moves, step-stays}
+use Rattle.ledger.proofs.Forms.{loading-good, publishing-public}
+use Rattle.ledger.proofs.StepLaws.{callNumber, step-number, step-made, step-stays}
 use Rattle.ledger.proofs.LedgerLaws.{ledgerNext, next-refused, next-accepted}
 
 abbrev pub stationOf : State → Key → Station
@@ -39,46 +36,28 @@ unfolding heldBy unsound
 sound-held s k h = ap (λ (x : ℕ). record { missing = isEmpty s; unsound = not (eqb x 0); unpublished = isUnpublished s; key = k }) h
 
 pub agree-number : {s : Station} {l : Ledger} → Agree s l → (c : Call) → callNumber s c ≡ ledgerNumber l c
-unfolding heldBy heldIn ledgerNumber conditionsOf loadConditions publishConditions openConditions readConditions dropConditions fresh blank isEmpty isUnpublished firstOf Publish.publishChecks Publish.publishConditions Calls.openConditions Calls.readConditions unsound
-agree-number nothing (load file) = refl
-agree-number nothing (publish out work) = refl
-agree-number nothing (open-capsule capsule out) = refl
-agree-number nothing (read-word word out) = refl
+unfolding heldBy heldIn ledgerNumber conditionsOf fresh blank isEmpty isUnpublished firstOf
+agree-number nothing (load f) = refl
+agree-number nothing (publish p) = refl
+agree-number nothing (ask q) = refl
 agree-number nothing drop-key = refl
 agree-number (held {k = k} h) c = ap (λ (x : Held). firstOf (conditionsOf x c)) (sound-held loaded k h)
 agree-number (marked {k = k} h p) c = ap (λ (x : Held). firstOf (conditionsOf x c)) (sound-held published k h)
 
--- an accepted publish has a public key
-pub public-rows : (k : Key) → dependent k ≡ false → (rows : Matrix) × (publicKey k ≡ some rows)
-unfolding dependent
-public-rows k h = go (publicKey k) refl h
-  where
-    go : (o : Option Matrix) → publicKey k ≡ o → elim o [ none ↦ true | some rows ↦ false ] ≡ false → (rows : Matrix) × (publicKey k ≡ some rows)
-    go none e h = absurd (true≢false h)
-    go (some rows) e h = (rows, e)
-
-accepted-rows : (k : Key) (mark : Bool) (out work : List ℕ) → ledgerNumber (ledgerOf (some k) mark) (publish out work) ≡ 0 → (rows : Matrix) × (publicKey k ≡ some rows)
-unfolding ledgerNumber heldIn conditionsOf publishConditions Publish.publishChecks Publish.publishConditions
-accepted-rows k mark out work h =
-    public-rows k (first-clear _ 22 _ (first-clear _ 10 _ (first-clear _ 9 _ (first-clear _ 24 _ (first-clear _ 20 _ h .1) .1) .1) .1) .0)
-
 -- they go on agreeing after an accepted call
-agree-accepted : {s : Station} {l : Ledger} → Agree s l → (c : Call) → ledgerNumber l c ≡ 0 → Agree (moved s c) (entered l c)
-unfolding moved entered ledgerNumber heldIn conditionsOf loadConditions publishConditions openConditions readConditions dropConditions firstOf fresh blank Publish.publishChecks Publish.publishConditions Calls.openConditions Calls.readConditions
-agree-accepted nothing (load file) e = held (accepted-key file e)
-agree-accepted nothing (publish out work) e = absurd (omega arith)
-agree-accepted nothing (open-capsule capsule out) e = nothing
-agree-accepted nothing (read-word word out) e = nothing
+agree-accepted : {s : Station} {l : Ledger} → Agree s l → (c : Call) → ledgerNumber l c ≡ 0 → Agree (made s c .station) (entered l c)
+unfolding made entered ledgerNumber heldIn conditionsOf firstOf fresh blank
+agree-accepted nothing (load f) e = held (loading-good f e)
+agree-accepted nothing (publish p) e = absurd (omega arith)
+agree-accepted nothing (ask q) e = nothing
 agree-accepted nothing drop-key e = nothing
-agree-accepted (held h) (load file) e = absurd (omega arith)
-agree-accepted (held {k = k} h) (publish out work) e = marked h (accepted-rows k false out work e .1)
-agree-accepted (held h) (open-capsule capsule out) e = held h
-agree-accepted (held h) (read-word word out) e = held h
+agree-accepted (held h) (load f) e = absurd (omega arith)
+agree-accepted (held h) (publish p) e = marked h (publishing-public _ p e .public)
+agree-accepted (held h) (ask q) e = held h
 agree-accepted (held h) drop-key e = nothing
-agree-accepted (marked h p) (load file) e = absurd (omega arith)
-agree-accepted (marked h p) (publish out work) e = marked h p
-agree-accepted (marked h p) (open-capsule capsule out) e = marked h p
-agree-accepted (marked h p) (read-word word out) e = marked h p
+agree-accepted (marked h p) (load f) e = absurd (omega arith)
+agree-accepted (marked h p) (publish q) e = marked h p
+agree-accepted (marked h p) (ask q) e = marked h p
 agree-accepted (marked h p) drop-key e = nothing
 
 -- and after any call, and any list of calls
@@ -86,7 +65,7 @@ pub agree-step : {s : Station} {l : Ledger} → Agree s l → (c : Call) → Agr
 agree-step {s} {l} a c = go (ledgerNumber l c) refl
   where
     go : (n : ℕ) → ledgerNumber l c ≡ n → Agree (step s c .station) (ledgerNext l c)
-    go zero e = rw (step-moves s c (step-number s c ∙ agree-number a c ∙ e), next-accepted l c e) (agree-accepted a c e)
+    go zero e = rw (step-made s c (step-number s c ∙ agree-number a c ∙ e), next-accepted l c e) (agree-accepted a c e)
     go (suc n) e = rw (step-stays s c n (step-number s c ∙ agree-number a c ∙ e), next-refused l c n e) a
 
 pub agree-run : {s : Station} {l : Ledger} → Agree s l → (calls : List Call) → Agree (run step s calls) (ledgerAfter l calls)

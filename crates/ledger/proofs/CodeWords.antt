@@ -11,7 +11,8 @@ use Rattle.bits.proofs.Rows.{xorRow-comm, xorRow-twice, row-xorRow}
 use Rattle.key.specs.Keys.{Key, keyNumber}
 use Rattle.code.specs.Code.{inCode}
 use Rattle.ledger.specs.Station.{Station}
-use Rattle.ledger.specs.Calls.{read-word, step}
+use Rattle.ledger.specs.Questions.{read-word}
+use Rattle.ledger.specs.Calls.{ask, step}
 use Rattle.ledger.specs.Systems.{System}
 use Rattle.ledger.specs.Demands.{at, keyHeld, Differs, Decides}
 use Rattle.ledger.specs.OwnWords.{Near, ReadsCodeWords}
@@ -50,22 +51,22 @@ module _ (k : Key) (word : List ℕ) where
 
 module _ (sys : System) (sim : Simulates sys) where
   reads : (k : Key) (s : sys .Stations) (word out : List ℕ) → keyHeld (sys .view s) ≡ some k → keyNumber k ≡ 0
-      → wellFormed (k .n) word ≡ true → bytesFor (k .n) ≤ length out → Decides (Differs k word) 14 out (sys .call s (read-word word out))
+      → wellFormed (k .n) word ≡ true → bytesFor (k .n) ≤ length out → Decides (Differs k word) 14 out (sys .call s (ask (read-word word out)))
   unfolding at
   reads k s word out h good formed long =
-      decides sys sim s (read-word word out) (Differs k word) 14 out
-      (at-held (λ (x : Station). Decides (Differs k word) 14 out (step x (read-word word out))) (sys .view s) k h
+      decides sys sim s (ask (read-word word out)) (Differs k word) 14 out
+      (at-held (λ (x : Station). Decides (Differs k word) 14 out (step x (ask (read-word word out)))) (sys .view s) k h
       (λ state e. read-decides k good state e word out formed long))
 
-  accepts : (k : Key) (s : sys .Stations) (word out : List ℕ) → Decides (Differs k word) 14 out (sys .call s (read-word word out))
-      → sys .call s (read-word word out) .number ≡ 0
-      → (let c = xorRow (unpack (k .n) word) (unpack (k .n) (sys .call s (read-word word out) .output)) in
-      Near k word c × (sys .call s (read-word word out) .count ≡ ones (xorRow (unpack (k .n) word) c)) × ((d : List ℕ) → Near k word d → d ≡ c))
+  accepts : (k : Key) (s : sys .Stations) (word out : List ℕ) → Decides (Differs k word) 14 out (sys .call s (ask (read-word word out)))
+      → sys .call s (ask (read-word word out)) .number ≡ 0
+      → (let c = xorRow (unpack (k .n) word) (unpack (k .n) (sys .call s (ask (read-word word out)) .output)) in
+      Near k word c × (sys .call s (ask (read-word word out)) .count ≡ ones (xorRow (unpack (k .n) word) c)) × ((d : List ℕ) → Near k word d → d ≡ c))
   accepts k s word out d z =
       let p = d .writes z in
       let f : Differs k word (p .0) = p .1 in
       let r = row-unpack (k .n) word in
-      let q : unpack (k .n) (sys .call s (read-word word out) .output) ≡ p .0 = ap (unpack (k .n)) (p .2) ∙ unpack-over (f .row) out in
+      let q : unpack (k .n) (sys .call s (ask (read-word word out)) .output) ≡ p .0 = ap (unpack (k .n)) (p .2) ∙ unpack-over (f .row) out in
       rw q (
         near k word (p .0) f,
         p .3 ∙ ap ones (sym (added-twice r (f .row))),
@@ -77,7 +78,7 @@ module _ (sys : System) (sim : Simulates sys) where
       let k : Key = sys .view s .key in
       record {
         accepts = λ z.
-            let f : Reads (sys .view s) word out = read-found (sys .view s) word out (sym (same-number sys sim s (read-word word out)) ∙ z) in
+            let f : Reads (sys .view s) word out = read-found (sys .view s) word out (sym (same-number sys sim s (ask (read-word word out))) ∙ z) in
             accepts k s word out (reads k s word out (f .held) (f .good) (f .formed) (f .long)) z;
         refuses = λ h good formed long.
             let d = reads k s word out h good formed long .refuses in

@@ -20,23 +20,24 @@ use Rattle.code.specs.PublicKey.{Matrix, publicKey, dependent, written}
 use Rattle.code.specs.Lock.{locked}
 use Rattle.code.proofs.PublicKey.{row-capsule}
 use Rattle.code.proofs.LockLaws.{public-size, lock-written, lock-accepts}
-use Rattle.code.specs.Publish.{capsuleBits, publicBytes, workBytes, publishChecks, freeBytes}
-use Rattle.code.specs.Publish as Publish
-use Rattle.decoder.specs.Calls as Calls
-use Rattle.ledger.specs.Station.{State, empty, loaded, published, Station, Held, isEmpty, heldBy, publishConditions, openConditions, Result, publishOf}
-use Rattle.ledger.specs.Calls.{publish, open-capsule, conditionsOf, step}
+use Rattle.code.specs.Publish.{capsuleBits, publicBytes, workBytes, publishChecks, publishConditions, freeBytes}
+use Rattle.decoder.specs.Calls.{openConditions}
+use Rattle.ledger.specs.Station.{State, empty, loaded, published, Station, Held, isEmpty, heldBy, Result}
+use Rattle.ledger.specs.Publishing.{systematic, publishingConditions, publication, freedBytes}
+use Rattle.ledger.specs.Questions.{open-capsule, questionConditions, gives, given}
+use Rattle.ledger.specs.Calls.{publish, ask, conditionsOf, made, step}
 use Rattle.ledger.specs.Systems.{definitions}
 use Rattle.ledger.specs.Demands.{at, keyHeld, capsuleOf, lockAnswer, Demand2, Locks, Decides}
-use Rattle.ledger.proofs.StepLaws.{outcome, freed, unless-accepted, step-number, step-free, publish-station, publish-count, open-station}
+use Rattle.ledger.proofs.StepLaws.{outcome, step-number, step-made, step-free, question-station}
 use Rattle.ledger.proofs.Agreement.{sound-held}
 use Rattle.ledger.proofs.Demand3.{differ, open-decides}
 
 -- what publish and open hand back, and the pattern that open wrote
 abbrev publishResult : State → Key → List ℕ → List ℕ → Result
-publishResult state k out work = step (at state k) (publish out work)
+publishResult state k out work = step (at state k) (publish (systematic out work))
 
 abbrev openResult : Key → List ℕ → List ℕ → Result
-openResult k capsule out = step (at published k) (open-capsule capsule out)
+openResult k capsule out = step (at published k) (ask (open-capsule capsule out))
 
 abbrev patternIn : Key → List ℕ → List ℕ → List ℕ
 patternIn k capsule out = take (bytesFor (k .n)) (openResult k capsule out .output)
@@ -53,11 +54,11 @@ unfolding at
 at-held P s k h f = holding P (s .state) (s .key) k h f
 
 -- a capsule that is opened is well-formed, and the output has room for its pattern
-pub opened : (k : Key) (capsule out : List ℕ) → step (at published k) (open-capsule capsule out) .number ≡ 0
+pub opened : (k : Key) (capsule out : List ℕ) → step (at published k) (ask (open-capsule capsule out)) .number ≡ 0
     → (wellFormed (capsuleBits k) capsule ≡ true) × (bytesFor (k .n) ≤ length out)
-unfolding at heldBy conditionsOf openConditions Calls.openConditions
+unfolding at heldBy conditionsOf questionConditions openConditions
 opened k capsule out e =
-    let c21 = first-clear _ 20 _ (sym (step-number (at published k) (open-capsule capsule out)) ∙ e) in
+    let c21 = first-clear _ 20 _ (sym (step-number (at published k) (ask (open-capsule capsule out))) ∙ e) in
     let c25 = first-clear _ 24 _ (c21 .1) in
     let c24 = first-clear _ 23 _ (c25 .1) in
     let c8 = first-clear _ 7 _ (c24 .1) in
@@ -84,42 +85,43 @@ independent k p = ap (λ (o : Option Matrix). elim o as (λ x. Bool) [ none ↦ 
 
 module _ (k : Key) (rows : Matrix) (good : keyNumber k ≡ 0) (public : publicKey k ≡ some rows) where
   opens : (capsule out : List ℕ) → wellFormed (capsuleBits k) capsule ≡ true → bytesFor (k .n) ≤ length out
-      → Decides (Locks k rows capsule) 13 out (step (at published k) (open-capsule capsule out))
+      → Decides (Locks k rows capsule) 13 out (step (at published k) (ask (open-capsule capsule out)))
   unfolding at
   opens = open-decides k good rows public
 
   publish-accepted : (state : State) (out work : List ℕ) → isEmpty state ≡ false → publicBytes k ≤ length out → workBytes k ≤ length work
       → publishResult state k out work .number ≡ 0
-  unfolding at conditionsOf publishConditions publishChecks Publish.publishConditions
+  unfolding at conditionsOf publishingConditions publishChecks publishConditions
   publish-accepted state out work h long room =
-      step-number (at state k) (publish out work)
-      ∙ ap (λ (x : Held). firstOf (publishConditions x out work)) (sound-held state k good)
+      step-number (at state k) (publish (systematic out work))
+      ∙ ap (λ (x : Held). firstOf (conditionsOf x (publish (systematic out work)))) (sound-held state k good)
       ∙ publish-first (isEmpty state) (ltb (length out) (publicBytes k)) (ltb (length work) (workBytes k)) (dependent k)
       h (le-ltb _ _ long) (le-ltb _ _ room) (independent k public)
 
   publish-output : (state : State) (out work : List ℕ) → publishResult state k out work .number ≡ 0
       → publishResult state k out work .output ≡ over (flatMap pack rows) out
-  unfolding at step publishOf written conditionsOf
+  unfolding at made publication written
   publish-output state out work e =
-      ap (λ (r : Result). r .output) (unless-accepted (at state k) out _ _ (sym (step-number (at state k) (publish out work)) ∙ e))
+      ap (λ (r : Result). r .output) (step-made (at state k) (publish (systematic out work)) e)
       ∙ ap (λ (o : Option Matrix). over (written o) out) public
 
   publish-frees : (state : State) (out work : List ℕ) → isEmpty state ≡ false → publicBytes k ≤ length out → workBytes k ≤ length work
       → publishResult state k out work .free ≡ workBytes k
-  unfolding at heldBy freed freeBytes publishChecks
+  unfolding at made heldBy freedBytes freeBytes publishChecks
   publish-frees state out work h long room =
-      step-free (at state k) (publish out work)
+      step-free (at state k) (publish (systematic out work))
       ∙ ap (λ (b : Bool). cond b 0 (freeBytes k out work)) h
       ∙ ap (λ (b : Bool). cond (eqb (firstOf (publishChecks b k out work)) 0) (workBytes k) 0) (ap (λ (x : Held). x .unsound) (sound-held state k good))
       ∙ ap (λ (n : ℕ). cond (eqb n 0) (workBytes k) 0)
       (checks-first (ltb (length out) (publicBytes k)) (ltb (length work) (workBytes k)) (le-ltb _ _ long) (le-ltb _ _ room))
 
   publishes : (state : State) (out work : List ℕ) → isEmpty state ≡ false → publicBytes k ≤ length out → workBytes k ≤ length work
-      → publishResult state k out work ≡ record { station = at published k; number = 0; output = over (flatMap pack rows) out; count = 0; free = workBytes k }
-  unfolding at
+      → publishResult state k out work ≡ record { station = at published k; number = 0; output = over (flatMap pack rows) out; count = 0; answer = []; free = workBytes k }
+  unfolding at made
   publishes state out work h long room =
       let zero = publish-accepted state out work h long room in
-      outcome (publish-station (at state k) out work zero) zero (publish-output state out work zero) (publish-count (at state k) out work)
+      let w = step-made (at state k) (publish (systematic out work)) zero in
+      outcome (ap (λ (r : Result). r .station) w) zero (publish-output state out work zero) (ap (λ (r : Result). r .count) w) (ap (λ (r : Result). r .answer) w)
       (publish-frees state out work h long room)
 
   -- the public key begins what publish wrote
@@ -143,8 +145,8 @@ module _ (k : Key) (rows : Matrix) (good : keyNumber k ≡ 0) (public : publicKe
 
   locked-opened : (pattern out : List ℕ) → Bytes pattern → wellFormed (k .n) pattern ≡ true → weight (k .n) pattern ≡ k .t
       → bytesFor (k .n) ≤ length out
-      → openResult k (capsuleOf k rows pattern) out ≡ record { station = at published k; number = 0; output = over pattern out; count = k .t; free = 0 }
-  unfolding weight freed
+      → openResult k (capsuleOf k rows pattern) out ≡ record { station = at published k; number = 0; output = over pattern out; count = k .t; answer = []; free = 0 }
+  unfolding weight made given gives
   locked-opened pattern out bytes formed count long =
       let e : List ℕ = unpack (k .n) pattern in
       let r : Row (k .n) e = row-unpack (k .n) pattern in
@@ -157,8 +159,8 @@ module _ (k : Key) (rows : Matrix) (good : keyNumber k ≡ 0) (public : publicKe
       let same : e ≡ w .0 = w .4 e locks in
       let wrote : pack (w .0) ≡ pattern = ap pack (sym same) ∙ pack-unpack (k .n) pattern bytes formed in
       rw (lock-written k rows good public pattern)
-      (outcome (open-station (at published k) capsule out) zero (w .2 ∙ ap (λ (b : List ℕ). over b out) wrote) (w .3 ∙ ap ones (sym same) ∙ count)
-      (step-free (at published k) (open-capsule capsule out)))
+      (outcome (question-station (at published k) (open-capsule capsule out)) zero (w .2 ∙ ap (λ (b : List ℕ). over b out) wrote) (w .3 ∙ ap ones (sym same) ∙ count)
+      (ap (λ (r : Result). r .answer) (step-made (at published k) (ask (open-capsule capsule out)) zero)) (step-free (at published k) (ask (open-capsule capsule out))))
 
   -- the pattern that open wrote, packed
   record Found (capsule out : List ℕ) : Type 0 where
@@ -195,10 +197,10 @@ pub demand-2 : Demand2 definitions
 unfolding at
 demand-2 k rows good public =
     record {
-      publishes = λ s out work h long room. at-held (λ (x : Station). step x (publish out work) ≡ record { station = record { state = published; key = x .key }; number = 0; output = over (flatMap pack rows) out; count = 0; free = workBytes k }) s k h
+      publishes = λ s out work h long room. at-held (λ (x : Station). step x (publish (systematic out work)) ≡ record { station = record { state = published; key = x .key }; number = 0; output = over (flatMap pack rows) out; count = 0; answer = []; free = workBytes k }) s k h
           (λ state e. publishes k rows good public state out work e long room);
       marks = λ s h. at-held (λ (x : Station). at published (x .key) ≡ at published k) s k h (λ state e. refl);
-      public = λ s out work h. at-held (λ (x : Station). step x (publish out work) .number ≡ 0 → take (publicBytes k) (step x (publish out work) .output) ≡ flatMap pack rows) s k h
+      public = λ s out work h. at-held (λ (x : Station). step x (publish (systematic out work)) .number ≡ 0 → take (publicBytes k) (step x (publish (systematic out work)) .output) ≡ flatMap pack rows) s k h
           (λ state e. public-begins k rows good public state out work);
       locks = locks k rows good public;
       locked-opened = λ s pattern out p bytes formed count long.

@@ -15,13 +15,14 @@ use Rattle.key.specs.Keys.{Key, keyNumber}
 use Rattle.code.specs.PublicKey.{Matrix, publicKey}
 use Rattle.decoder.specs.Reading.{reading, opening}
 use Rattle.code.specs.Publish.{capsuleBits}
-use Rattle.decoder.specs.Calls.{found, isNone}
-use Rattle.decoder.specs.Calls as Calls
-use Rattle.ledger.specs.Station.{State, loaded, published, Station, Held, isEmpty, isUnpublished, openConditions, readConditions, Result, unless, gives, openOf, readOf}
-use Rattle.ledger.specs.Calls.{open-capsule, read-word, step}
+use Rattle.decoder.specs.Calls.{found, isNone, openConditions, readConditions}
+use Rattle.ledger.specs.Station.{State, loaded, published, Station, Held, isEmpty, isUnpublished, Result}
+use Rattle.ledger.specs.Questions.{Question, open-capsule, read-word, questionConditions, Given, gives, given}
+use Rattle.ledger.specs.Calls.{ask, conditionsOf, made, step}
 use Rattle.ledger.specs.Ledger.{Ledger, blank}
 use Rattle.ledger.specs.Systems.{definitions}
 use Rattle.ledger.specs.Demands.{Locks, Differs, Decides, AfterEveryList}
+use Rattle.ledger.proofs.StepLaws.{callNumber, step-number, step-made}
 use Rattle.ledger.proofs.Agreement.{stationOf, Agree, nothing, held, marked, sound-held, agree-run, agree-numbers, agree-key}
 use Rattle.ledger.proofs.Patterns.{reading-sound, reading-complete, opening-sound, opening-complete, one-reading, one-opening}
 
@@ -32,21 +33,26 @@ differ e = absurd (omega arith)
 -- An answer that gives what a search found, unless it found none, decides.
 module _ (P : List ℕ → Type 0) (o : Option (List ℕ)) (sound : (e : List ℕ) → o ≡ some e → P e) (complete : o ≡ none → (e : List ℕ) → P e → ⊥)
     (unique : (e d : List ℕ) → P e → P d → d ≡ e) where
-  found-decides : (refusal : ℕ) (s : Station) (out : List ℕ) (r : Result) (n : ℕ) → n ≡ cond (isNone o) (suc refusal) 0
-      → r ≡ unless n s out (gives s (found o) out) → Decides P (suc refusal) out r
-  unfolding isNone found unless gives
-  found-decides refusal s out r n c w = go o refl (w ∙ ap (λ (i : ℕ). unless i s out (gives s (found o) out)) c)
+  found-decides : (refusal : ℕ) (s : Station) (q : Question) (out : List ℕ) → given (s .key) q ≡ gives (found o) out
+      → callNumber s (ask q) ≡ cond (isNone o) (suc refusal) 0 → Decides P (suc refusal) out (step s (ask q))
+  unfolding isNone found gives made
+  found-decides refusal s q out g c = go o refl g (step-number s (ask q) ∙ c)
     where
-      go : (q : Option (List ℕ)) → o ≡ q → r ≡ unless (cond (isNone q) (suc refusal) 0) s out (gives s (found q) out) → Decides P (suc refusal) out r
-      go none h w =
-          let z : r .number ≡ suc refusal = ap (λ (x : Result). x .number) w in
-          record { refuses = (λ e. complete h, λ f. z); only = λ f. absurd (f z); writes = λ e. absurd (omega arith) }
-      go (some x) h w =
-          let z : r .number ≡ 0 = ap (λ (y : Result). y .number) w in
+      go : (p : Option (List ℕ)) → o ≡ p → given (s .key) q ≡ gives (found p) out → step s (ask q) .number ≡ cond (isNone p) (suc refusal) 0
+          → Decides P (suc refusal) out (step s (ask q))
+      go none h g z = record { refuses = (λ e. complete h, λ f. z); only = λ f. absurd (f z); writes = λ e. absurd (omega arith) }
+      go (some x) h g z =
+          let w = step-made s (ask q) z in
           record {
             refuses = (λ e. absurd (omega arith), λ f. absurd (f x (sound x h)));
             only = λ f. z;
-            writes = λ e. (x, sound x h, ap (λ (y : Result). y .output) w, ap (λ (y : Result). y .count) w, λ d p. unique x d (sound x h) p);
+            writes = λ e. (
+              x,
+              sound x h,
+              ap (λ (r : Result). r .output) w ∙ ap (λ (a : Given). a .output) g,
+              ap (λ (r : Result). r .count) w ∙ ap (λ (a : Given). a .count) g,
+              λ d p. unique x d (sound x h) p,
+            );
           }
 
 -- A long enough buffer and a well-formed word or capsule leave only the last condition.
@@ -64,42 +70,40 @@ well-length : (n : ℕ) (s : List ℕ) → wellFormed n s ≡ true → eqb (leng
 unfolding wellFormed
 well-length n s w = and-left (eqb (length s) (bytesFor n)) (fillerClear n s) w
 
-well-filler : (n : ℕ) (s : List ℕ) → wellFormed n s ≡ true → fillerClear n s ≡ true
+pub well-filler : (n : ℕ) (s : List ℕ) → wellFormed n s ≡ true → fillerClear n s ≡ true
 unfolding wellFormed
 well-filler n s w = and-right (eqb (length s) (bytesFor n)) (fillerClear n s) w
 
 -- demand 3's words on reading a word, and on opening
 abbrev Reads : Station → Key → List ℕ → List ℕ → Type 0
-Reads s k word out = wellFormed (k .n) word ≡ true → bytesFor (k .n) ≤ length out → Decides (Differs k word) 14 out (step s (read-word word out))
+Reads s k word out = wellFormed (k .n) word ≡ true → bytesFor (k .n) ≤ length out → Decides (Differs k word) 14 out (step s (ask (read-word word out)))
 
 abbrev Opens : Station → Key → Matrix → List ℕ → List ℕ → Type 0
 Opens s k rows capsule out =
-    wellFormed (capsuleBits k) capsule ≡ true → bytesFor (k .n) ≤ length out → Decides (Locks k rows capsule) 13 out (step s (open-capsule capsule out))
+    wellFormed (capsuleBits k) capsule ≡ true → bytesFor (k .n) ≤ length out → Decides (Locks k rows capsule) 13 out (step s (ask (open-capsule capsule out)))
 
 abbrev OpensAll : Station → Key → Type 0
 OpensAll s k = (rows : Matrix) × (publicKey k ≡ some rows) × ((capsule out : List ℕ) → Opens s k rows capsule out)
 
 module _ (k : Key) (good : keyNumber k ≡ 0) where
   pub read-decides : (st : State) → isEmpty st ≡ false → (word out : List ℕ) → Reads (stationOf st k) k word out
-  unfolding step readOf readConditions Calls.readConditions
+  unfolding conditionsOf questionConditions readConditions given
   read-decides st h word out w long =
       found-decides (Differs k word) (reading k (unpack (k .n) word)) (reading-sound k word) (reading-complete k word) (one-reading k good word)
-      13 (stationOf st k) out _ _
-      (ap (λ (x : Held). firstOf (readConditions x word out)) (sound-held st k good)
+      13 (stationOf st k) (read-word word out) out refl
+      (ap (λ (x : Held). firstOf (conditionsOf x (ask (read-word word out)))) (sound-held st k good)
       ∙ read-first _ (eqb (length word) (bytesFor (k .n))) (fillerClear (k .n) word) (ltb (length out) (bytesFor (k .n))) _
       h (well-length (k .n) word w) (well-filler (k .n) word w) (le-ltb _ _ long))
-      refl
 
   pub open-decides : (rows : Matrix) → publicKey k ≡ some rows → (capsule out : List ℕ) → Opens (stationOf published k) k rows capsule out
-  unfolding step openOf openConditions Calls.openConditions isEmpty isUnpublished
+  unfolding conditionsOf questionConditions openConditions given isEmpty isUnpublished
   open-decides rows public capsule out w long =
       let s : List ℕ = unpack (capsuleBits k) capsule in
       found-decides (Locks k rows capsule) (opening k s) (opening-sound k good rows public capsule) (opening-complete k good rows public capsule)
-      (one-opening k good rows public capsule) 12 (stationOf published k) out _ _
-      (ap (λ (x : Held). firstOf (openConditions x capsule out)) (sound-held published k good)
+      (one-opening k good rows public capsule) 12 (stationOf published k) (open-capsule capsule out) out refl
+      (ap (λ (x : Held). firstOf (conditionsOf x (ask (open-capsule capsule out)))) (sound-held published k good)
       ∙ open-first (eqb (length capsule) (bytesFor (capsuleBits k))) (fillerClear (capsuleBits k) capsule) (ltb (length out) (bytesFor (k .n))) _
       (well-length (capsuleBits k) capsule w) (well-filler (capsuleBits k) capsule w) (le-ltb _ _ long))
-      refl
 
 reading-after : {s : Station} {l : Ledger} → Agree s l → (k : Key) (word out : List ℕ) → l .key ≡ some k → Reads s k word out
 unfolding blank isEmpty

@@ -11,13 +11,14 @@ use Rattle.bits.proofs.Pack.{well-formed}
 use Rattle.field.proofs.Numbers.{first-clear}
 use Rattle.key.specs.Keys.{Key, keyNumber, unsound}
 use Rattle.code.specs.PublicKey.{Matrix, publicKey}
-use Rattle.code.specs.Publish as Publish
-use Rattle.decoder.specs.Calls as Calls
-use Rattle.ledger.specs.Station.{State, empty, loaded, published, Station, isEmpty, heldBy, publishConditions, readConditions}
-use Rattle.ledger.specs.Calls.{publish, read-word, conditionsOf, step}
+use Rattle.decoder.specs.Calls.{readConditions}
+use Rattle.ledger.specs.Station.{State, empty, loaded, published, Station, isEmpty, heldBy}
+use Rattle.ledger.specs.Publishing.{Publishing}
+use Rattle.ledger.specs.Questions.{read-word, questionConditions}
+use Rattle.ledger.specs.Calls.{publish, ask, conditionsOf, step}
 use Rattle.ledger.specs.Demands.{at, keyHeld}
+use Rattle.ledger.proofs.Forms.{publishing-public}
 use Rattle.ledger.proofs.StepLaws.{step-number}
-use Rattle.ledger.proofs.Agreement.{public-rows}
 
 -- a station that is not empty holds its key
 holds : (st : State) (k : Key) → isEmpty st ≡ false → keyHeld (at st k) ≡ some k
@@ -37,16 +38,12 @@ pub record Publishes (s : Station) : Type 0 where
   pub rows : Matrix
   pub public : publicKey (s .key) ≡ some rows
 
-pub publish-found : (s : Station) (out work : List ℕ) → step s (publish out work) .number ≡ 0 → Publishes s
-unfolding heldBy conditionsOf publishConditions Publish.publishChecks Publish.publishConditions unsound
-publish-found s out work e =
-    let c21 = first-clear _ 20 _ (sym (step-number s (publish out work)) ∙ e) in
-    let c25 = first-clear _ 24 _ (c21 .1) in
-    let c10 = first-clear _ 9 _ (c25 .1) in
-    let c11 = first-clear _ 10 _ (c10 .1) in
-    let c23 = first-clear _ 22 _ (c11 .1) in
-    let p = public-rows (s .key) (c23 .0) in
-    record { held = holds-key s (c21 .0); good = eqb-true _ _ (not-false _ (c25 .0)); rows = p .0; public = p .1 }
+pub publish-found : (s : Station) (p : Publishing) → step s (publish p) .number ≡ 0 → Publishes s
+unfolding heldBy conditionsOf unsound
+publish-found s p e =
+    let c21 = first-clear _ 20 _ (sym (step-number s (publish p)) ∙ e) in
+    let q = publishing-public (heldBy s) p (c21 .1) in
+    record { held = holds-key s (c21 .0); good = eqb-true _ _ (not-false _ (q .sound)); rows = q .rows; public = q .public }
 
 -- read
 pub record Reads (s : Station) (word out : List ℕ) : Type 0 where
@@ -55,10 +52,10 @@ pub record Reads (s : Station) (word out : List ℕ) : Type 0 where
   pub formed : wellFormed (s .key .n) word ≡ true
   pub long : bytesFor (s .key .n) ≤ length out
 
-pub read-found : (s : Station) (word out : List ℕ) → step s (read-word word out) .number ≡ 0 → Reads s word out
-unfolding heldBy conditionsOf readConditions Calls.readConditions unsound
+pub read-found : (s : Station) (word out : List ℕ) → step s (ask (read-word word out)) .number ≡ 0 → Reads s word out
+unfolding heldBy conditionsOf questionConditions readConditions unsound
 read-found s word out e =
-    let c21 = first-clear _ 20 _ (sym (step-number s (read-word word out)) ∙ e) in
+    let c21 = first-clear _ 20 _ (sym (step-number s (ask (read-word word out))) ∙ e) in
     let c25 = first-clear _ 24 _ (c21 .1) in
     let c8 = first-clear _ 7 _ (c25 .1) in
     let c9 = first-clear _ 8 _ (c8 .1) in

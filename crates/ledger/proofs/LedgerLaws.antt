@@ -4,9 +4,11 @@ use mathlib.Core.Path.{_≡_, refl, ap}
 use mathlib.Core.Bool.{true, false}
 use mathlib.Core.List.{List, [], _∷_, _++_}
 use mathlib.Core.Option.{some}
-use Rattle.key.specs.Keys.{parse}
 use Rattle.ledger.specs.Station.{Outcome}
-use Rattle.ledger.specs.Calls.{Call, load, publish, open-capsule, read-word, drop-key, run, answered}
+use Rattle.ledger.specs.Loading.{Loading, loadedKey}
+use Rattle.ledger.specs.Publishing.{Publishing}
+use Rattle.ledger.specs.Questions.{Question}
+use Rattle.ledger.specs.Calls.{Call, load, publish, ask, drop-key, run, answered}
 use Rattle.ledger.specs.Ledger.{Ledger, blank, ledgerNumber, entered, fed, ledgerAfter, expected}
 
 -- the ledger after one call
@@ -22,34 +24,29 @@ pub next-accepted : (l : Ledger) (c : Call) → ledgerNumber l c ≡ 0 → ledge
 unfolding fed
 next-accepted l c e = ap (λ (i : ℕ). fed i l c) e
 
--- load enters its file's key, without mark
-pub next-load : (l : Ledger) (file : List ℕ) → ledgerNumber l (load file) ≡ 0 → ledgerNext l (load file) ≡ record { key = some (parse file); mark = false }
+-- load enters its key, without mark
+pub next-load : (l : Ledger) (f : Loading) → ledgerNumber l (load f) ≡ 0 → ledgerNext l (load f) ≡ record { key = some (loadedKey f); mark = false }
 unfolding entered
-next-load l file e = next-accepted l (load file) e
+next-load l f e = next-accepted l (load f) e
 
 -- publish sets the mark beside the same key
-pub next-publish : (l : Ledger) (out work : List ℕ) → ledgerNumber l (publish out work) ≡ 0 → ledgerNext l (publish out work) ≡ record { key = l .key; mark = true }
+pub next-publish : (l : Ledger) (p : Publishing) → ledgerNumber l (publish p) ≡ 0 → ledgerNext l (publish p) ≡ record { key = l .key; mark = true }
 unfolding entered
-next-publish l out work e = next-accepted l (publish out work) e
+next-publish l p e = next-accepted l (publish p) e
 
 -- drop takes key and mark away
 pub next-drop : (l : Ledger) → ledgerNumber l drop-key ≡ 0 → ledgerNext l drop-key ≡ blank
 unfolding entered
 next-drop l e = next-accepted l drop-key e
 
--- open and read leave it, with and without a number
-fed-still : (n : ℕ) (l : Ledger) (c : Call) → entered l c ≡ l → fed n l c ≡ l
-unfolding fed
-fed-still zero l c e = e
-fed-still (suc n) l c e = refl
-
-pub next-open : (l : Ledger) (capsule out : List ℕ) → ledgerNext l (open-capsule capsule out) ≡ l
-unfolding entered
-next-open l capsule out = fed-still (ledgerNumber l (open-capsule capsule out)) l (open-capsule capsule out) refl
-
-pub next-read : (l : Ledger) (word out : List ℕ) → ledgerNext l (read-word word out) ≡ l
-unfolding entered
-next-read l word out = fed-still (ledgerNumber l (read-word word out)) l (read-word word out) refl
+-- a question leaves it, with and without a number
+pub next-question : (l : Ledger) (q : Question) → ledgerNext l (ask q) ≡ l
+unfolding entered fed
+next-question l q = go (ledgerNumber l (ask q))
+  where
+    go : (n : ℕ) → fed n l (ask q) ≡ l
+    go zero = refl
+    go (suc n) = refl
 
 -- Lists of calls one behind another.
 pub ledger-append : (l : Ledger) (cs ds : List Call) → ledgerAfter l (cs ++ ds) ≡ ledgerAfter (ledgerAfter l cs) ds

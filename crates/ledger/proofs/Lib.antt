@@ -1,4 +1,5 @@
 pub mod Table
+pub mod Forms
 pub mod StepLaws
 pub mod LedgerLaws
 pub mod Demand1
@@ -12,3 +13,4 @@ pub mod LocksOpens
 pub mod CodeWords
 pub mod Loads
 pub mod OwnWords
+pub mod Reports

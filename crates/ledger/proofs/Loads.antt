@@ -7,13 +7,16 @@ use mathlib.Core.List.{List, [], _∷_, _++_}
 use mathlib.Core.Option.{some}
 use native.Mathlib.Omega.{arith}
 use Rattle.field.proofs.Numbers.{first-clear}
-use Rattle.key.specs.Keys.{Key, parse}
-use Rattle.ledger.specs.Station.{loaded, published, Station, fresh, heldBy, loadConditions}
-use Rattle.ledger.specs.Calls.{Call, load, publish, open-capsule, read-word, drop-key, conditionsOf, step, run}
+use Rattle.key.specs.Keys.{Key}
+use Rattle.ledger.specs.Station.{loaded, published, Station, fresh, heldBy}
+use Rattle.ledger.specs.Loading.{Loading, loadedKey}
+use Rattle.ledger.specs.Publishing.{Publishing}
+use Rattle.ledger.specs.Questions.{Question}
+use Rattle.ledger.specs.Calls.{Call, load, publish, ask, drop-key, conditionsOf, step, run}
 use Rattle.ledger.specs.Systems.{System}
 use Rattle.ledger.specs.Demands.{at, keyHeld}
 use Rattle.ledger.specs.OwnWords.{NoDrop, SomePublish, Loaded, HoldsTheLoad, HoldsTheMark}
-use Rattle.ledger.proofs.StepLaws.{step-number, load-station, publish-station, drop-station, open-station, read-station}
+use Rattle.ledger.proofs.StepLaws.{step-number, load-station, publish-station, drop-station}
 use Rattle.ledger.proofs.LedgerLaws.{run-append}
 use Rattle.ledger.proofs.Demand2.{at-held}
 use Rattle.ledger.proofs.Demand3.{differ}
@@ -21,11 +24,11 @@ use Rattle.ledger.proofs.Found.{Publishes, publish-found}
 use Rattle.ledger.proofs.Simulation.{Simulates, same-number, same-station}
 
 -- with a key held load is refused
-load-refused : (s : Station) (k : Key) (file : List ℕ) → keyHeld s ≡ some k → step s (load file) .number ≡ 0 → ⊥
-unfolding heldBy conditionsOf loadConditions at
-load-refused s k file h =
-    at-held (λ (x : Station). step x (load file) .number ≡ 0 → ⊥) s k h
-    (λ state e z. true≢false (ap not (sym e) ∙ first-clear _ 21 _ (sym (step-number (at state k) (load file)) ∙ z) .0))
+load-refused : (s : Station) (k : Key) (f : Loading) → keyHeld s ≡ some k → step s (load f) .number ≡ 0 → ⊥
+unfolding heldBy conditionsOf at
+load-refused s k f h =
+    at-held (λ (x : Station). step x (load f) .number ≡ 0 → ⊥) s k h
+    (λ state e z. true≢false (ap not (sym e) ∙ first-clear _ 21 _ (sym (step-number (at state k) (load f)) ∙ z) .0))
 
 -- accepted or refused
 by-number : {A : Type 0} (n : ℕ) → (n ≡ 0 → A) → ((m : ℕ) → n ≡ suc m → A) → A
@@ -49,33 +52,30 @@ module _ (sys : System) (sim : Simulates sys) where
     seen-number : (c : Call) {n : ℕ} → sys .call s c .number ≡ n → step (sys .view s) c .number ≡ n
     seen-number c e = sym (same-number sys sim s c) ∙ e
 
-    load-view : (file : List ℕ) → sys .call s (load file) .number ≡ 0 → sys .view (sys .call s (load file) .station) ≡ at loaded (parse file)
+    load-view : (f : Loading) → sys .call s (load f) .number ≡ 0 → sys .view (sys .call s (load f) .station) ≡ at loaded (loadedKey f)
     unfolding at
-    load-view file e = same-station sys sim s (load file) ∙ load-station (sys .view s) file (seen-number (load file) e)
+    load-view f e = same-station sys sim s (load f) ∙ load-station (sys .view s) f (seen-number (load f) e)
 
-    publish-view : (out work : List ℕ) → sys .call s (publish out work) .number ≡ 0
-        → sys .view (sys .call s (publish out work) .station) ≡ at published (sys .view s .key)
+    publish-view : (p : Publishing) → sys .call s (publish p) .number ≡ 0
+        → sys .view (sys .call s (publish p) .station) ≡ at published (sys .view s .key)
     unfolding at
-    publish-view out work e = same-station sys sim s (publish out work) ∙ publish-station (sys .view s) out work (seen-number (publish out work) e)
+    publish-view p e = same-station sys sim s (publish p) ∙ publish-station (sys .view s) p (seen-number (publish p) e)
 
     drop-view : sys .call s drop-key .number ≡ 0 → sys .view (sys .call s drop-key .station) ≡ fresh
     drop-view e = same-station sys sim s drop-key ∙ drop-station (sys .view s) (seen-number drop-key e)
 
-    open-view : (capsule out : List ℕ) → sys .view (sys .call s (open-capsule capsule out) .station) ≡ sys .view s
-    open-view capsule out = same-station sys sim s (open-capsule capsule out) ∙ open-station (sys .view s) capsule out
-
-    read-view : (word out : List ℕ) → sys .view (sys .call s (read-word word out) .station) ≡ sys .view s
-    read-view word out = same-station sys sim s (read-word word out) ∙ read-station (sys .view s) word out
+    question-view : (q : Question) → sys .view (sys .call s (ask q) .station) ≡ sys .view s
+    question-view q = ap (sys .view) (sim .leaves s q)
 
     -- publish leaves the key
-    publish-held : (out work : List ℕ) → keyHeld (sys .view (sys .call s (publish out work) .station)) ≡ keyHeld (sys .view s)
+    publish-held : (p : Publishing) → keyHeld (sys .view (sys .call s (publish p) .station)) ≡ keyHeld (sys .view s)
     unfolding keyHeld at
-    publish-held out work =
-        by-number (sys .call s (publish out work) .number)
+    publish-held p =
+        by-number (sys .call s (publish p) .number)
         (λ e.
-        let f : Publishes (sys .view s) = publish-found (sys .view s) out work (seen-number (publish out work) e) in
-        ap keyHeld (publish-view out work e) ∙ sym (f .held))
-        (λ n e. ap keyHeld (refused-view (publish out work) n e))
+        let f : Publishes (sys .view s) = publish-found (sys .view s) p (seen-number (publish p) e) in
+        ap keyHeld (publish-view p e) ∙ sym (f .held))
+        (λ n e. ap keyHeld (refused-view (publish p) n e))
 
   -- no drop is accepted in a list, in the list behind its first call, and with one call more before it
   none-in : (s : sys .Stations) → NoDrop sys s []
@@ -98,13 +98,12 @@ module _ (sys : System) (sim : Simulates sys) where
   held-next : (s : sys .Stations) (c : Call) (cs : List Call) (k : Key) → keyHeld (sys .view s) ≡ some k → NoDrop sys s (c ∷ cs)
       → keyHeld (sys .view (sys .call s c .station)) ≡ some k
   unfolding run
-  held-next s (load file) cs k h keeps =
-      by-number (sys .call s (load file) .number)
-      (λ e. absurd (load-refused (sys .view s) k file h (seen-number s (load file) e)))
-      (λ n e. ap keyHeld (refused-view s (load file) n e) ∙ h)
-  held-next s (publish out work) cs k h keeps = publish-held s out work ∙ h
-  held-next s (open-capsule capsule out) cs k h keeps = ap keyHeld (open-view s capsule out) ∙ h
-  held-next s (read-word word out) cs k h keeps = ap keyHeld (read-view s word out) ∙ h
+  held-next s (load f) cs k h keeps =
+      by-number (sys .call s (load f) .number)
+      (λ e. absurd (load-refused (sys .view s) k f h (seen-number s (load f) e)))
+      (λ n e. ap keyHeld (refused-view s (load f) n e) ∙ h)
+  held-next s (publish p) cs k h keeps = publish-held s p ∙ h
+  held-next s (ask q) cs k h keeps = ap keyHeld (question-view s q) ∙ h
   held-next s drop-key cs k h keeps =
       by-number (sys .call s drop-key .number) (λ e. absurd (keeps [] cs refl e)) (λ n e. ap keyHeld (refused-view s drop-key n e) ∙ h)
 
@@ -119,18 +118,16 @@ module _ (sys : System) (sim : Simulates sys) where
       → NoDrop sys (sys .call s c .station) cs
       → ((keyHeld (sys .view s) ≡ some k) × NoDrop sys s (c ∷ cs)) ⊎ Loaded sys s (c ∷ cs) k
   unfolding run keyHeld at
-  held-before s (load file) cs k h keeps =
-      by-number (sys .call s (load file) .number)
+  held-before s (load f) cs k h keeps =
+      by-number (sys .call s (load f) .number)
       (λ e.
-      let q : some (parse file) ≡ some k = sym (ap keyHeld (load-view s file e)) ∙ h in
-      inr (record { before = []; file = file; after = cs; split = refl; accepted = e; key = cc; kept = keeps }))
-      (λ n e. inl (sym (ap keyHeld (refused-view s (load file) n e)) ∙ h, drop-first s (load file) cs (λ q z. differ (cc)) keeps))
-  held-before s (publish out work) cs k h keeps =
-      inl (sym (publish-held s out work) ∙ h, drop-first s (publish out work) cs (λ q z. differ (cc)) keeps)
-  held-before s (open-capsule capsule out) cs k h keeps =
-      inl (sym (ap keyHeld (open-view s capsule out)) ∙ h, drop-first s (open-capsule capsule out) cs (λ q z. differ (cc)) keeps)
-  held-before s (read-word word out) cs k h keeps =
-      inl (sym (ap keyHeld (read-view s word out)) ∙ h, drop-first s (read-word word out) cs (λ q z. differ (cc)) keeps)
+      let q : some (loadedKey f) ≡ some k = sym (ap keyHeld (load-view s f e)) ∙ h in
+      inr (record { before = []; form = f; after = cs; split = refl; accepted = e; key = cc; kept = keeps }))
+      (λ n e. inl (sym (ap keyHeld (refused-view s (load f) n e)) ∙ h, drop-first s (load f) cs (λ q z. differ (cc)) keeps))
+  held-before s (publish p) cs k h keeps =
+      inl (sym (publish-held s p) ∙ h, drop-first s (publish p) cs (λ q z. differ (cc)) keeps)
+  held-before s (ask q) cs k h keeps =
+      inl (sym (ap keyHeld (question-view s q)) ∙ h, drop-first s (ask q) cs (λ e z. differ (cc)) keeps)
   held-before s drop-key cs k h keeps =
       by-number (sys .call s drop-key .number)
       (λ e. none-held k (sym (ap keyHeld (drop-view s e)) ∙ h))
@@ -142,22 +139,22 @@ module _ (sys : System) (sim : Simulates sys) where
   held-from s [] k h = inl (h, none-in s)
   held-from s (c ∷ cs) k h =
       ⊎-elim (λ p. held-before s c cs k (p .0) (p .1))
-      (λ l. inr (record { before = c ∷ l .before; file = l .file; after = l .after; split = ap (_∷_ c) (l .split); accepted = l .accepted; key = l .key; kept = l .kept }))
+      (λ l. inr (record { before = c ∷ l .before; form = l .form; after = l .after; split = ap (_∷_ c) (l .split); accepted = l .accepted; key = l .key; kept = l .kept }))
       (held-from (sys .call s c .station) cs k h)
 
   -- the load's station, from which the later calls run
   module _ (calls : List Call) (k : Key) (l : Loaded sys (sys .fresh) calls k) where
     start : sys .Stations
-    start = sys .call (run (sys .call) (sys .fresh) (l .before)) (load (l .file)) .station
+    start = sys .call (run (sys .call) (sys .fresh) (l .before)) (load (l .form)) .station
 
     start-view : sys .view start ≡ at loaded k
     unfolding start
-    start-view = load-view (run (sys .call) (sys .fresh) (l .before)) (l .file) (l .accepted) ∙ ap (at loaded) (l .key)
+    start-view = load-view (run (sys .call) (sys .fresh) (l .before)) (l .form) (l .accepted) ∙ ap (at loaded) (l .key)
 
     start-run : run (sys .call) (sys .fresh) calls ≡ run (sys .call) start (l .after)
     unfolding start run
     start-run =
-        ap (run (sys .call) (sys .fresh)) (l .split) ∙ run-append (sys .call) (sys .fresh) (l .before) (load (l .file) ∷ l .after)
+        ap (run (sys .call) (sys .fresh)) (l .split) ∙ run-append (sys .call) (sys .fresh) (l .before) (load (l .form) ∷ l .after)
 
     start-held : keyHeld (sys .view start) ≡ some k
     unfolding keyHeld at
@@ -174,16 +171,15 @@ module _ (sys : System) (sim : Simulates sys) where
   marked-next : (s : sys .Stations) (c : Call) (cs : List Call) (k : Key) → sys .view s ≡ at published k → NoDrop sys s (c ∷ cs)
       → sys .view (sys .call s c .station) ≡ at published k
   unfolding run keyHeld at
-  marked-next s (load file) cs k v keeps =
-      by-number (sys .call s (load file) .number)
-      (λ e. absurd (load-refused (sys .view s) k file (ap keyHeld v) (seen-number s (load file) e)))
-      (λ n e. refused-view s (load file) n e ∙ v)
-  marked-next s (publish out work) cs k v keeps =
-      by-number (sys .call s (publish out work) .number)
-      (λ e. publish-view s out work e ∙ ap (λ (x : Station). at published (x .key)) v)
-      (λ n e. refused-view s (publish out work) n e ∙ v)
-  marked-next s (open-capsule capsule out) cs k v keeps = open-view s capsule out ∙ v
-  marked-next s (read-word word out) cs k v keeps = read-view s word out ∙ v
+  marked-next s (load f) cs k v keeps =
+      by-number (sys .call s (load f) .number)
+      (λ e. absurd (load-refused (sys .view s) k f (ap keyHeld v) (seen-number s (load f) e)))
+      (λ n e. refused-view s (load f) n e ∙ v)
+  marked-next s (publish p) cs k v keeps =
+      by-number (sys .call s (publish p) .number)
+      (λ e. publish-view s p e ∙ ap (λ (x : Station). at published (x .key)) v)
+      (λ n e. refused-view s (publish p) n e ∙ v)
+  marked-next s (ask q) cs k v keeps = question-view s q ∙ v
   marked-next s drop-key cs k v keeps =
       by-number (sys .call s drop-key .number) (λ e. absurd (keeps [] cs refl e)) (λ n e. refused-view s drop-key n e ∙ v)
 
@@ -194,32 +190,31 @@ module _ (sys : System) (sim : Simulates sys) where
   marked-after s (c ∷ cs) k v keeps = marked-after (sys .call s c .station) cs k (marked-next s c cs k v keeps) (drop-behind s c cs keeps)
 
   -- after an accepted publish it is published
-  published-after : (s : sys .Stations) (before : List Call) (out work : List ℕ) (after : List Call) (k : Key) → keyHeld (sys .view s) ≡ some k
-      → NoDrop sys s (before ++ (publish out work ∷ after)) → sys .call (run (sys .call) s before) (publish out work) .number ≡ 0
-      → sys .view (run (sys .call) s (before ++ (publish out work ∷ after))) ≡ at published k
+  published-after : (s : sys .Stations) (before : List Call) (p : Publishing) (after : List Call) (k : Key) → keyHeld (sys .view s) ≡ some k
+      → NoDrop sys s (before ++ (publish p ∷ after)) → sys .call (run (sys .call) s before) (publish p) .number ≡ 0
+      → sys .view (run (sys .call) s (before ++ (publish p ∷ after))) ≡ at published k
   unfolding run at
-  published-after s [] out work after k h keeps e =
-      marked-after (sys .call s (publish out work) .station) after k
-      (publish-view s out work e ∙ at-held (λ (x : Station). at published (x .key) ≡ at published k) (sys .view s) k h (λ state q. refl))
-      (drop-behind s (publish out work) after keeps)
-  published-after s (c ∷ cs) out work after k h keeps e =
-      let ds : List Call = cs ++ (publish out work ∷ after) in
-      published-after (sys .call s c .station) cs out work after k (held-next s c ds k h keeps) (drop-behind s c ds keeps) e
+  published-after s [] p after k h keeps e =
+      marked-after (sys .call s (publish p) .station) after k
+      (publish-view s p e ∙ at-held (λ (x : Station). at published (x .key) ≡ at published k) (sys .view s) k h (λ state q. refl))
+      (drop-behind s (publish p) after keeps)
+  published-after s (c ∷ cs) p after k h keeps e =
+      let ds : List Call = cs ++ (publish p ∷ after) in
+      published-after (sys .call s c .station) cs p after k (held-next s c ds k h keeps) (drop-behind s c ds keeps) e
 
   -- a station that is published after a call was so before, or the call is an accepted publish
   marked-before : (s : sys .Stations) (c : Call) (cs : List Call) (k : Key) → keyHeld (sys .view s) ≡ some k → NoDrop sys s (c ∷ cs)
       → sys .view (sys .call s c .station) ≡ at published k → (sys .view s ≡ at published k) ⊎ SomePublish sys s (c ∷ cs)
   unfolding run
-  marked-before s (load file) cs k h keeps v =
-      by-number (sys .call s (load file) .number)
-      (λ e. absurd (load-refused (sys .view s) k file h (seen-number s (load file) e)))
-      (λ n e. inl (sym (refused-view s (load file) n e) ∙ v))
-  marked-before s (publish out work) cs k h keeps v =
-      by-number (sys .call s (publish out work) .number)
-      (λ e. inr (record { before = []; out = out; work = work; after = cs; split = refl; accepted = e }))
-      (λ n e. inl (sym (refused-view s (publish out work) n e) ∙ v))
-  marked-before s (open-capsule capsule out) cs k h keeps v = inl (sym (open-view s capsule out) ∙ v)
-  marked-before s (read-word word out) cs k h keeps v = inl (sym (read-view s word out) ∙ v)
+  marked-before s (load f) cs k h keeps v =
+      by-number (sys .call s (load f) .number)
+      (λ e. absurd (load-refused (sys .view s) k f h (seen-number s (load f) e)))
+      (λ n e. inl (sym (refused-view s (load f) n e) ∙ v))
+  marked-before s (publish p) cs k h keeps v =
+      by-number (sys .call s (publish p) .number)
+      (λ e. inr (record { before = []; form = p; after = cs; split = refl; accepted = e }))
+      (λ n e. inl (sym (refused-view s (publish p) n e) ∙ v))
+  marked-before s (ask q) cs k h keeps v = inl (sym (question-view s q) ∙ v)
   marked-before s drop-key cs k h keeps v =
       by-number (sys .call s drop-key .number) (λ e. absurd (keeps [] cs refl e)) (λ n e. inl (sym (refused-view s drop-key n e) ∙ v))
 
@@ -229,7 +224,7 @@ module _ (sys : System) (sim : Simulates sys) where
   marked-from s [] k h keeps v = inl v
   marked-from s (c ∷ cs) k h keeps v =
       ⊎-elim (marked-before s c cs k h keeps)
-      (λ p. inr (record { before = c ∷ p .before; out = p .out; work = p .work; after = p .after; split = ap (_∷_ c) (p .split); accepted = p .accepted }))
+      (λ p. inr (record { before = c ∷ p .before; form = p .form; after = p .after; split = ap (_∷_ c) (p .split); accepted = p .accepted }))
       (marked-from (sys .call s c .station) cs k (held-next s c cs k h keeps) (drop-behind s c cs keeps) v)
 
   -- loaded is not published
@@ -251,5 +246,5 @@ module _ (sys : System) (sim : Simulates sys) where
         let q : SomePublish sys (start calls k l) (l .after) = p .1 in
         ap (sys .view) (start-run calls k l)
         ∙ subst (λ (cs : List Call). NoDrop sys (start calls k l) cs → sys .view (run (sys .call) (start calls k l) cs) ≡ at published k) (sym (q .split))
-        (λ keeps. published-after (start calls k l) (q .before) (q .out) (q .work) (q .after) k (start-held calls k l) keeps (q .accepted)) (l .kept),
+        (λ keeps. published-after (start calls k l) (q .before) (q .form) (q .after) k (start-held calls k l) keeps (q .accepted)) (l .kept),
   )

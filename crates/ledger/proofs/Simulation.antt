@@ -8,10 +8,12 @@ use Rattle.bits.specs.Bits.{bytesFor}
 use Rattle.code.specs.Publish.{publicBytes}
 use Rattle.ledger.specs.Station.{published, Station, Outcome, Result}
 use Rattle.ledger.specs.Station as Definition
-use Rattle.ledger.specs.Calls.{Call, publish, open-capsule, read-word, step, run, answered}
+use Rattle.ledger.specs.Publishing.{Publishing, systematic}
+use Rattle.ledger.specs.Questions.{Question, open-capsule, read-word}
+use Rattle.ledger.specs.Calls.{Call, publish, ask, step, run, answered}
 use Rattle.ledger.specs.Systems.{System, definitions}
 use Rattle.ledger.specs.Demands.{capsuleOf, lockAnswer, Decides, Demand1, Demand2, RoundTrips, AfterEveryList, Demands}
-use Rattle.ledger.proofs.StepLaws.{outcome, publish-station, open-station}
+use Rattle.ledger.proofs.StepLaws.{outcome, publish-station, question-station}
 use Rattle.ledger.proofs.StepLaws as Step
 use Rattle.ledger.proofs.Demand1 as Definitions1
 use Rattle.ledger.proofs.Demand2 as Definitions2
@@ -19,7 +21,7 @@ use Rattle.ledger.proofs.Demand3 as Definitions3
 
 -- what is handed back, with what its station shows
 unfoldable pub seen : (sys : System) → Outcome (sys .Stations) → Result
-seen sys r = record { station = sys .view (r .station); number = r .number; output = r .output; count = r .count; free = r .free }
+seen sys r = record { station = sys .view (r .station); number = r .number; output = r .output; count = r .count; answer = r .answer; free = r .free }
 
 -- the calls show the definitions' step; where these leave the station or only mark it, so do the calls, in all that a station has
 pub record Simulates (sys : System) : Type 0 where
@@ -27,8 +29,8 @@ pub record Simulates (sys : System) : Type 0 where
   pub marked : (s : sys .Stations) → sys .view (sys .marked s) ≡ record { state = published; key = sys .view s .key }
   pub steps : (s : sys .Stations) (c : Call) → seen sys (sys .call s c) ≡ step (sys .view s) c
   pub stays : (s : sys .Stations) (c : Call) (n : ℕ) → sys .call s c .number ≡ suc n → sys .call s c .station ≡ s
-  pub marks : (s : sys .Stations) (out work : List ℕ) → sys .call s (publish out work) .number ≡ 0 → sys .call s (publish out work) .station ≡ sys .marked s
-  pub opens : (s : sys .Stations) (capsule out : List ℕ) → sys .call s (open-capsule capsule out) .station ≡ s
+  pub marks : (s : sys .Stations) (p : Publishing) → sys .call s (publish p) .number ≡ 0 → sys .call s (publish p) .station ≡ sys .marked s
+  pub leaves : (s : sys .Stations) (q : Question) → sys .call s (ask q) .station ≡ s
 
 -- so do the definitions
 pub definitions-simulate : Simulates definitions
@@ -40,7 +42,7 @@ definitions-simulate =
       steps = λ s c. refl;
       stays = Step.step-stays;
       marks = publish-station;
-      opens = open-station;
+      leaves = question-station;
     }
 
 module _ (sys : System) (sim : Simulates sys) where
@@ -61,18 +63,23 @@ module _ (sys : System) (sim : Simulates sys) where
     unfolding seen
     same-count = ap (λ (r : Result). r .count) (sim .steps s c)
 
+    pub same-answer : sys .call s c .answer ≡ step (sys .view s) c .answer
+    unfolding seen
+    same-answer = ap (λ (r : Result). r .answer) (sim .steps s c)
+
     pub same-free : sys .call s c .free ≡ step (sys .view s) c .free
     unfolding seen
     same-free = ap (λ (r : Result). r .free) (sim .steps s c)
 
     -- all that a call hands back
     whole : (t : sys .Stations) (r : Result) → step (sys .view s) c ≡ r → sys .call s c .station ≡ t
-        → sys .call s c ≡ record { station = t; number = r .number; output = r .output; count = r .count; free = r .free }
+        → sys .call s c ≡ record { station = t; number = r .number; output = r .output; count = r .count; answer = r .answer; free = r .free }
     whole t r e q =
         outcome q
         (same-number ∙ ap (λ (x : Result). x .number) e)
         (same-output ∙ ap (λ (x : Result). x .output) e)
         (same-count ∙ ap (λ (x : Result). x .count) e)
+        (same-answer ∙ ap (λ (x : Result). x .answer) e)
         (same-free ∙ ap (λ (x : Result). x .free) e)
 
     pub decides : (P : List ℕ → Type 0) (refusal : ℕ) (out : List ℕ) → Decides P refusal out (step (sys .view s) c) → Decides P refusal out (sys .call s c)
@@ -106,6 +113,7 @@ module _ (sys : System) (sim : Simulates sys) where
         accepts = λ e. d .accepts (q ∙ e);
         station = sim .stays s c;
         ones = λ n e. same-count s c ∙ d .ones n (q ∙ e);
+        answer = λ n e. same-answer s c ∙ d .answer n (q ∙ e);
         output = λ n e. same-output s c ∙ d .output n (q ∙ e);
         work = λ n e other. same-free s c ∙ d .work n (q ∙ e) other;
         workspace = ⊎-elim (λ z. inl (same-free s c ∙ z)) (λ z. inr (same-free s c ∙ z)) (d .workspace);
@@ -117,22 +125,22 @@ module _ (sys : System) (sim : Simulates sys) where
       record {
         publishes = λ s out work h long room.
             let e = d .publishes (sys .view s) out work h long room in
-            let c = publish out work in
-            whole s c (sys .marked s) _ e (sim .marks s out work (same-number s c ∙ ap (λ (x : Result). x .number) e));
+            let c = publish (systematic out work) in
+            whole s c (sys .marked s) _ e (sim .marks s (systematic out work) (same-number s c ∙ ap (λ (x : Result). x .number) e));
         marks = λ s h. sim .marked s ∙ d .marks (sys .view s) h;
         public = λ s out work h e.
-            ap (take (publicBytes k)) (same-output s (publish out work))
-            ∙ d .public (sys .view s) out work h (sym (same-number s (publish out work)) ∙ e);
+            ap (take (publicBytes k)) (same-output s (publish (systematic out work)))
+            ∙ d .public (sys .view s) out work h (sym (same-number s (publish (systematic out work))) ∙ e);
         locks = d .locks;
         locked-opened = λ s pattern out p bytes formed count long.
-            let c = open-capsule (capsuleOf k rows pattern) out in
-            whole s c s _ (d .locked-opened (sys .view s) pattern out p bytes formed count long) (sim .opens s _ out);
+            let q = open-capsule (capsuleOf k rows pattern) out in
+            whole s (ask q) s _ (d .locked-opened (sys .view s) pattern out p bytes formed count long) (sim .leaves s q);
         opened-locks = λ s capsule out buffer p e room.
-            ap (λ (b : List ℕ). lockAnswer k rows (take (bytesFor (k .n)) b) buffer) (same-output s (open-capsule capsule out))
-            ∙ d .opened-locks (sys .view s) capsule out buffer p (sym (same-number s (open-capsule capsule out)) ∙ e) room;
+            ap (λ (b : List ℕ). lockAnswer k rows (take (bytesFor (k .n)) b) buffer) (same-output s (ask (open-capsule capsule out)))
+            ∙ d .opened-locks (sys .view s) capsule out buffer p (sym (same-number s (ask (open-capsule capsule out))) ∙ e) room;
         opened-locked = λ s capsule out p bytes e.
-            ap (λ (b : List ℕ). capsuleOf k rows (take (bytesFor (k .n)) b)) (same-output s (open-capsule capsule out))
-            ∙ d .opened-locked (sys .view s) capsule out p bytes (sym (same-number s (open-capsule capsule out)) ∙ e);
+            ap (λ (b : List ℕ). capsuleOf k rows (take (bytesFor (k .n)) b)) (same-output s (ask (open-capsule capsule out)))
+            ∙ d .opened-locked (sys .view s) capsule out p bytes (sym (same-number s (ask (open-capsule capsule out))) ∙ e);
       }
 
   after-every-list : AfterEveryList sys
@@ -142,8 +150,8 @@ module _ (sys : System) (sim : Simulates sys) where
       record {
         key = a .key;
         numbers = same-answered (sys .fresh) calls ∙ ap (λ (t : Station). answered step t calls) (sim .fresh) ∙ a .numbers;
-        opening = λ k e m. let o = a .opening k e m in (o .0, o .1, λ capsule out w long. decides s (open-capsule capsule out) _ _ out (o .2 capsule out w long));
-        reading = λ k word out e w long. decides s (read-word word out) _ _ out (a .reading k word out e w long);
+        opening = λ k e m. let o = a .opening k e m in (o .0, o .1, λ capsule out w long. decides s (ask (open-capsule capsule out)) _ _ out (o .2 capsule out w long));
+        reading = λ k word out e w long. decides s (ask (read-word word out)) _ _ out (a .reading k word out e w long);
       }
 
   pub demands : Demands sys

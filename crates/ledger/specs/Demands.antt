@@ -15,17 +15,11 @@ use Rattle.code.specs.PublicKey.{Matrix, publicKey}
 use Rattle.code.specs.Lock.{locked, lockNumber, lock}
 use Rattle.code.specs.Publish.{capsuleBits, publicBytes, workBytes}
 use Rattle.ledger.specs.Station.{State, empty, loaded, published, Station, heldBy, Outcome}
-use Rattle.ledger.specs.Calls.{Call, load, publish, open-capsule, read-word, drop-key, conditionsOf, run, answered}
+use Rattle.ledger.specs.Publishing.{systematic}
+use Rattle.ledger.specs.Questions.{open-capsule, read-word}
+use Rattle.ledger.specs.Calls.{Call, publish, ask, conditionsOf, outputOf, noAnswer, run, answered}
 use Rattle.ledger.specs.Ledger.{Ledger, blank, ledgerAfter, expected}
 use Rattle.ledger.specs.Systems.{System}
-
--- the buffer that a call writes to
-unfoldable pub outputOf : Call → List ℕ
-outputOf (load file) = []
-outputOf (publish out work) = out
-outputOf (open-capsule capsule out) = out
-outputOf (read-word word out) = out
-outputOf drop-key = []
 
 -- the key that a station holds, or none
 unfoldable pub keyHeld : Station → Option Key
@@ -68,6 +62,7 @@ module _ (sys : System) where
     pub accepts : sys .call s c .number ≡ 0 → Clear (conditionsOf (heldBy (sys .view s)) c)
     pub station : (n : ℕ) → sys .call s c .number ≡ suc n → sys .call s c .station ≡ s
     pub ones : (n : ℕ) → sys .call s c .number ≡ suc n → sys .call s c .count ≡ 0
+    pub answer : (n : ℕ) → sys .call s c .number ≡ suc n → sys .call s c .answer ≡ noAnswer c
     pub output : (n : ℕ) → sys .call s c .number ≡ suc n → sys .call s c .output ≡ outputOf c
     pub work : (n : ℕ) → sys .call s c .number ≡ suc n → (suc n ≡ 23 → ⊥) → sys .call s c .free ≡ 0
     pub workspace : (sys .call s c .free ≡ 0) ⊎ (sys .call s c .free ≡ workBytes (sys .view s .key))
@@ -78,29 +73,29 @@ module _ (sys : System) where
 
   -- the pattern that open wrote
   abbrev pub patternOf : Key → sys .Stations → List ℕ → List ℕ → List ℕ
-  patternOf k s capsule out = take (bytesFor (k .n)) (sys .call s (open-capsule capsule out) .output)
+  patternOf k s capsule out = take (bytesFor (k .n)) (sys .call s (ask (open-capsule capsule out)) .output)
 
   -- Demand 2, for stations with an accepted key and its public key T: publish with room writes T, loaded or published, and marks
   -- the station; where it is published, lock then open gives the pattern back, and open then lock the capsule, byte for byte.
   pub record RoundTrips (k : Key) (rows : Matrix) : Type 0 where
     pub publishes : (s : sys .Stations) (out work : List ℕ) → keyHeld (sys .view s) ≡ some k → publicBytes k ≤ length out → workBytes k ≤ length work
-        → sys .call s (publish out work) ≡ record { station = sys .marked s; number = 0; output = over (flatMap pack rows) out; count = 0; free = workBytes k }
+        → sys .call s (publish (systematic out work)) ≡ record { station = sys .marked s; number = 0; output = over (flatMap pack rows) out; count = 0; answer = []; free = workBytes k }
     pub marks : (s : sys .Stations) → keyHeld (sys .view s) ≡ some k → sys .view (sys .marked s) ≡ at published k
     -- the bytes that publish wrote are the public key that lock takes
-    pub public : (s : sys .Stations) (out work : List ℕ) → keyHeld (sys .view s) ≡ some k → sys .call s (publish out work) .number ≡ 0
-        → take (publicBytes k) (sys .call s (publish out work) .output) ≡ flatMap pack rows
+    pub public : (s : sys .Stations) (out work : List ℕ) → keyHeld (sys .view s) ≡ some k → sys .call s (publish (systematic out work)) .number ≡ 0
+        → take (publicBytes k) (sys .call s (publish (systematic out work)) .output) ≡ flatMap pack rows
     -- lock accepts each pattern of t ones, and open gives it back with that number of ones
     pub locks : (pattern buffer : List ℕ) → wellFormed (k .n) pattern ≡ true → weight (k .n) pattern ≡ k .t
         → bytesFor (capsuleBits k) ≤ length buffer → lockAnswer k rows pattern buffer ≡ 0
     pub locked-opened : (s : sys .Stations) (pattern out : List ℕ) → sys .view s ≡ at published k
         → Bytes pattern → wellFormed (k .n) pattern ≡ true → weight (k .n) pattern ≡ k .t → bytesFor (k .n) ≤ length out
-        → sys .call s (open-capsule (capsuleOf k rows pattern) out) ≡ record { station = s; number = 0; output = over pattern out; count = k .t; free = 0 }
+        → sys .call s (ask (open-capsule (capsuleOf k rows pattern) out)) ≡ record { station = s; number = 0; output = over pattern out; count = k .t; answer = []; free = 0 }
     -- lock accepts each pattern that open wrote, and gives the capsule back
     pub opened-locks : (s : sys .Stations) (capsule out buffer : List ℕ) → sys .view s ≡ at published k
-        → sys .call s (open-capsule capsule out) .number ≡ 0 → bytesFor (capsuleBits k) ≤ length buffer
+        → sys .call s (ask (open-capsule capsule out)) .number ≡ 0 → bytesFor (capsuleBits k) ≤ length buffer
         → lockAnswer k rows (patternOf k s capsule out) buffer ≡ 0
     pub opened-locked : (s : sys .Stations) (capsule out : List ℕ) → sys .view s ≡ at published k
-        → Bytes capsule → sys .call s (open-capsule capsule out) .number ≡ 0
+        → Bytes capsule → sys .call s (ask (open-capsule capsule out)) .number ≡ 0
         → capsuleOf k rows (patternOf k s capsule out) ≡ capsule
 
   -- for every key that load accepts and that has a public key
@@ -113,10 +108,10 @@ module _ (sys : System) where
     pub numbers : answered (sys .call) (sys .fresh) calls ≡ expected blank calls
     pub opening : (k : Key) → l .key ≡ some k → l .mark ≡ true → (rows : Matrix) × (publicKey k ≡ some rows) × ((capsule out : List ℕ)
         → wellFormed (capsuleBits k) capsule ≡ true → bytesFor (k .n) ≤ length out
-        → Decides (Locks k rows capsule) 13 out (sys .call s (open-capsule capsule out)))
+        → Decides (Locks k rows capsule) 13 out (sys .call s (ask (open-capsule capsule out))))
     pub reading : (k : Key) (word out : List ℕ) → l .key ≡ some k
         → wellFormed (k .n) word ≡ true → bytesFor (k .n) ≤ length out
-        → Decides (Differs k word) 14 out (sys .call s (read-word word out))
+        → Decides (Differs k word) 14 out (sys .call s (ask (read-word word out)))
 
   -- Demand 3: one claim about every list of calls from a fresh station.
   abbrev pub AfterEveryList : Type 0

@@ -4,9 +4,10 @@ use mathlib.Core.Bool.{Bool, true, false, not}
 use mathlib.Core.List.{List, [], _∷_}
 use mathlib.Core.Option.{Option, none, some}
 use Rattle.field.specs.Numbers.{firstOf}
-use Rattle.key.specs.Keys.{Key, parse}
+use Rattle.key.specs.Keys.{Key}
 use Rattle.ledger.specs.Station.{Held, emptyKey}
-use Rattle.ledger.specs.Calls.{Call, load, publish, open-capsule, read-word, drop-key, conditionsOf}
+use Rattle.ledger.specs.Loading.{loadedKey}
+use Rattle.ledger.specs.Calls.{Call, load, publish, ask, drop-key, conditionsOf}
 
 -- a key or none, and a mark for published
 pub record Ledger : Type 0 where
@@ -28,12 +29,11 @@ heldIn l = elim (l .key) [
 unfoldable pub ledgerNumber : Ledger → Call → ℕ
 ledgerNumber l c = firstOf (conditionsOf (heldIn l) c)
 
--- load enters its file's key, publish sets the mark, drop takes key and mark away
+-- load enters its file's key, publish sets the mark, a question changes nothing, drop takes key and mark away
 unfoldable pub entered : Ledger → Call → Ledger
-entered l (load file) = record { key = some (parse file); mark = false }
-entered l (publish out work) = record { key = l .key; mark = true }
-entered l (open-capsule capsule out) = l
-entered l (read-word word out) = l
+entered l (load f) = record { key = some (loadedKey f); mark = false }
+entered l (publish p) = record { key = l .key; mark = true }
+entered l (ask q) = l
 entered l drop-key = blank
 
 -- with a number the ledger stays

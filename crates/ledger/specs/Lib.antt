@@ -1,6 +1,10 @@
 pub mod Station
+pub mod Loading
+pub mod Publishing
+pub mod Questions
 pub mod Calls
 pub mod Ledger
 pub mod Systems
 pub mod Demands
 pub mod OwnWords
+pub mod Reports

@@ -1,11 +1,12 @@
 -- What read and open answer and write, from what is found. Assumes nothing.
 use mathlib.Core.Path.{_≡_, refl, sym, ap, _∙_}
-use mathlib.Core.Bool.{Bool, true, cond}
+use mathlib.Core.Bool.{Bool, true, false, cond}
 use mathlib.Core.List.{List, _∷_, _++_, map}
 use mathlib.Core.Option.{Option, none, some}
 use Prim.Native.Nat.{ℕ, zero, suc, _+_, _-_, _*_, _≤_}
 use native.Mathlib.Omega.{arith}
 use borrow.Author.Tests.{eq-eqb, ne-eqb}
+use lib.Dec.{eqb}
 use lib.ListN.{length, replicate}
 use Rattle.bits.specs.Bits.{Row, from, bytesFor, bitAt, unpack, pack, ones, wellFormed, over, rowWritten}
 use Rattle.bits.proofs.Lists.{map-from}
@@ -20,7 +21,7 @@ use Rattle.code.specs.Publish.{capsuleBits}
 use Rattle.decoder.specs.Reading.{reading, filled, exactly, opening}
 use Rattle.decoder.specs.Calls.{found, isNone, patternOutput, openNumber, readNumber, openOutput, readOutput}
 use Rattle.decoder.proofs.Sanity.{reading-sound}
-use Rattle.decoding.specs.Parts.{packed, decoded, foundOf}
+use Rattle.decoding.specs.Parts.{decoded, foundOf}
 use Rattle.decoding.specs.declared.decoding.Found.{Found}
 use Rattle.decoding.proofs.Packed.{unpack-packed}
 use Rattle.decoding.proofs.Explained.{decoded-reading}
@@ -31,7 +32,7 @@ use Rattle.reading.proofs.Refusals.{read-clear, read-refused, read-numb
 
 -- the answer and the output for a number q and a pattern o
 module _ (q : ℕ) (o : Option (List ℕ)) (out : List ℕ) where
-  pub refusal : (x : ℕ) → x ≡ q → (x ≡ 0 → ⊥) → (Refused x ≡ answerOf q (ones (found o))) × (out ≡ patternOutput q o out)
+  refusal : (x : ℕ) → x ≡ q → (x ≡ 0 → ⊥) → (Refused x ≡ answerOf q (ones (found o))) × (out ≡ patternOutput q o out)
   unfolding answerOf patternOutput
   refusal zero e h = absurd (h refl)
   refusal (suc x) e h = (
@@ -39,7 +40,7 @@ module _ (q : ℕ) (o : Option (List ℕ)) (out : List ℕ) where
     sym (ap (λ (b : Bool). cond b (over (pack (found o)) out) out) (ne-eqb q 0 (λ z. h (e ∙ z)))),
   )
 
-  pub acceptance : {e : List ℕ} {w : ℕ} → q ≡ 0 → o ≡ some e → w ≡ ones e
+  acceptance : {e : List ℕ} {w : ℕ} → q ≡ 0 → o ≡ some e → w ≡ ones e
       → (Ones w ≡ answerOf q (ones (found o))) × (over (pack e) out ≡ patternOutput q o out)
   unfolding answerOf patternOutput found
   acceptance z s c = rw (z, s) (ap Ones c, refl)
@@ -51,46 +52,49 @@ pub record Counted (n w : ℕ) (o : Option (List ℕ)) (f : Found) : Type 0 wher
   pub count : w ≡ ones e
   pub bits : unpack n (f .pattern) ≡ e
 
-module _ (n : ℕ) where
-  pub counted-none : (o : Option (List ℕ)) {x : ℕ} → countedOf (foundOf o) ≡ Refused x → o ≡ none
+-- what is found, and the answer for it with the number x
+module _ (x : ℕ) (o : Option (List ℕ)) {f : Found} {r : Answer} (ef : f ≡ foundOf o) (er : r ≡ countedOf x f) where
+  pub counted-none : {y : ℕ} → r ≡ Refused y → (o ≡ none) × (r ≡ Refused x)
   unfolding countedOf foundOf
-  counted-none none h = refl
-  counted-none (some e) h = let z : _≡_ {A = ℕ} 0 1 = cc in absurd (omega arith)
+  counted-none h = go o (er ∙ ap (countedOf x) ef)
+    where
+      go : (o : Option (List ℕ)) → r ≡ countedOf x (foundOf o) → (o ≡ none) × (r ≡ Refused x)
+      go none e = (refl, e)
+      go (some p) e = let z : _≡_ {A = ℕ} 0 1 = cc in absurd (omega arith)
 
-  pub counted-some : (o : Option (List ℕ)) {w : ℕ} → ((e : List ℕ) → o ≡ some e → Row n e) → countedOf (foundOf o) ≡ Ones w → Counted n w o (foundOf o)
+  pub counted-some : {n w : ℕ} → ((e : List ℕ) → o ≡ some e → Row n e) → r ≡ Ones w → Counted n w o f
   unfolding countedOf foundOf
-  counted-some none r h = let z : _≡_ {A = ℕ} 0 1 = cc in absurd (omega arith)
-  counted-some (some e) {w} r h =
-      let c : ones e ≡ w = cc in
-      record { e = e; is = refl; count = sym c; bits = unpack-packed (r e refl) }
+  counted-some {n} {w} row h = rw ef (go o row (er ∙ ap (countedOf x) ef))
+    where
+      go : (o : Option (List ℕ)) → ((e : List ℕ) → o ≡ some e → Row n e) → r ≡ countedOf x (foundOf o) → Counted n w o (foundOf o)
+      go none row e = let z : _≡_ {A = ℕ} 0 1 = cc in absurd (omega arith)
+      go (some p) row e =
+          let c : w ≡ ones p = cc in
+          record { e = p; is = refl; count = c; bits = unpack-packed (row p refl) }
 
--- its bits written as a row
-give-row : {n w : ℕ} {o : Option (List ℕ)} {f : Found} (out : List ℕ) (c : Counted n w o f) → bytesFor n ≤ length out
-    → rowWritten (f .pattern) 0 n out ≡ over (pack (c .e)) out
-unfolding unpack
-give-row {n} {f} out c h = written-row (f .pattern) 0 n out h ∙ ap (λ (e : List ℕ). over (pack e) out) (c .bits)
+-- the answer and the output where only the pattern o decides, with the number x
+module _ {q : ℕ} (x : ℕ) (o : Option (List ℕ)) (out : List ℕ) (e : q ≡ cond (isNone o) x 0) where
+  answered-none : o ≡ none → (x ≡ 0 → ⊥) → (Refused x ≡ answerOf q (ones (found o))) × (out ≡ patternOutput q o out)
+  unfolding isNone
+  answered-none h = refusal q o out x (sym (e ∙ ap (λ (o : Option (List ℕ)). cond (isNone o) x 0) h))
 
--- what is found in a word at a kept key
-module _ (k : Key) (word : List ℕ) (z : keyNumber (kept k) ≡ 0) (f : Found) (ed : f ≡ foundOf (decoded (kept k) (unpack (k .n) word))) (r : Answer) (er : r ≡ countedOf f) where
-  ef : f ≡ foundOf (reading (kept k) (unpack (k .n) word))
-  ef = ed ∙ ap foundOf (decoded-reading k word z)
-
-  counted : countedOf (foundOf (reading (kept k) (unpack (k .n) word))) ≡ r
-  counted = sym (er ∙ ap countedOf ef)
-
-  pub reading-none : {x : ℕ} → r ≡ Refused x → reading (kept k) (unpack (k .n) word) ≡ none
-  reading-none h = counted-none (k .n) _ (counted ∙ h)
-
-  pub refused-none : reading (kept k) (unpack (k .n) word) ≡ none → r ≡ Refused 14
-  unfolding countedOf foundOf
-  refused-none h = sym counted ∙ ap (λ (o : Option (List ℕ)). countedOf (foundOf o)) h
-
-  pub reading-some : {w : ℕ} → r ≡ Ones w → Counted (k .n) w (reading (kept k) (unpack (k .n) word)) f
-  unfolding kept
-  reading-some {w} h =
-      rw ef (counted-some (k .n) _ (λ e s. reading-sound (kept k) (unpack (k .n) word) e s .bits) (counted ∙ h))
+  -- its bits are written as a row
+  answered-some : {n w : ℕ} {f : Found} → Counted n w o f → bytesFor n ≤ length out
+      → (Ones w ≡ answerOf q (ones (found o))) × (rowWritten (f .pattern) 0 n out ≡ patternOutput q o out)
+  unfolding isNone unpack
+  answered-some {n} {f} c b =
+      let a = acceptance q o out (e ∙ ap (λ (o : Option (List ℕ)). cond (isNone o) x 0) (c .is)) (c .is) (c .count) in
+      (a .0, written-row (f .pattern) 0 n out b ∙ ap (λ (e : List ℕ). over (pack e) out) (c .bits) ∙ a .1)
 
 -- read
+module _ (k : Key) (word : List ℕ) (z : keyNumber (kept k) ≡ 0) where
+  pub found-reading : {f : Found} → f ≡ foundOf (decoded (kept k) (unpack (k .n) word)) → f ≡ foundOf (reading (kept k) (unpack (k .n) word))
+  found-reading e = e ∙ ap foundOf (decoded-reading k word z)
+
+  pub row-reading : (e : List ℕ) → reading (kept k) (unpack (k .n) word) ≡ some e → Row (k .n) e
+  unfolding kept
+  row-reading e h = reading-sound (kept k) (unpack (k .n) word) e h .bits
+
 module _ (k : Key) (word out : List ℕ) where
   pub read-refusal : {x : ℕ} → x ≡ firstOf (readChecks (kept k) word (length out)) → (x ≡ 0 → ⊥)
       → (Refused x ≡ readOf (kept k) word out) × (out ≡ readOutput (kept k) word out)
@@ -103,15 +107,13 @@ module _ (k : Key) (word out : List ℕ) where
     number = read-number (kept k) word out z
 
     pub read-none : reading (kept k) (unpack (k .n) word) ≡ none → (Refused 14 ≡ readOf (kept k) word out) × (out ≡ readOutput (kept k) word out)
-    unfolding readOf readOutput isNone
-    read-none h = refusal _ _ out 14 (sym (number ∙ ap (λ (o : Option (List ℕ)). cond (isNone o) 14 0) h)) (λ e. omega arith)
+    unfolding readOf readOutput kept
+    read-none h = answered-none 14 (reading (kept k) (unpack (k .n) word)) out number h (λ e. omega arith)
 
     pub read-some : {w : ℕ} {f : Found} → Counted (k .n) w (reading (kept k) (unpack (k .n) word)) f
         → (Ones w ≡ readOf (kept k) word out) × (rowWritten (f .pattern) 0 (k .n) out ≡ readOutput (kept k) word out)
-    unfolding kept readOf readOutput isNone
-    read-some c =
-        let a = acceptance (readNumber (kept k) word out) (reading (kept k) (unpack (k .n) word)) out (number ∙ ap (λ (o : Option (List ℕ)). cond (isNone o) 14 0) (c .is)) (c .is) (c .count) in
-        (a .0, give-row out c (read-clear (kept k) word out z .2) ∙ a .1)
+    unfolding readOf readOutput kept
+    read-some c = answered-some 14 (reading (kept k) (unpack (k .n) word)) out number c (read-clear (kept k) word out z .2)
 
 -- a capsule is the word whose other bits are 0
 zeros : (k n : ℕ) → map {B = ℕ} (λ i. 0) (from k n) ≡ replicate n 0
@@ -130,6 +132,47 @@ unpack-filled m n s w h =
     ∙ ap (λ (i : ℕ). replicate (n - i) 0) (sym (length-unpack m s)))
 
 -- open
+row-exactly : {n : ℕ} (t : ℕ) (o : Option (List ℕ)) → ((e : List ℕ) → o ≡ some e → Row n e) → (e : List ℕ) → exactly t o ≡ some e → Row n e
+unfolding exactly
+row-exactly t none row e h = let z : _≡_ {A = ℕ} 0 1 = cc in absurd (omega arith)
+row-exactly {n} t (some d) row e h = go (eqb (ones d) t) h
+  where
+    go : (b : Bool) → cond b (some d) none ≡ some e → Row n e
+    go true h = row e h
+    go false h = let z : _≡_ {A = ℕ} 0 1 = cc in absurd (omega arith)
+
+-- where the pattern has another number of ones nothing is found, and where it has t the pattern
+module _ (t : ℕ) where
+  pub found-other : (o : Option (List ℕ)) {f : Found} → f ≡ foundOf o → (f .ones ≡ t → ⊥) → foundOf none ≡ foundOf (exactly t o)
+  unfolding exactly foundOf
+  found-other none e h = refl
+  found-other (some p) e h = ap (λ (b : Bool). foundOf (cond b (some p) none)) (sym (ne-eqb (ones p) t (λ q. h (ap (λ (f : Found). f .ones) e ∙ q))))
+
+  pub found-exactly : (o : Option (List ℕ)) {f : Found} → f ≡ foundOf o → f .ones ≡ t → f ≡ foundOf (exactly t o)
+  unfolding exactly foundOf
+  found-exactly none e h = e
+  found-exactly (some p) e h =
+      e ∙ ap (λ (b : Bool). foundOf (cond b (some p) none)) (sym (eq-eqb (ones p) t (sym (ap (λ (f : Found). f .ones) e) ∙ h)))
+
+module _ (k : Key) (capsule : List ℕ) (z : keyNumber (kept k) ≡ 0) (w : wellFormed (capsuleBits (kept k)) capsule ≡ true) where
+  opening-exactly : opening (kept k) (unpack (capsuleBits (kept k)) capsule) ≡ exactly (k .t) (reading (kept k) (unpack (k .n) capsule))
+  unfolding kept opening capsuleBits
+  opening-exactly =
+      let A : Accepted (kept k) = accepted (kept k) z in
+      let l = A .limits .over in
+      ap (λ (w : List ℕ). exactly (k .t) (reading (kept k) w)) (sym (unpack-filled (k .m * k .t) (k .n) capsule w (omega arith)))
+
+  -- a pattern with exactly t ones that is found in a capsule is that of opening
+  pub exactly-opening : exactly (k .t) (decoded (kept k) (unpack (k .n) capsule)) ≡ opening (kept k) (unpack (capsuleBits (kept k)) capsule)
+  exactly-opening = ap (exactly (k .t)) (decoded-reading k capsule z) ∙ sym opening-exactly
+
+  pub found-opening : {f : Found} → f ≡ foundOf (exactly (k .t) (decoded (kept k) (unpack (k .n) capsule)))
+      → f ≡ foundOf (opening (kept k) (unpack (capsuleBits (kept k)) capsule))
+  found-opening e = e ∙ ap foundOf exactly-opening
+
+  pub row-opening : (e : List ℕ) → opening (kept k) (unpack (capsuleBits (kept k)) capsule) ≡ some e → Row (k .n) e
+  row-opening e h = row-exactly (k .t) _ (row-reading k capsule z) e (sym opening-exactly ∙ h)
+
 module _ (unpublished : Bool) (k : Key) (capsule out : List ℕ) where
   pub open-refusal : {x : ℕ} → x ≡ firstOf (openChecks unpublished (kept k) capsule (length out)) → (x ≡ 0 → ⊥)
       → (Refused x ≡ openOf unpublished (kept k) capsule out) × (out ≡ openOutput unpublished (kept k) capsule out)
@@ -137,39 +180,15 @@ module _ (unpublished : Bool) (k : Key) (capsule out : List ℕ) where
   open-refusal e h = refusal _ _ out _ (open-refused unpublished (kept k) capsule out e h) h
 
   module _ (z : firstOf (openChecks unpublished (kept k) capsule (length out)) ≡ 0) where
-    pub opening-exactly : opening (kept k) (unpack (capsuleBits (kept k)) capsule) ≡ exactly (k .t) (reading (kept k) (unpack (k .n) capsule))
-    unfolding kept opening capsuleBits
-    opening-exactly =
-        let c = open-clear unpublished (kept k) capsule out z in
-        let A : Accepted (kept k) = accepted (kept k) (c .0) in
-        let l = A .limits .over in
-        ap (λ (w : List ℕ). exactly (k .t) (reading (kept k) w)) (sym (unpack-filled (k .m * k .t) (k .n) capsule (c .1) (omega arith)))
+    number-opening : openNumber unpublished (kept k) capsule out ≡ cond (isNone (opening (kept k) (unpack (capsuleBits (kept k)) capsule))) 13 0
+    number-opening = open-number unpublished (kept k) capsule out z
 
-    number-of : {o : Option (List ℕ)} → opening (kept k) (unpack (capsuleBits (kept k)) capsule) ≡ o → openNumber unpublished (kept k) capsule out ≡ cond (isNone o) 13 0
-    number-of h = open-number unpublished (kept k) capsule out z ∙ ap (λ (o : Option (List ℕ)). cond (isNone o) 13 0) h
-
-    refused-13 : opening (kept k) (unpack (capsuleBits (kept k)) capsule) ≡ none
+    pub open-none : opening (kept k) (unpack (capsuleBits (kept k)) capsule) ≡ none
         → (Refused 13 ≡ openOf unpublished (kept k) capsule out) × (out ≡ openOutput unpublished (kept k) capsule out)
-    unfolding openOf openOutput isNone
-    refused-13 h = refusal _ _ out 13 (sym (number-of h)) (λ e. omega arith)
+    unfolding openOf openOutput
+    open-none h = answered-none 13 (opening (kept k) (unpack (capsuleBits (kept k)) capsule)) out number-opening h (λ e. omega arith)
 
-    pub open-none : reading (kept k) (unpack (k .n) capsule) ≡ none
-        → (Refused 13 ≡ openOf unpublished (kept k) capsule out) × (out ≡ openOutput unpublished (kept k) capsule out)
-    unfolding exactly
-    open-none h = refused-13 (opening-exactly ∙ ap (exactly (k .t)) h)
-
-    module _ {w : ℕ} {f : Found} (c : Counted (k .n) w (reading (kept k) (unpack (k .n) capsule)) f) where
-      pub open-other : (w ≡ k .t → ⊥) → (Refused 13 ≡ openOf unpublished (kept k) capsule out) × (out ≡ openOutput unpublished (kept k) capsule out)
-      unfolding exactly
-      open-other h =
-          refused-13 (opening-exactly ∙ ap (exactly (k .t)) (c .is)
-          ∙ ap (λ (b : Bool). cond b (some (c .e)) none) (ne-eqb _ _ (λ q. h (c .count ∙ q))))
-
-      pub open-some : w ≡ k .t
-          → (Ones w ≡ openOf unpublished (kept k) capsule out) × (rowWritten (f .pattern) 0 (k .n) out ≡ openOutput unpublished (kept k) capsule out)
-      unfolding kept openOf openOutput exactly isNone
-      open-some h =
-          let s : opening (kept k) (unpack (capsuleBits (kept k)) capsule) ≡ some (c .e) =
-          opening-exactly ∙ ap (exactly (k .t)) (c .is) ∙ ap (λ (b : Bool). cond b (some (c .e)) none) (eq-eqb _ _ (sym (c .count) ∙ h)) in
-          let a = acceptance (openNumber unpublished (kept k) capsule out) (opening (kept k) (unpack (capsuleBits (kept k)) capsule)) out (number-of s) s (c .count) in
-          (a .0, give-row out c (open-clear unpublished (kept k) capsule out z .2) ∙ a .1)
+    pub open-some : {w : ℕ} {f : Found} → Counted (k .n) w (opening (kept k) (unpack (capsuleBits (kept k)) capsule)) f
+        → (Ones w ≡ openOf unpublished (kept k) capsule out) × (rowWritten (f .pattern) 0 (k .n) out ≡ openOutput unpublished (kept k) capsule out)
+    unfolding kept openOf openOutput
+    open-some c = answered-some 13 (opening (kept k) (unpack (capsuleBits (kept k)) capsule)) out number-opening c (open-clear unpublished (kept k) capsule out z .2)

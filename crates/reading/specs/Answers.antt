@@ -1,6 +1,6 @@
 -- What the calls answer, and the terms of their private functions. Assumes nothing.
 use mathlib.Core.Bool.{Bool, cond, not}
-use mathlib.Core.List.{List, [], _∷_}
+use mathlib.Core.List.{List, [], _∷_, _++_}
 use Prim.Native.Nat.{ℕ, zero, suc}
 use lib.Dec.{eqb, ltb}
 use lib.ListN.{length}
@@ -26,9 +26,13 @@ unfoldable pub openOf : Bool → Key → List ℕ → List ℕ → Answer
 openOf unpublished k capsule out =
     answerOf (openNumber unpublished k capsule out) (ones (found (opening k (unpack (capsuleBits k) capsule))))
 
--- 8, 9, 10 for a row of k bits and an output of len bytes for n bits
+-- 8, 9 for a row of k bits
+unfoldable pub rowChecks : ℕ → List ℕ → List (Bool × ℕ)
+rowChecks k row = (not (eqb (length row) (bytesFor k)), 8) ∷ (not (fillerClear k row), 9) ∷ []
+
+-- and 10 for an output of len bytes for n bits
 unfoldable pub bufferChecks : ℕ → ℕ → List ℕ → ℕ → List (Bool × ℕ)
-bufferChecks k n row len = (not (eqb (length row) (bytesFor k)), 8) ∷ (not (fillerClear k row), 9) ∷ (ltb len (bytesFor n), 10) ∷ []
+bufferChecks k n row len = rowChecks k row ++ ((ltb len (bytesFor n), 10) ∷ [])
 
 -- 25, and these of a word
 unfoldable pub readChecks : Key → List ℕ → ℕ → List (Bool × ℕ)
@@ -38,6 +42,6 @@ readChecks k word len = (unsound k, 25) ∷ bufferChecks (k .n) (k .n) word len
 unfoldable pub openChecks : Bool → Key → List ℕ → ℕ → List (Bool × ℕ)
 openChecks unpublished k capsule len = (unsound k, 25) ∷ (unpublished, 24) ∷ bufferChecks (capsuleBits k) (k .n) capsule len
 
--- the ones of a pattern that is found, else 14
-unfoldable pub countedOf : Found → Answer
-countedOf e = cond (e .found) (variants.Ones (e .ones)) (variants.Refused 14)
+-- the ones of a pattern that is found, else the refusal with the number x
+unfoldable pub countedOf : ℕ → Found → Answer
+countedOf x e = cond (e .found) (variants.Ones (e .ones)) (variants.Refused x)

@@ -6,12 +6,14 @@ use key::checks::check;
 use key::kept::Key;
 ghost use mathlib.Core.Path.{_≡_};
 ghost use mathlib.Core.Bool.{not};
-ghost use Rattle.bits.specs.Bits.{rowWritten};
+ghost use Rattle.bits.specs.Bits.{unpack, rowWritten};
 ghost use Rattle.field.specs.Numbers.{firstOf};
 ghost use Rattle.field.specs.Verdicts.{verdictOf};
 ghost use Rattle.key.specs.Kept.{kept, parts};
+ghost use Rattle.decoder.specs.Reading.{exactly};
 ghost use Rattle.decoder.specs.Calls.{openOutput, readOutput};
-ghost use Rattle.reading.specs.Answers.{bufferChecks, openChecks, readChecks, countedOf, openOf, readOf};
+ghost use Rattle.decoding.specs.Parts.{decoded, foundOf};
+ghost use Rattle.reading.specs.Answers.{rowChecks, bufferChecks, openChecks, readChecks, countedOf, openOf, readOf};
 
 // The number of ones of the pattern that is written, or the number of a refusal.
 pub enum Answer {
@@ -19,9 +21,9 @@ pub enum Answer {
     Refused(u8),
 }
 
-// Whether a row of k bits and an output of len bytes for n bits are right: 8, 9 or 10 on refusal.
-fn check_buffers(k: usize, n: usize, row: &[u8], len: usize) -> Verdict
-    ensures { λ r. ⌜ r ≡ verdictOf (firstOf (bufferChecks k n (now (row .entry)) len)) ⌝ }
+// Whether a row of k bits is right: 8 or 9 on refusal.
+pub fn check_row(k: usize, row: &[u8]) -> Verdict
+    ensures { λ r. ⌜ r ≡ verdictOf (firstOf (rowChecks k (now (row .entry)))) ⌝ }
 {
     if row.len() != bits::bytes_for(k) {
         return Verdict::Refused(8);
@@ -29,10 +31,21 @@ fn check_buffers(k: usize, n: usize, row: &[u8], len: usize) -> Verdict
     if !bits::filler_clear(row, k) {
         return Verdict::Refused(9);
     }
+    Verdict::Accepted
+}
+
+// Whether a row of k bits and an output of len bytes for n bits are right: 8, 9 or 10 on refusal.
+fn check_buffers(k: usize, n: usize, row: &[u8], len: usize) -> Verdict
+    ensures { λ r. ⌜ r ≡ verdictOf (firstOf (bufferChecks k n (now (row .entry)) len)) ⌝ }
+{
+    let x = check_row(k, row);
+    let Verdict::Accepted = x else {
+        return x;
+    };
     if len < bits::bytes_for(n) {
         return Verdict::Refused(10);
     }
-    Verdict::Accepted
+    x
 }
 
 // Whether a word can be read: 25, 8, 9 or 10 on refusal.
@@ -77,12 +90,12 @@ fn check_capsule<'a>(
     check_buffers(k, n as usize, capsule, len)
 }
 
-// The number of ones of the pattern found, or 14 where there is none.
-fn counted(e: Found) -> Answer
-    ensures { λ r. ⌜ r ≡ countedOf e ⌝ }
+// The number of ones of the pattern found, or the refusal with a number where there is none.
+fn counted(e: Found, number: u8) -> Answer
+    ensures { λ r. ⌜ r ≡ countedOf number e ⌝ }
 {
     if !e.found {
-        return Answer::Refused(14);
+        return Answer::Refused(number);
     }
     Answer::Ones(e.ones)
 }
@@ -113,7 +126,7 @@ pub fn read<'a>(
         return Answer::Refused(field::number(x));
     };
     let e = decode(m, n, t, support, g, word);
-    let answer = counted(e);
+    let answer = counted(e, 14);
     let Answer::Ones(w) = answer else {
         return answer;
     };
@@ -121,7 +134,30 @@ pub fn read<'a>(
     Answer::Ones(w)
 }
 
-// Opening a capsule, the word whose other bits are 0, where the pattern has t ones; 25, 24, 8, 9, 10 or 13 on refusal.
+// The pattern found in a capsule, the word whose other bits are 0, where it has exactly t ones: at a key that load accepts and a
+// capsule of the right form the pattern that opening gives (`found-opening`).
+pub fn open_checked<'a>(
+    m: u8,
+    n: u16,
+    t: u16,
+    support: &'a [u16; Key::MOST_PLACES],
+    g: &'a [u16; Key::MOST_ERRORS],
+    capsule: &[u8],
+) -> Found
+    ensures { λ r. ⌜ r ≡ foundOf (exactly t (decoded (kept (parts m n t (now (support .entry)) (now (g .entry)))) (unpack n (now (capsule .entry))))) ⌝ }
+{
+    let e = decode(m, n, t, support, g, capsule);
+    if e.ones != t {
+        return Found {
+            found: false,
+            ones: 0,
+            pattern: [0u8; 1024],
+        };
+    }
+    e
+}
+
+// Opening a capsule: its pattern is written from the output's start, and nothing on refusal, with 25, 24, 8, 9, 10 or 13.
 pub fn open<'a>(
     m: u8,
     n: u16,
@@ -139,14 +175,11 @@ pub fn open<'a>(
     let Verdict::Accepted = x else {
         return Answer::Refused(field::number(x));
     };
-    let e = decode(m, n, t, support, g, capsule);
-    let answer = counted(e);
+    let e = open_checked(m, n, t, support, g, capsule);
+    let answer = counted(e, 13);
     let Answer::Ones(ones) = answer else {
-        return Answer::Refused(13);
+        return answer;
     };
-    if ones != t {
-        return Answer::Refused(13);
-    }
     give(out, e, n);
     Answer::Ones(ones)
 }

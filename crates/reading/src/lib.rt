@@ -2,5 +2,7 @@
 mod calls;
 
 pub use calls::Answer;
+pub use calls::check_row;
 pub use calls::open;
+pub use calls::open_checked;
 pub use calls::read;

@@ -46,6 +46,11 @@ occurrences v (x ∷ l) = cond (eqb x v) 1 0 + occurrences v l
 unfoldable pub countsOf : List ℕ → List ℕ
 countsOf records = map (λ v. occurrences v records) (from 0 256)
 
+-- the sum of the numbers of a list
+unfoldable pub total : List ℕ → ℕ
+total [] = 0
+total (x ∷ l) = x + total l
+
 -- 25, 24, 31
 unfoldable pub reportConditions : Bool → Bool → Key → List ℕ → List ℕ → List (Bool × ℕ)
 reportConditions bad unpublished k buffer records =

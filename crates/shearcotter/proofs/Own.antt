@@ -4,11 +4,15 @@ use mathlib.Core.Path.{_≡_, refl, sym, ap, _∙_}
 use mathlib.Core.List.{List}
 use native.Mathlib.Omega.{arith}
 use Rattle.key.specs.declared.kept.Key.{Key}
-use Rattle.ledger.specs.Calls.{Call, load, publish, step}
-use Rattle.station.specs.Replies.{byteOf, view, refusal, acceptance, moved, replyOf, handed}
+use Rattle.ledger.specs.Loading.{Loading}
+use Rattle.ledger.specs.Publishing.{Publishing}
+use Rattle.ledger.specs.Questions.{report}
+use Rattle.ledger.specs.Calls.{Call, load, publish, ask, step}
+use Rattle.station.specs.Replies.{byteOf, view, refusal, acceptance, moved, replyOf, handed, reportedOf}
 use Rattle.station.specs.declared.Station.{Station}
 use Rattle.station.specs.declared.Reply.{Reply}
-use Rattle.station.proofs.StepView.{refused-reply}
+use Rattle.station.specs.declared.Reported.{Reported}
+use Rattle.station.proofs.StepView.{refused-reply, question-left}
 
 -- a reply with another station
 abbrev pub with : Station → Reply → Reply
@@ -33,28 +37,37 @@ module _ (s : Station) (c : Call) (r : Reply) (e : r ≡ handed s c .reply) wher
       go (suc n) = refl
 
 -- an accepted load leaves a station that is not empty
-full : (s : Station) (file : List ℕ) (n w : ℕ) → replyOf n s (moved s (load file)) w .refused ≡ 0 → replyOf n s (moved s (load file)) w .station .state ≡ 0 → ⊥
+full : (s : Station) (f : Loading) (n w : ℕ) → replyOf n s (moved s (load f)) w .refused ≡ 0 → replyOf n s (moved s (load f)) w .station .state ≡ 0 → ⊥
 unfolding replyOf acceptance refusal moved byteOf
-full s file zero w z h = omega arith
-full s file (suc n) w z h = omega arith
+full s f zero w z h = omega arith
+full s f (suc n) w z h = omega arith
 
-module _ (s : Station) (file : List ℕ) (r : Reply) (e : r ≡ handed s (load file) .reply) where
-  pub own-empty : r .station .state ≡ 0 → refusal s (r .refused) ≡ handed s (load file) .reply
+module _ (s : Station) (f : Loading) (r : Reply) (e : r ≡ handed s (load f) .reply) where
+  pub own-empty : r .station .state ≡ 0 → refusal s (r .refused) ≡ handed s (load f) .reply
   unfolding handed
   own-empty h =
-      own-refused s (load file) r e (λ z.
-      full s file (step (view s) (load file) .number) (step (view s) (load file) .count)
+      own-refused s (load f) r e (λ z.
+      full s f (step (view s) (load f) .number) (step (view s) (load f) .count)
       (ap (λ (q : Reply). q .refused) (sym e) ∙ z) (ap (λ (q : Reply). q .station .state) (sym e) ∙ h))
 
 -- publish leaves the key
-module _ (s : Station) (out work : List ℕ) (r : Reply) (e : r ≡ handed s (publish out work) .reply) where
-  pub own-key : with (record { state = r .station .state; key = s .key }) r ≡ handed s (publish out work) .reply
+module _ (s : Station) (p : Publishing) (r : Reply) (e : r ≡ handed s (publish p) .reply) where
+  pub own-key : with (record { state = r .station .state; key = s .key }) r ≡ handed s (publish p) .reply
   unfolding handed replyOf acceptance refusal moved
   own-key =
       ap (λ (q : Reply). with (record { state = q .station .state; key = s .key }) q) e
-      ∙ ap (λ (k : Key). with (record { state = handed s (publish out work) .reply .station .state; key = k }) (handed s (publish out work) .reply))
-      (sym (go (step (view s) (publish out work) .number)))
+      ∙ ap (λ (k : Key). with (record { state = handed s (publish p) .reply .station .state; key = k }) (handed s (publish p) .reply))
+      (sym (go (step (view s) (publish p) .number)))
     where
-      go : (n : ℕ) → replyOf n s (moved s (publish out work)) (step (view s) (publish out work) .count) .station .key ≡ s .key
+      go : (n : ℕ) → replyOf n s (moved s (publish p)) (step (view s) (publish p) .count) .station .key ≡ s .key
       go zero = refl
       go (suc n) = refl
+
+-- a report leaves the station
+pub own-reported : (s : Station) (capsules records : List ℕ) {r : Reported} → (let h = handed s (ask (report capsules records)) in
+    r ≡ reportedOf h → record { station = s; refused = r .refused; counts = r .counts } ≡ reportedOf h)
+unfolding reportedOf
+own-reported s capsules records e =
+    let h = handed s (ask (report capsules records)) in
+    ap (λ (q : Reported). record { station = s; refused = q .refused; counts = q .counts }) e
+    ∙ ap (λ (t : Station). record { station = t; refused = h .reply .refused; counts = h .answer }) (sym (question-left s (report capsules records)))

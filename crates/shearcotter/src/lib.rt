@@ -6,6 +6,7 @@ use boundary::as_element;
 use boundary::as_shape;
 use field::Verdict;
 use station::Reply;
+use station::Reported;
 use station::Station;
 ghost use mathlib.Core.Path.{_≡_};
 ghost use lib.ListN.{drop};
@@ -13,8 +14,11 @@ ghost use Rattle.field.specs.Answers.{addOf, multiplyOf, invertOf};
 ghost use Rattle.register.specs.Registered.{registeredOf};
 ghost use Rattle.key.specs.Answers.{shapeOf};
 ghost use Rattle.code.specs.Lock.{lockNumber, lockOutput};
-ghost use Rattle.ledger.specs.Calls.{load, publish, open-capsule, read-word, drop-key};
-ghost use Rattle.station.specs.Replies.{freshStation, handed};
+ghost use Rattle.ledger.specs.Loading.{key-file};
+ghost use Rattle.ledger.specs.Publishing.{systematic};
+ghost use Rattle.ledger.specs.Questions.{open-capsule, read-word, report};
+ghost use Rattle.ledger.specs.Calls.{load, publish, ask, drop-key};
+ghost use Rattle.station.specs.Replies.{freshStation, handed, reportedOf};
 ghost use Rattle.boundary.specs.Boundary.{asElement, asShape};
 
 // The sum of two elements; 1 or 4 on refusal.
@@ -88,7 +92,7 @@ pub extern "C" fn shearcotter_fresh() -> Station
 // The file's key is kept; 22, 1, 2, 3, 4, 5, 6 or 7 on refusal.
 #[no_mangle]
 pub extern "C" fn shearcotter_load(own: Station, file: &[u8]) -> Reply
-    ensures { λ r. ⌜ r ≡ handed own (load (now (file .entry))) .reply ⌝ }
+    ensures { λ r. ⌜ r ≡ handed own (load (key-file (now (file .entry)))) .reply ⌝ }
 {
     let loaded = own.load(file);
     let next = loaded.station;
@@ -113,9 +117,9 @@ pub extern "C" fn shearcotter_load(own: Station, file: &[u8]) -> Reply
 // other bytes of work keep their contents, and these too under 21, 25, 10 and 11.
 #[no_mangle]
 pub extern "C" fn shearcotter_publish(own: Station, out: &mut [u8], work: &mut [u8]) -> Reply
-    ensures reply { λ r. ⌜ r ≡ handed own (publish (now (out .entry)) (now (work .entry))) .reply ⌝ }
-    ensures output { λ _. ⌜ now (out .exit) ≡ handed own (publish (now (out .entry)) (now (work .entry))) .output ⌝ }
-    ensures workspace { λ _. ⌜ (let f = handed own (publish (now (out .entry)) (now (work .entry))) .free in
+    ensures reply { λ r. ⌜ r ≡ handed own (publish (systematic (now (out .entry)) (now (work .entry)))) .reply ⌝ }
+    ensures output { λ _. ⌜ now (out .exit) ≡ handed own (publish (systematic (now (out .entry)) (now (work .entry)))) .output ⌝ }
+    ensures workspace { λ _. ⌜ (let f = handed own (publish (systematic (now (out .entry)) (now (work .entry)))) .free in
         drop f (now (work .exit)) ≡ drop f (now (work .entry))) ⌝ }
 {
     let published = own.publish(out, work);
@@ -132,8 +136,8 @@ pub extern "C" fn shearcotter_publish(own: Station, out: &mut [u8], work: &mut [
 // The pattern of a capsule is written from the output's start; 21, 25, 24, 8, 9, 10 or 13 on refusal.
 #[no_mangle]
 pub extern "C" fn shearcotter_open(own: Station, capsule: &[u8], out: &mut [u8]) -> Reply
-    ensures reply { λ r. ⌜ r ≡ handed own (open-capsule (now (capsule .entry)) (now (out .entry))) .reply ⌝ }
-    ensures output { λ _. ⌜ now (out .exit) ≡ handed own (open-capsule (now (capsule .entry)) (now (out .entry))) .output ⌝ }
+    ensures reply { λ r. ⌜ r ≡ handed own (ask (open-capsule (now (capsule .entry)) (now (out .entry)))) .reply ⌝ }
+    ensures output { λ _. ⌜ now (out .exit) ≡ handed own (ask (open-capsule (now (capsule .entry)) (now (out .entry)))) .output ⌝ }
 {
     let opened = own.open(capsule, out);
     Reply {
@@ -146,14 +150,30 @@ pub extern "C" fn shearcotter_open(own: Station, capsule: &[u8], out: &mut [u8])
 // The pattern of a word is written from the output's start; 21, 25, 8, 9, 10 or 14 on refusal.
 #[no_mangle]
 pub extern "C" fn shearcotter_read(own: Station, word: &[u8], out: &mut [u8]) -> Reply
-    ensures reply { λ r. ⌜ r ≡ handed own (read-word (now (word .entry)) (now (out .entry))) .reply ⌝ }
-    ensures output { λ _. ⌜ now (out .exit) ≡ handed own (read-word (now (word .entry)) (now (out .entry))) .output ⌝ }
+    ensures reply { λ r. ⌜ r ≡ handed own (ask (read-word (now (word .entry)) (now (out .entry)))) .reply ⌝ }
+    ensures output { λ _. ⌜ now (out .exit) ≡ handed own (ask (read-word (now (word .entry)) (now (out .entry)))) .output ⌝ }
 {
     let found = own.read(word, out);
     Reply {
         station: own,
         refused: found.refused,
         ones: found.ones,
+    }
+}
+
+// The record of each capsule is written from the record buffer's start, and the records are counted by their value; 21, 25, 24 or
+// 31 on refusal.
+#[no_mangle]
+pub extern "C" fn shearcotter_report(own: Station, capsules: &[u8], records: &mut [u8]) -> Reported
+    ensures reply { λ r. ⌜ r ≡ reportedOf (handed own (ask (report (now (capsules .entry)) (now (records .entry))))) ⌝ }
+    ensures output { λ _. ⌜ now (records .exit) ≡ handed own (ask (report (now (capsules .entry)) (now (records .entry)))) .output ⌝ }
+{
+    let reported = own.report(capsules, records);
+    let counts = reported.counts;
+    Reported {
+        station: own,
+        refused: reported.refused,
+        counts,
     }
 }
 

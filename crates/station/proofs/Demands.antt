@@ -1,8 +1,10 @@
--- The three demands of the code's calls, and in their own words. Assumes nothing.
+-- The three demands of the code's calls, and in their own words; the import report. Assumes nothing.
 use Rattle.ledger.specs.Demands.{Demands}
 use Rattle.ledger.specs.OwnWords.{OwnWords}
+use Rattle.ledger.specs.Reports.{ImportReport}
 use Rattle.ledger.proofs.Simulation as Simulation
 use Rattle.ledger.proofs.OwnWords as Words
+use Rattle.ledger.proofs.Reports as Reports
 use Rattle.station.specs.Replies.{code}
 use Rattle.station.proofs.StepView.{code-simulates}
 
@@ -11,3 +13,6 @@ demands = Simulation.demands code code-simulates
 
 pub own-words : OwnWords code
 own-words = Words.own-words code code-simulates
+
+pub import-report : ImportReport code
+import-report = Reports.import-report code code-simulates

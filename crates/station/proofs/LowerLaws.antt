@@ -21,18 +21,20 @@ use Rattle.key.specs.declared.shape.ShapeAnswer.the-variants as shapes
 use Rattle.key_file.specs.Loaded.{loadedOf, writtenOf}
 use Rattle.key_file.proofs.Files.{read-accepted}
 use Rattle.code.specs.Publish.{freeBytes, publishNumber, publishOutput}
-use Rattle.decoder.specs.Calls.{openOutput, readOutput, patternOutput}
+use Rattle.decoder.specs.Calls.{openNumber, readNumber, openOutput, readOutput, patternOutput}
 use Rattle.reading.specs.Answers.{answerOf}
 use Rattle.reading.specs.Answers as Answers
 use Rattle.reading.specs.declared.calls.Answer.{Answer}
 use Rattle.reading.specs.declared.calls.Answer.the-variants as answers
-use Rattle.ledger.specs.Station.{loaded, published as isPublished, isEmpty, isUnpublished, openOf, readOf}
-use Rattle.ledger.specs.Calls.{Call, load, publish, open-capsule, read-word}
-use Rattle.ledger.specs.Demands.{outputOf}
-use Rattle.ledger.proofs.StepLaws.{step-free, freed}
+use Rattle.ledger.specs.Station.{loaded, published as isPublished, isEmpty, isUnpublished, heldBy}
+use Rattle.ledger.specs.Loading.{key-file, loadingConditions, loadedKey}
+use Rattle.ledger.specs.Publishing.{systematic, publicBuffer, publishingConditions, publication, freedBytes}
+use Rattle.ledger.specs.Questions.{open-capsule, read-word, answerBuffer, questionConditions, gives, given}
+use Rattle.ledger.specs.Calls.{Call, load, publish, ask, outputOf, made}
+use Rattle.ledger.proofs.StepLaws.{step-free}
 use Rattle.station.specs.Replies.{stateOf, byteOf, view, answerNumber, refusal, acceptance, moved, handed}
 use Rattle.station.specs.declared.Station.{Station}
-use Rattle.station.proofs.ReplyLaws.{stop, lower, tally, bytes, lower-refused, lower-accepted, lower-output}
+use Rattle.station.proofs.ReplyLaws.{stop, lower, lower-refused, lower-accepted, lower-output}
 
 -- load, on an empty station
 loaded-number : (q : ℕ) (s : ℕ × ℕ × ℕ) → loadedNumber (shapeAnswer q s) ≡ q
@@ -51,24 +53,24 @@ loaded-refused zero s e h = let z : _≡_ {A = ℕ} 0 1 = cc in omega arith
 loaded-refused (suc q) s e h = omega arith
 
 module _ (s : Station) (file : List ℕ) (empty : isEmpty (stateOf (s .state)) ≡ true) (a : ShapeAnswer) (e : a ≡ loadedOf file) where
-  load-passes : stop s (load file) .0 ≡ false
+  load-passes : stop s (load (key-file file)) .0 ≡ false
   unfolding stop
   load-passes = ap not empty
 
-  load-number : loadedNumber a ≡ lower s (load file)
-  unfolding lower loadedOf
+  load-number : loadedNumber a ≡ lower s (load (key-file file))
+  unfolding lower loadingConditions loadedOf
   load-number = ap loadedNumber e ∙ loaded-number _ _
 
-  pub load-refused : {x : ℕ} → a ≡ shapes.Refused x → refusal s (loadedNumber a) ≡ handed s (load file) .reply
-  unfolding lower loadedOf
+  pub load-refused : {x : ℕ} → a ≡ shapes.Refused x → refusal s (loadedNumber a) ≡ handed s (load (key-file file)) .reply
+  unfolding lower loadingConditions loadedOf
   load-refused h =
-      lower-refused s (load file) load-passes (loadedNumber a) load-number (λ z. loaded-refused _ _ (sym e ∙ h) (sym load-number ∙ z))
+      lower-refused s (load (key-file file)) load-passes (loadedNumber a) load-number (λ z. loaded-refused _ _ (sym e ∙ h) (sym load-number ∙ z))
 
   -- the elements are written over zeros
   pub load-accepted : {z : Sizes} {x y : List ℕ} → a ≡ shapes.Sizes z → x ≡ over (writtenOf file .support) (replicate 8192 0)
       → y ≡ over (writtenOf file .g) (replicate 128 0)
-      → acceptance (record { state = byteOf loaded; key = parts (z .m) (z .n) (z .t) x y }) 0 ≡ handed s (load file) .reply
-  unfolding moved tally lower loadedOf keep sizes
+      → acceptance (record { state = byteOf loaded; key = parts (z .m) (z .n) (z .t) x y }) 0 ≡ handed s (load (key-file file)) .reply
+  unfolding moved made lower loadingConditions loadedKey loadedOf keep sizes
   load-accepted {z} h p q =
       let o = loaded-sizes _ _ (sym e ∙ h) in
       let k = read-accepted file (o .0) in
@@ -76,38 +78,38 @@ module _ (s : Station) (file : List ℕ) (empty : isEmpty (stateOf (s .state)) �
       (ap₂ (λ (x y : List ℕ). parts (z .m) (z .n) (z .t) x y) (p ∙ ap (λ (r : Key). over (r .support) (replicate 8192 0)) k ∙ over-zeros 8192 _)
       (q ∙ ap (λ (r : Key). over (r .g) (replicate 128 0)) k ∙ over-zeros 128 _)
       ∙ ap (λ (z : Sizes). parts (z .m) (z .n) (z .t) (padded 8192 (parse file .support)) (padded 128 (parse file .g))) (o .1))
-      ∙ lower-accepted s (load file) load-passes (o .0)
+      ∙ lower-accepted s (load (key-file file)) load-passes (o .0)
 
 -- publish, with a key
 module _ (s : Station) (out work : List ℕ) (keyed : isEmpty (stateOf (s .state)) ≡ false) where
-  publish-passes : stop s (publish out work) .0 ≡ false
+  publish-passes : stop s (publish (systematic out work)) .0 ≡ false
   unfolding stop
   publish-passes = keyed
 
   module _ (a : Verdict) (e : a ≡ verdictOf (publishNumber (kept (s .key)) out work)) where
-    publish-number : numberOf a ≡ lower s (publish out work)
-    unfolding lower
+    publish-number : numberOf a ≡ lower s (publish (systematic out work))
+    unfolding lower publishingConditions heldBy view publishNumber
     publish-number = verdict-number _ e
 
-    pub publish-refused : {x : ℕ} → a ≡ verdicts.Refused x → refusal s (numberOf a) ≡ handed s (publish out work) .reply
-    unfolding lower
+    pub publish-refused : {x : ℕ} → a ≡ verdicts.Refused x → refusal s (numberOf a) ≡ handed s (publish (systematic out work)) .reply
+    unfolding lower publishingConditions heldBy view publishNumber
     publish-refused h =
-        lower-refused s (publish out work) publish-passes (numberOf a) publish-number (λ z. verdict-refused _ e h (sym publish-number ∙ z))
+        lower-refused s (publish (systematic out work)) publish-passes (numberOf a) publish-number (λ z. verdict-refused _ e h (sym publish-number ∙ z))
 
-    pub publish-done : a ≡ verdicts.Accepted → acceptance (record { state = byteOf isPublished; key = s .key }) 0 ≡ handed s (publish out work) .reply
-    unfolding lower moved tally
-    publish-done h = lower-accepted s (publish out work) publish-passes (verdict-accepted _ e h)
+    pub publish-done : a ≡ verdicts.Accepted → acceptance (record { state = byteOf isPublished; key = s .key }) 0 ≡ handed s (publish (systematic out work)) .reply
+    unfolding lower publishingConditions heldBy view publishNumber moved made
+    publish-done h = lower-accepted s (publish (systematic out work)) publish-passes (verdict-accepted _ e h)
 
-  pub publish-output : publishOutput (kept (s .key)) out work ≡ handed s (publish out work) .output
-  unfolding publishOutput lower bytes view outputOf
-  publish-output = lower-output s (publish out work) publish-passes
+  pub publish-output : publishOutput (kept (s .key)) out work ≡ handed s (publish (systematic out work)) .output
+  unfolding publishOutput publishNumber lower publishingConditions heldBy made publication view outputOf publicBuffer
+  publish-output = lower-output s (publish (systematic out work)) publish-passes
 
   pub publish-work : (before after : List ℕ) → (let f = freeBytes (kept (s .key)) out work in drop f after ≡ drop f before)
-      → (let f = handed s (publish out work) .free in drop f after ≡ drop f before)
-  unfolding handed freed view
+      → (let f = handed s (publish (systematic out work)) .free in drop f after ≡ drop f before)
+  unfolding handed made freedBytes view
   publish-work before after =
       subst (λ (f : ℕ). drop f after ≡ drop f before)
-      (sym (step-free (view s) (publish out work) ∙ ap (λ (b : Bool). cond b 0 (freeBytes (kept (s .key)) out work)) keyed))
+      (sym (step-free (view s) (publish (systematic out work)) ∙ ap (λ (b : Bool). cond b 0 (freeBytes (kept (s .key)) out work)) keyed))
 
 -- open and read, with a key
 answer-number : (q w : ℕ) → answerNumber (answerOf q w) ≡ q
@@ -125,7 +127,7 @@ unfolding answerOf
 answer-refused zero v e h = let z : _≡_ {A = ℕ} 0 1 = cc in omega arith
 answer-refused (suc q) v e h = omega arith
 
-module _ (s : Station) (c : Call) (passes : stop s c .0 ≡ false) (a : Answer) (e : a ≡ answerOf (lower s c) (tally (view s) c)) where
+module _ (s : Station) (c : Call) (passes : stop s c .0 ≡ false) (a : Answer) (e : a ≡ answerOf (lower s c) (made (view s) c .count)) where
   answered-number : answerNumber a ≡ lower s c
   answered-number = ap answerNumber e ∙ answer-number _ _
 
@@ -138,36 +140,36 @@ module _ (s : Station) (c : Call) (passes : stop s c .0 ≡ false) (a : Answer) 
       let o = answer-ones _ _ (sym e ∙ h) in
       ap (acceptance (moved s c)) (o .1) ∙ lower-accepted s c passes (o .0)
 
-not-not : (b : Bool) → not (not b) ≡ b
+pub not-not : (b : Bool) → not (not b) ≡ b
 not-not true = refl
 not-not false = refl
 
 module _ (s : Station) (capsule out : List ℕ) (keyed : isEmpty (stateOf (s .state)) ≡ false) (b : Bool) (e : b ≡ not (isUnpublished (stateOf (s .state)))) where
-  pub open-passes : stop s (open-capsule capsule out) .0 ≡ false
+  pub open-passes : stop s (ask (open-capsule capsule out)) .0 ≡ false
   unfolding stop
   open-passes = keyed
 
   marked : not b ≡ isUnpublished (stateOf (s .state))
   marked = ap not e ∙ not-not _
 
-  pub open-answer : Answers.openOf (not b) (kept (s .key)) capsule out ≡ answerOf (lower s (open-capsule capsule out)) (tally (view s) (open-capsule capsule out))
-  unfolding lower tally view Answers.openOf
+  pub open-answer : Answers.openOf (not b) (kept (s .key)) capsule out ≡ answerOf (lower s (ask (open-capsule capsule out))) (made (view s) (ask (open-capsule capsule out)) .count)
+  unfolding lower questionConditions heldBy openNumber made given gives view Answers.openOf
   open-answer = ap (λ (u : Bool). Answers.openOf u (kept (s .key)) capsule out) marked
 
-  pub open-output : openOutput (not b) (kept (s .key)) capsule out ≡ handed s (open-capsule capsule out) .output
-  unfolding openOutput patternOutput lower bytes view outputOf
+  pub open-output : openOutput (not b) (kept (s .key)) capsule out ≡ handed s (ask (open-capsule capsule out)) .output
+  unfolding openOutput openNumber patternOutput lower questionConditions heldBy made given gives view outputOf answerBuffer
   open-output =
-      ap (λ (u : Bool). openOutput u (kept (s .key)) capsule out) marked ∙ lower-output s (open-capsule capsule out) open-passes
+      ap (λ (u : Bool). openOutput u (kept (s .key)) capsule out) marked ∙ lower-output s (ask (open-capsule capsule out)) open-passes
 
 module _ (s : Station) (word out : List ℕ) (keyed : isEmpty (stateOf (s .state)) ≡ false) where
-  pub read-passes : stop s (read-word word out) .0 ≡ false
+  pub read-passes : stop s (ask (read-word word out)) .0 ≡ false
   unfolding stop
   read-passes = keyed
 
-  pub read-answer : Answers.readOf (kept (s .key)) word out ≡ answerOf (lower s (read-word word out)) (tally (view s) (read-word word out))
-  unfolding lower tally view Answers.readOf
+  pub read-answer : Answers.readOf (kept (s .key)) word out ≡ answerOf (lower s (ask (read-word word out))) (made (view s) (ask (read-word word out)) .count)
+  unfolding lower questionConditions heldBy readNumber made given gives view Answers.readOf
   read-answer = refl
 
-  pub read-output : readOutput (kept (s .key)) word out ≡ handed s (read-word word out) .output
-  unfolding readOutput patternOutput lower bytes view outputOf
-  read-output = lower-output s (read-word word out) read-passes
+  pub read-output : readOutput (kept (s .key)) word out ≡ handed s (ask (read-word word out)) .output
+  unfolding readOutput readNumber patternOutput lower questionConditions heldBy made given gives view outputOf answerBuffer
+  read-output = lower-output s (ask (read-word word out)) read-passes

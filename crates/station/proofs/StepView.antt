@@ -8,7 +8,9 @@ use Rattle.key.specs.Kept.{kept, keep, noKey}
 use Rattle.key.proofs.Parse.{length-elements}
 use Rattle.key.proofs.Filled.{kept-keep}
 use Rattle.ledger.specs.Station.{loaded, emptyKey, fresh, Result}
-use Rattle.ledger.specs.Calls.{Call, load, publish, open-capsule, read-word, drop-key, step}
+use Rattle.ledger.specs.Loading.{Loading, key-file, loadedKey}
+use Rattle.ledger.specs.Questions.{Question}
+use Rattle.ledger.specs.Calls.{Call, load, publish, ask, drop-key, made, step}
 use Rattle.ledger.proofs.StepLaws.{outcome}
 use Rattle.ledger.proofs.StepLaws as Step
 use Rattle.ledger.proofs.Simulation.{seen, Simulates}
@@ -22,18 +24,21 @@ pub kept-parse : (file : List ℕ) → kept (keep (parse file)) ≡ parse file
 unfolding parse
 kept-parse file = kept-keep (parse file) (length-elements file _ _) (length-elements file _ _)
 
+kept-loaded : (f : Loading) → kept (keep (loadedKey f)) ≡ loadedKey f
+unfolding loadedKey
+kept-loaded (key-file file) = kept-parse file
+
 -- the fresh station
 pub view-fresh : view freshStation ≡ fresh
 unfolding view stateOf byteOf freshStation kept noKey fresh emptyKey
 view-fresh = refl
 
 -- the station after an accepted call
-view-moved : (s : Station) (c : Call) → view (moved s c) ≡ Step.moved (view s) c
-unfolding view stateOf byteOf moved Step.moved
-view-moved s (load file) = ap (λ (k : Key). record { state = loaded; key = k }) (kept-parse file)
-view-moved s (publish out work) = refl
-view-moved s (open-capsule capsule out) = refl
-view-moved s (read-word word out) = refl
+view-moved : (s : Station) (c : Call) → view (moved s c) ≡ made (view s) c .station
+unfolding view stateOf byteOf moved made
+view-moved s (load f) = ap (λ (k : Key). record { state = loaded; key = k }) (kept-loaded f)
+view-moved s (publish p) = refl
+view-moved s (ask q) = refl
 view-moved s drop-key = view-fresh
 
 -- station, number and ones
@@ -47,7 +52,7 @@ unfolding handed replyOf refusal acceptance
 same s c = go (step (view s) c .number) refl
   where
     go : (n : ℕ) → n ≡ step (view s) c .number → Same (replyOf n s (moved s c) (step (view s) c .count)) (step (view s) c)
-    go zero e = record { station = view-moved s c ∙ sym (Step.step-moves (view s) c (sym e)); number = e; count = refl }
+    go zero e = record { station = view-moved s c ∙ sym (ap (λ (r : Result). r .station) (Step.step-made (view s) c (sym e))); number = e; count = refl }
     go (suc n) e =
         record { station = sym (Step.step-stays (view s) c n (sym e)); number = e; count = sym (Step.step-count (view s) c n (sym e)) }
 
@@ -63,16 +68,13 @@ accepted-station s c e =
     ap (λ (r : Reply). r .station)
     (sym (reply-accepted s c (sym (Step.step-number (view s) c) ∙ sym (same s c .number) ∙ e) refl))
 
-open-left : (s : Station) (capsule out : List ℕ) → handed s (open-capsule capsule out) .reply .station ≡ s
+pub question-left : (s : Station) (q : Question) → handed s (ask q) .reply .station ≡ s
 unfolding moved refusal
-open-left s capsule out = go (handed s c .reply .refused) refl
+question-left s q = go (handed s (ask q) .reply .refused) refl
   where
-    c : Call
-    c = open-capsule capsule out
-
-    go : (n : ℕ) → handed s c .reply .refused ≡ n → handed s c .reply .station ≡ s
-    go zero e = accepted-station s c e
-    go (suc n) e = ap (λ (r : Reply). r .station) (refused-reply s c n e)
+    go : (n : ℕ) → handed s (ask q) .reply .refused ≡ n → handed s (ask q) .reply .station ≡ s
+    go zero e = accepted-station s (ask q) e
+    go (suc n) e = ap (λ (r : Reply). r .station) (refused-reply s (ask q) n e)
 
 -- so the code's calls are the definitions' calls
 pub code-simulates : Simulates code
@@ -81,8 +83,8 @@ code-simulates =
     record {
       fresh = view-fresh;
       marked = λ s. refl;
-      steps = λ s c. let e = same s c in outcome (e .station) (e .number) refl (e .count) refl;
+      steps = λ s c. let e = same s c in outcome (e .station) (e .number) refl (e .count) refl refl;
       stays = λ s c n e. ap (λ (r : Reply). r .station) (refused-reply s c n e);
-      marks = λ s out work e. accepted-station s (publish out work) e;
-      opens = open-left;
+      marks = λ s p e. accepted-station s (publish p) e;
+      leaves = question-left;
     }

@@ -1,4 +1,4 @@
--- Document 01's rows P1 to P13, its facts by running and the orders of the numbers hold of the code's calls. Assumes nothing.
+-- Document 01's rows P1 to P13, its facts by running, the orders of the numbers and the reports hold of the code's calls. Assumes nothing.
 use mathlib.Core.Path.{_≡_, refl, ap, ap₂, _∙_}
 use mathlib.Core.Bool.{Bool, true, _&&_}
 use mathlib.Core.List.{List, [], _∷_, map, flatMap}
@@ -9,12 +9,12 @@ use Rattle.bits.specs.Bits.{from}
 use Rattle.bits.proofs.Lists.{and-left, and-right}
 use Rattle.key.specs.Keys.{Key, pair, elements, parse, twoBytes, fileOf}
 use Rattle.key.specs.Kept.{keep}
-use Rattle.key.specs.Bench.{K1-with}
+use Rattle.key.specs.Bench.{K1, K1-with}
 use Rattle.key.proofs.Filled.{kept-keep}
 use Rattle.ledger.specs.Station.{empty, loaded, published, Result}
 use Rattle.ledger.specs.Station as Definition
 use Rattle.ledger.specs.Calls.{step, run}
-use Rattle.ledger.proofs.Table.{Asked, after, on, frees, lock-shape, locks, times, Answer, free, answerOf, rows, running, orders, bad}
+use Rattle.ledger.proofs.Table.{Asked, after, on, frees, counts, lock-shape, locks, times, Answer, free, answerOf, countsIn, rows, running, orders, bad, published-1, two-bytes, reports}
 use Rattle.ledger.proofs.Table as Definitions
 use Rattle.ledger.proofs.Simulation.{seen, run-fresh}
 use Rattle.station.specs.Replies.{stateOf, byteOf, view, freshStation, handed, outcomeOf, code}
@@ -30,6 +30,7 @@ unfoldable pub answer : Asked → Answer
 answer (after calls c) = answerOf (seen code (outcomeOf (handed (run (code .call) freshStation calls) c)))
 answer (on s c) = answerOf (seen code (outcomeOf (handed (stored s) c)))
 answer (frees s c) = free (handed (stored s) c .free)
+answer (counts s c) = countsIn (handed (stored s) c .answer)
 answer (lock-shape m n t public pattern out) = Definitions.answer (lock-shape m n t public pattern out)
 answer (locks file pattern out) = Definitions.answer (locks file pattern out)
 answer (times m a b) = Definitions.answer (times m a b)
@@ -46,6 +47,7 @@ unfoldable fits : Asked → Bool
 fits (after calls c) = true
 fits (on s c) = sized s
 fits (frees s c) = sized s
+fits (counts s c) = sized s
 fits (lock-shape m n t public pattern out) = true
 fits (locks file pattern out) = true
 fits (times m a b) = true
@@ -75,6 +77,8 @@ same-answer (after calls c) h =
 same-answer (on s c) h = ap answerOf (code-simulates .steps (stored s) c ∙ ap (λ (t : Definition.Station). step t c) (view-stored s h))
 same-answer (frees s c) h =
     ap (λ (r : Result). free (r .free)) (code-simulates .steps (stored s) c ∙ ap (λ (t : Definition.Station). step t c) (view-stored s h))
+same-answer (counts s c) h =
+    ap (λ (r : Result). countsIn (r .answer)) (code-simulates .steps (stored s) c ∙ ap (λ (t : Definition.Station). step t c) (view-stored s h))
 same-answer (lock-shape m n t public pattern out) h = refl
 same-answer (locks file pattern out) h = refl
 same-answer (times m a b) h = refl
@@ -97,3 +101,7 @@ running-holds = same-answers running refl ∙ Definitions.running-holds
 pub orders-hold : Holds orders
 unfolding allFit fits sized orders bad parse elements pair from K1-with fileOf twoBytes flatMap
 orders-hold = same-answers orders refl ∙ Definitions.orders-hold
+
+pub reports-hold : Holds reports
+unfolding allFit fits sized reports published-1 two-bytes K1 parse elements pair from
+reports-hold = same-answers reports refl ∙ Definitions.reports-hold

@@ -1,17 +1,18 @@
--- What the five calls hand back: the numbers, ones and bytes of the station's definitions, and the new station with its arrays.
+-- What the calls hand back: the numbers, answers and bytes of the station's definitions, and the new station with its arrays.
 -- Assumes nothing.
 use Prim.Native.Nat.{ℕ, zero, suc}
 use mathlib.Core.List.{List}
-use Rattle.key.specs.Keys.{parse}
 use Rattle.key.specs.Kept.{kept, keep, noKey}
 use Rattle.reading.specs.declared.calls.Answer.{Answer}
 use Rattle.reading.specs.declared.calls.Answer.the-variants as answers
 use Rattle.ledger.specs.Station.{Outcome}
 use Rattle.ledger.specs.Station as Definition
-use Rattle.ledger.specs.Calls.{Call, load, publish, open-capsule, read-word, drop-key, step}
+use Rattle.ledger.specs.Loading.{loadedKey}
+use Rattle.ledger.specs.Calls.{Call, load, publish, ask, drop-key, step}
 use Rattle.ledger.specs.Systems.{System}
 use Rattle.station.specs.declared.Station.{Station}
 use Rattle.station.specs.declared.Reply.{Reply}
+use Rattle.station.specs.declared.Reported.{Reported}
 
 -- the state of a state byte: 0 empty, 1 loaded, any other published
 unfoldable pub stateOf : ℕ → Definition.State
@@ -40,10 +41,9 @@ freshStation = record { state = byteOf Definition.empty; key = noKey }
 
 -- the station after a call that is accepted
 unfoldable pub moved : Station → Call → Station
-moved s (load file) = record { state = byteOf Definition.loaded; key = keep (parse file) }
-moved s (publish out work) = record { state = byteOf Definition.published; key = s .key }
-moved s (open-capsule capsule out) = s
-moved s (read-word word out) = s
+moved s (load f) = record { state = byteOf Definition.loaded; key = keep (loadedKey f) }
+moved s (publish p) = record { state = byteOf Definition.published; key = s .key }
+moved s (ask q) = s
 moved s drop-key = freshStation
 
 -- refused: the station as it was
@@ -57,9 +57,11 @@ unfoldable pub replyOf : ℕ → Station → Station → ℕ → Reply
 replyOf zero s next w = acceptance next w
 replyOf (suc n) s next w = refusal s (suc n)
 
--- What a call leaves: its reply, the output buffer, and how many of the first bytes of publish's workspace have free contents.
+-- What a call leaves: its reply, what its form answers besides, the output buffer, and how many of the first bytes of publish's
+-- workspace have free contents.
 pub record Handed : Type 0 where
   pub reply : Reply
+  pub answer : List ℕ
   pub output : List ℕ
   pub free : ℕ
 
@@ -67,12 +69,23 @@ pub record Handed : Type 0 where
 unfoldable pub handed : Station → Call → Handed
 handed s c =
     let r : Definition.Result = step (view s) c in
-    record { reply = replyOf (r .number) s (moved s c) (r .count); output = r .output; free = r .free }
+    record { reply = replyOf (r .number) s (moved s c) (r .count); answer = r .answer; output = r .output; free = r .free }
+
+-- the reply to a report: its answer is the counts
+unfoldable pub reportedOf : Handed → Reported
+reportedOf h = record { station = h .reply .station; refused = h .reply .refused; counts = h .answer }
 
 -- The code's calls as a system: its stations are the structs with their arrays. The demands are about it.
 unfoldable pub outcomeOf : Handed → Outcome Station
 outcomeOf h =
-    record { station = h .reply .station; number = h .reply .refused; output = h .output; count = h .reply .ones; free = h .free }
+    record {
+      station = h .reply .station;
+      number = h .reply .refused;
+      output = h .output;
+      count = h .reply .ones;
+      answer = h .answer;
+      free = h .free;
+    }
 
 abbrev pub code : System
 code =

@@ -7,8 +7,11 @@ ghost use mathlib.Core.Path.{_≡_};
 ghost use mathlib.Core.Bool.{not};
 ghost use lib.ListN.{drop};
 ghost use Rattle.ledger.specs.Station.{isEmpty, isUnpublished};
-ghost use Rattle.ledger.specs.Calls.{load, publish, open-capsule, read-word, drop-key};
-ghost use Rattle.station.specs.Replies.{stateOf, answerNumber, freshStation, refusal, acceptance, handed};
+ghost use Rattle.ledger.specs.Loading.{key-file};
+ghost use Rattle.ledger.specs.Publishing.{systematic};
+ghost use Rattle.ledger.specs.Questions.{open-capsule, read-word, report};
+ghost use Rattle.ledger.specs.Calls.{load, publish, ask, drop-key};
+ghost use Rattle.station.specs.Replies.{stateOf, answerNumber, freshStation, refusal, acceptance, handed, reportedOf};
 
 // One slot: the state and the key, the key of zeros where it is empty. State 0 is no key, 1 a key, any other a published key.
 #[repr(C)]
@@ -23,6 +26,15 @@ pub struct Reply {
     pub station: Station,
     pub refused: u8,
     pub ones: u16,
+}
+
+// What a report hands back: the station, the number of the refusal, 0 for none, and how often each byte value is among the
+// records; zeros on refusal.
+#[repr(C)]
+pub struct Reported {
+    pub station: Station,
+    pub refused: u8,
+    pub counts: [usize; 256],
 }
 
 // No key is held.
@@ -97,7 +109,7 @@ impl Station {
 
     // The file's key is kept; 22, 1, 2, 3, 4, 5, 6 or 7 on refusal.
     pub fn load(self, file: &[u8]) -> Reply
-        ensures { λ r. ⌜ r ≡ handed self (load (now (file .entry))) .reply ⌝ }
+        ensures { λ r. ⌜ r ≡ handed self (load (key-file (now (file .entry)))) .reply ⌝ }
     {
         let state = self.state;
         if !is_empty(state) {
@@ -129,9 +141,9 @@ impl Station {
     // T is written from the output's start, made in the first m·t × ceil(n/8) bytes of work; 21, 25, 10, 11 or 23 on refusal. All
     // other bytes of work keep their contents, and these too under 21, 25, 10 and 11.
     pub fn publish(self, out: &mut [u8], work: &mut [u8]) -> Reply
-        ensures reply { λ r. ⌜ r ≡ handed self (publish (now (out .entry)) (now (work .entry))) .reply ⌝ }
-        ensures output { λ _. ⌜ now (out .exit) ≡ handed self (publish (now (out .entry)) (now (work .entry))) .output ⌝ }
-        ensures workspace { λ _. ⌜ (let f = handed self (publish (now (out .entry)) (now (work .entry))) .free in
+        ensures reply { λ r. ⌜ r ≡ handed self (publish (systematic (now (out .entry)) (now (work .entry)))) .reply ⌝ }
+        ensures output { λ _. ⌜ now (out .exit) ≡ handed self (publish (systematic (now (out .entry)) (now (work .entry)))) .output ⌝ }
+        ensures workspace { λ _. ⌜ (let f = handed self (publish (systematic (now (out .entry)) (now (work .entry)))) .free in
             drop f (now (work .exit)) ≡ drop f (now (work .entry))) ⌝ }
     {
         let state = self.state;
@@ -162,8 +174,8 @@ impl Station {
 
     // The pattern of a capsule is written from the output's start; 21, 25, 24, 8, 9, 10 or 13 on refusal.
     pub fn open(self, capsule: &[u8], out: &mut [u8]) -> Reply
-        ensures reply { λ r. ⌜ r ≡ handed self (open-capsule (now (capsule .entry)) (now (out .entry))) .reply ⌝ }
-        ensures output { λ _. ⌜ now (out .exit) ≡ handed self (open-capsule (now (capsule .entry)) (now (out .entry))) .output ⌝ }
+        ensures reply { λ r. ⌜ r ≡ handed self (ask (open-capsule (now (capsule .entry)) (now (out .entry)))) .reply ⌝ }
+        ensures output { λ _. ⌜ now (out .exit) ≡ handed self (ask (open-capsule (now (capsule .entry)) (now (out .entry)))) .output ⌝ }
     {
         let state = self.state;
         if is_empty(state) {
@@ -187,8 +199,8 @@ impl Station {
 
     // The pattern of a word is written from the output's start; 21, 25, 8, 9, 10 or 14 on refusal.
     pub fn read(self, word: &[u8], out: &mut [u8]) -> Reply
-        ensures reply { λ r. ⌜ r ≡ handed self (read-word (now (word .entry)) (now (out .entry))) .reply ⌝ }
-        ensures output { λ _. ⌜ now (out .exit) ≡ handed self (read-word (now (word .entry)) (now (out .entry))) .output ⌝ }
+        ensures reply { λ r. ⌜ r ≡ handed self (ask (read-word (now (word .entry)) (now (out .entry)))) .reply ⌝ }
+        ensures output { λ _. ⌜ now (out .exit) ≡ handed self (ask (read-word (now (word .entry)) (now (out .entry)))) .output ⌝ }
     {
         let state = self.state;
         if is_empty(state) {
@@ -207,6 +219,38 @@ impl Station {
             return self.refuse(answer_number(answer));
         };
         self.accept(w)
+    }
+
+    // The record of each capsule is written from the record buffer's start: 0 where it is opened, else its refusal's number, and
+    // the records are counted by their value; 21, 25, 24 or 31 on refusal.
+    pub fn report(self, capsules: &[u8], records: &mut [u8]) -> Reported
+        ensures reply { λ r. ⌜ r ≡ reportedOf (handed self (ask (report (now (capsules .entry)) (now (records .entry))))) ⌝ }
+        ensures output { λ _. ⌜ now (records .exit) ≡ handed self (ask (report (now (capsules .entry)) (now (records .entry)))) .output ⌝ }
+    {
+        let state = self.state;
+        if is_empty(state) {
+            return Reported {
+                station: self,
+                refused: 21,
+                counts: [0; 256],
+            };
+        }
+        let counted = reporting::report(
+            self.key.m,
+            self.key.n,
+            self.key.t,
+            &self.key.support,
+            &self.key.g,
+            is_published(state),
+            capsules,
+            records,
+        );
+        let counts = counted.counts;
+        Reported {
+            station: self,
+            refused: counted.refused,
+            counts,
+        }
     }
 
     // Afterwards the station is a fresh one; 21 on refusal.

@@ -1,4 +1,5 @@
 -- The station's reply, with the caller's own station on refusal. Assumes nothing.
+use Rattle.ledger.specs.Loading.{key-file}
 use Rattle.ledger.specs.Calls.{load}
 use Rattle.station.specs.Replies.{refusal}
 use Rattle.shearcotter.proofs.Own.{own-empty, own-refused}
@@ -13,14 +14,14 @@ unfolding refusal
 returns c =
     let l = c .before .before .before in
     let a = l .before .before .args in
-    own-empty (a .own) (a .file .now) _ (l .load .ensures) (c .if1 .taken)
+    own-empty (a .own) (key-file (a .file .now)) _ (l .load .ensures) (c .if1 .taken)
 
 returns-2 : tie.Need-returns-2
 unfolding refusal
 returns-2 c =
     let l = c .before .before .before .before .before in
     let a = l .before .before .args in
-    own-refused (a .own) (load (a .file .now)) _ (l .load .ensures) (c .if2 .taken)
+    own-refused (a .own) (load (key-file (a .file .now))) _ (l .load .ensures) (c .if2 .taken)
 
 returns-3 : tie.Need-returns-3
 returns-3 c = c .before .before .before .before .before .load .ensures

@@ -1,47 +1,50 @@
--- The tests in order. Assumes nothing.
-use mathlib.Core.Path.{sym, _∙_}
+-- The row, then the output. Assumes nothing.
+use mathlib.Core.Path.{ap, _∙_}
 use native.Mathlib.Omega.{arith}
 use borrow.Author.Needs.{needs}
-use Rattle.field.proofs.Verdicts.{refuses, accepts}
-use Rattle.key.proofs.Order.{failed, passed}
-use Rattle.reading.proofs.Refusals.{wrong-length, wrong-filler, short-output, buffers-right}
+use Rattle.field.specs.Verdicts.{verdictOf}
+use Rattle.field.proofs.Verdicts.{refuses, verdict-accepted, verdict-refused}
+use Rattle.reading.proofs.Refusals.{wrong-row, short-output, buffers-right}
 use Rattle.reading.proofs.calls.check_buffers.Statement.{statement}
 use Rattle.reading.proofs.calls.check_buffers.Tie as tie
+
+check-row-requires : tie.Need-check-row-requires
+check-row-requires c κs = search needs
+
+enum-told : tie.Need-enum-told
+enum-told c = search needs
+
+enum-told-2 : tie.Need-enum-told-2
+enum-told-2 c = search needs
+
+returns : tie.Need-returns
+returns c =
+    let r = c .before .before .check-row .ensures in
+    r ∙ ap verdictOf (wrong-row _ _ _ _ (verdict-refused _ r (c .enum-told2 .given .1)))
 
 bytes-for-requires : tie.Need-bytes-for-requires
 bytes-for-requires c κs = search needs
 
-returns : tie.Need-returns
-returns c = refuses (wrong-length _ _ _ _ (λ e. c .if1 .taken (e ∙ sym (c .before .bytes-for .ensures))))
-
-filler-clear-requires : tie.Need-filler-clear-requires
-filler-clear-requires c κs = search needs
-
 returns-2 : tie.Need-returns-2
 returns-2 c =
-    refuses (wrong-filler _ _ _ _ (c .before .before .if1 .left ∙ c .before .before .before .bytes-for .ensures) (failed (c .before .filler-clear .ensures) (c .if2 .taken)))
-
-bytes-for-requires-2 : tie.Need-bytes-for-requires-2
-bytes-for-requires-2 c κs = search needs
+    let t = c .before .before in
+    refuses (short-output _ _ _ _ (verdict-accepted _ (t .before .before .check-row .ensures) (t .enum-told .given .1)) (omega (arith, c .before .bytes-for .ensures)))
 
 returns-3 : tie.Need-returns-3
 returns-3 c =
-    refuses (short-output _ _ _ _ (c .before .before .before .before .if1 .left ∙ c .before .before .before .before .before .bytes-for .ensures) (passed (c .before .before .before .filler-clear .ensures) (c .before .before .if2 .left))
-    (omega (arith, c .before .bytes-for2 .ensures)))
-
-returns-4 : tie.Need-returns-4
-returns-4 c =
-    accepts (buffers-right _ _ _ _ (c .before .before .before .before .if1 .left ∙ c .before .before .before .before .before .bytes-for .ensures) (passed (c .before .before .before .filler-clear .ensures) (c .before .before .if2 .left))
-    (omega (arith, c .before .bytes-for2 .ensures)))
+    let t = c .before .before in
+    let r = t .before .before .check-row .ensures in
+    let z = verdict-accepted _ r (t .enum-told .given .1) in
+    r ∙ ap verdictOf (z ∙ buffers-right _ _ _ _ z (omega (arith, c .before .bytes-for .ensures)))
 
 pub check-buffers-spec : {M : Type 1} → statement M
 check-buffers-spec =
     tie.close
     (tie.spec
-    bytes-for-requires
+    check-row-requires
+    enum-told
+    enum-told-2
     returns
-    filler-clear-requires
+    bytes-for-requires
     returns-2
-    bytes-for-requires-2
-    returns-3
-    returns-4)
+    returns-3)

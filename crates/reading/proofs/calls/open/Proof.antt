@@ -1,12 +1,11 @@
--- The checks, the reading, its number of ones, then the output. Assumes nothing.
+-- The checks, the opening, then the output. Assumes nothing.
 use mathlib.Core.Path.{_∙_}
 use mathlib.Core.Bool.{not}
-use native.Mathlib.Omega.{arith}
 use borrow.Author.Needs.{needs}
 use Rattle.field.proofs.Verdicts.{verdict-accepted, verdict-taken}
 use Rattle.key.specs.Kept.{kept, parts}
 use Rattle.reading.proofs.Refusals.{open-clear}
-use Rattle.reading.proofs.Answered.{reading-none, reading-some, open-refusal, open-none, open-other, open-some}
+use Rattle.reading.proofs.Answered.{counted-none, counted-some, found-opening, row-opening, open-refusal, open-none, open-some}
 use Rattle.reading.proofs.calls.open.Statement.{statement}
 use Rattle.reading.proofs.calls.open.Tie as tie
 
@@ -29,8 +28,8 @@ returns c =
     let k = parts (a .m) (a .n) (a .t) (a .support .now) (a .g .now) in
     open-refusal (not (a .published)) k (a .capsule .now) (a .out .now) (t .0) (t .1)
 
-decode-requires : tie.Need-decode-requires
-decode-requires c κs = tt
+open-checked-requires : tie.Need-open-checked-requires
+open-checked-requires c κs = tt
 
 counted-requires : tie.Need-counted-requires
 counted-requires c κs = tt
@@ -49,23 +48,10 @@ returns-2 c =
     let a = t .before .before .before .before .before .args in
     let k = parts (a .m) (a .n) (a .t) (a .support .now) (a .g .now) in
     let clear = verdict-accepted _ (t .before .before .check-capsule .ensures) (t .enum-told .given .1) in
-    let z = open-clear (not (a .published)) (kept k) (a .capsule .now) (a .out .now) clear .0 in
-    open-none (not (a .published)) k (a .capsule .now) (a .out .now) clear
-    (reading-none k (a .capsule .now) z _ (d .decode .ensures) _ (n .counted .ensures) (c .enum-told3 .given .1))
-
-returns-3 : tie.Need-returns-3
-returns-3 c =
-    let v = c .before .before in
-    let n = v .before .before in
-    let d = n .before in
-    let t = d .before in
-    let a = t .before .before .before .before .before .args in
-    let k = parts (a .m) (a .n) (a .t) (a .support .now) (a .g .now) in
-    let clear = verdict-accepted _ (t .before .before .check-capsule .ensures) (t .enum-told .given .1) in
-    let z = open-clear (not (a .published)) (kept k) (a .capsule .now) (a .out .now) clear .0 in
-    open-other (not (a .published)) k (a .capsule .now) (a .out .now) clear
-    (reading-some k (a .capsule .now) z _ (d .decode .ensures) _ (n .counted .ensures) (v .answer .given .1))
-    (λ q. omega arith)
+    let z = open-clear (not (a .published)) (kept k) (a .capsule .now) (a .out .now) clear in
+    let e = counted-none 13 _ (found-opening k (a .capsule .now) (z .0) (z .1) (d .open-checked .ensures)) (n .counted .ensures) (c .enum-told3 .given .1) in
+    let r = open-none (not (a .published)) k (a .capsule .now) (a .out .now) clear (e .0) in
+    (e .1 ∙ r .0, r .1)
 
 give-requires : tie.Need-give-requires
 give-requires c κs = tt
@@ -73,19 +59,18 @@ give-requires c κs = tt
 same-length : tie.Need-same-length
 same-length c = search needs
 
-returns-4 : tie.Need-returns-4
-returns-4 c =
-    let v = c .before .before .before .before .before .before in
+returns-3 : tie.Need-returns-3
+returns-3 c =
+    let v = c .before .before .before .before .before in
     let n = v .before .before in
     let d = n .before in
     let t = d .before in
     let a = t .before .before .before .before .before .args in
     let k = parts (a .m) (a .n) (a .t) (a .support .now) (a .g .now) in
     let clear = verdict-accepted _ (t .before .before .check-capsule .ensures) (t .enum-told .given .1) in
-    let z = open-clear (not (a .published)) (kept k) (a .capsule .now) (a .out .now) clear .0 in
-    let s = open-some (not (a .published)) k (a .capsule .now) (a .out .now) clear
-    (reading-some k (a .capsule .now) z _ (d .decode .ensures) _ (n .counted .ensures) (v .answer .given .1))
-    (omega (arith, c .before .before .before .before .if1 .left)) in
+    let z = open-clear (not (a .published)) (kept k) (a .capsule .now) (a .out .now) clear in
+    let e = counted-some 13 _ (found-opening k (a .capsule .now) (z .0) (z .1) (d .open-checked .ensures)) (n .counted .ensures) (row-opening k (a .capsule .now) (z .0) (z .1)) (v .answer .given .1) in
+    let s = open-some (not (a .published)) k (a .capsule .now) (a .out .now) clear e in
     (s .0, c .before .before .give .ensures ∙ s .1)
 
 pub open-spec : {M : Type 1} → statement M
@@ -97,12 +82,11 @@ open-spec =
     enum-told-2
     number-requires
     returns
-    decode-requires
+    open-checked-requires
     counted-requires
     enum-known-answer
     enum-told-3
     returns-2
-    returns-3
     give-requires
     same-length
-    returns-4)
+    returns-3)

@@ -4,7 +4,7 @@ use borrow.Author.Needs.{needs}
 use Rattle.field.proofs.Verdicts.{verdict-accepted, verdict-taken}
 use Rattle.key.specs.Kept.{kept, parts}
 use Rattle.reading.proofs.Refusals.{read-clear}
-use Rattle.reading.proofs.Answered.{reading-none, refused-none, reading-some, read-refusal, read-none, read-some}
+use Rattle.reading.proofs.Answered.{counted-none, counted-some, found-reading, row-reading, read-refusal, read-none, read-some}
 use Rattle.reading.proofs.calls.read.Statement.{statement}
 use Rattle.reading.proofs.calls.read.Tie as tie
 
@@ -48,9 +48,9 @@ returns-2 c =
     let k = parts (a .m) (a .n) (a .t) (a .support .now) (a .g .now) in
     let clear = verdict-accepted _ (t .before .before .check-word .ensures) (t .enum-told .given .1) in
     let z = read-clear (kept k) (a .word .now) (a .out .now) clear .0 in
-    let e = reading-none k (a .word .now) z _ (d .decode .ensures) _ (n .counted .ensures) (c .enum-told3 .given .1) in
-    let r = read-none k (a .word .now) (a .out .now) clear e in
-    (refused-none k (a .word .now) z _ (d .decode .ensures) _ (n .counted .ensures) e ∙ r .0, r .1)
+    let e = counted-none 14 _ (found-reading k (a .word .now) z (d .decode .ensures)) (n .counted .ensures) (c .enum-told3 .given .1) in
+    let r = read-none k (a .word .now) (a .out .now) clear (e .0) in
+    (e .1 ∙ r .0, r .1)
 
 give-requires : tie.Need-give-requires
 give-requires c κs = tt
@@ -68,8 +68,8 @@ returns-3 c =
     let k = parts (a .m) (a .n) (a .t) (a .support .now) (a .g .now) in
     let clear = verdict-accepted _ (t .before .before .check-word .ensures) (t .enum-told .given .1) in
     let z = read-clear (kept k) (a .word .now) (a .out .now) clear .0 in
-    let s = read-some k (a .word .now) (a .out .now) clear
-    (reading-some k (a .word .now) z _ (d .decode .ensures) _ (n .counted .ensures) (v .answer .given .1)) in
+    let e = counted-some 14 _ (found-reading k (a .word .now) z (d .decode .ensures)) (n .counted .ensures) (row-reading k (a .word .now) z) (v .answer .given .1) in
+    let s = read-some k (a .word .now) (a .out .now) clear e in
     (s .0, c .before .before .give .ensures ∙ s .1)
 
 pub read-spec : {M : Type 1} → statement M

@@ -1,9 +1,9 @@
 -- The state, then the fresh station. Assumes nothing.
 use mathlib.Core.Path.{sym, ap, refl, _∙_}
-use Rattle.ledger.specs.Calls.{drop-key}
+use Rattle.ledger.specs.Calls.{drop-key, made}
 use Rattle.station.specs.Replies.{acceptance, moved}
 use Rattle.station.specs.declared.Station.{Station}
-use Rattle.station.proofs.ReplyLaws.{stop, lower, tally, stopped, lower-accepted}
+use Rattle.station.proofs.ReplyLaws.{stop, lower, stopped, lower-accepted}
 use Rattle.station.proofs.Station.drop.Statement.{statement}
 use Rattle.station.proofs.Station.drop.Tie as tie
 
@@ -23,7 +23,7 @@ fresh-requires : tie.Need-fresh-requires
 fresh-requires c κs = tt
 
 returns-2 : tie.Need-returns-2
-unfolding stop lower moved tally acceptance
+unfolding stop lower moved made acceptance
 returns-2 c =
     let i = c .before .before in
     ap (λ (s : Station). acceptance s 0) (c .fresh .ensures)

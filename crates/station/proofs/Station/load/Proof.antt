@@ -3,6 +3,7 @@ use mathlib.Core.Path.{sym, ap, _∙_}
 use mathlib.Core.Bool.{not}
 use borrow.Author.Needs.{needs}
 use borrow.Author.Tests.{not-true, not-false}
+use Rattle.ledger.specs.Loading.{key-file}
 use Rattle.ledger.specs.Calls.{load}
 use Rattle.station.specs.Replies.{byteOf, refusal, acceptance}
 use Rattle.station.proofs.ReplyLaws.{stop, stopped}
@@ -21,7 +22,7 @@ unfolding stop
 returns c =
     let i = c .before .before in
     let a = i .before .before .args in
-    c .refuse .ensures ∙ stopped (a .self) (load (a .file .now)) (ap not (sym (i .is-empty .ensures) ∙ not-true _ (c .before .if1 .taken))) .0
+    c .refuse .ensures ∙ stopped (a .self) (load (key-file (a .file .now))) (ap not (sym (i .is-empty .ensures) ∙ not-true _ (c .before .if1 .taken))) .0
 
 load-requires : tie.Need-load-requires
 load-requires c κs = tt

@@ -1,8 +1,8 @@
 -- The state, then the lower call. Assumes nothing.
 use mathlib.Core.Path.{sym, ap, _∙_}
 use borrow.Author.Needs.{needs}
-use Rattle.ledger.specs.Calls.{open-capsule}
-use Rattle.ledger.specs.Demands.{outputOf}
+use Rattle.ledger.specs.Questions.{open-capsule, answerBuffer}
+use Rattle.ledger.specs.Calls.{ask, outputOf}
 use Rattle.station.specs.Replies.{refusal, moved}
 use Rattle.station.proofs.ReplyLaws.{stop, stopped}
 use Rattle.station.proofs.LowerLaws.{answered-refused, answered-ones, open-passes, open-answer, open-output}
@@ -16,11 +16,11 @@ refuse-requires : tie.Need-refuse-requires
 refuse-requires c κs = tt
 
 returns : tie.Need-returns
-unfolding stop outputOf
+unfolding stop outputOf answerBuffer
 returns c =
     let i = c .before .before in
     let a = i .before .before .before .args in
-    let t = stopped (a .t1) (open-capsule (a .capsule .now) (a .out .now)) (sym (i .is-empty .ensures) ∙ c .before .if1 .taken) in
+    let t = stopped (a .t1) (ask (open-capsule (a .capsule .now) (a .out .now))) (sym (i .is-empty .ensures) ∙ c .before .if1 .taken) in
     (c .refuse .ensures ∙ t .0, t .1)
 
 is-published-requires : tie.Need-is-published-requires
@@ -53,7 +53,7 @@ returns-2 c =
     let b = p .before .before .is-published .ensures in (
       c .refuse2 .ensures
           ∙ ap (refusal (a .t1)) (c .before .answer-number .ensures)
-          ∙ answered-refused (a .t1) (open-capsule (a .capsule .now) (a .out .now)) (open-passes (a .t1) (a .capsule .now) (a .out .now) k _ b) _
+          ∙ answered-refused (a .t1) (ask (open-capsule (a .capsule .now) (a .out .now))) (open-passes (a .t1) (a .capsule .now) (a .out .now) k _ b) _
           (p .«open» .ensures .0 ∙ open-answer (a .t1) (a .capsule .now) (a .out .now) k _ b) (c .before .before .enum-told .given .1),
       p .«open» .ensures .1 ∙ open-output (a .t1) (a .capsule .now) (a .out .now) k _ b,
     )
@@ -73,7 +73,7 @@ returns-3 c =
     let k = sym (l .before .is-empty .ensures) ∙ l .if1 .left in
     let b = p .before .before .is-published .ensures in (
       c .accept .ensures
-          ∙ answered-ones (a .t1) (open-capsule (a .capsule .now) (a .out .now)) (open-passes (a .t1) (a .capsule .now) (a .out .now) k _ b) _
+          ∙ answered-ones (a .t1) (ask (open-capsule (a .capsule .now) (a .out .now))) (open-passes (a .t1) (a .capsule .now) (a .out .now) k _ b) _
           (p .«open» .ensures .0 ∙ open-answer (a .t1) (a .capsule .now) (a .out .now) k _ b) (c .before .before .answer .given .1),
       p .«open» .ensures .1 ∙ open-output (a .t1) (a .capsule .now) (a .out .now) k _ b,
     )

@@ -1,8 +1,8 @@
 -- The state, then the lower call. Assumes nothing.
 use mathlib.Core.Path.{refl, sym, ap, _∙_}
 use borrow.Author.Needs.{needs}
-use Rattle.ledger.specs.Calls.{publish}
-use Rattle.ledger.specs.Demands.{outputOf}
+use Rattle.ledger.specs.Publishing.{systematic, publicBuffer}
+use Rattle.ledger.specs.Calls.{publish, outputOf}
 use Rattle.station.specs.Replies.{byteOf, refusal, acceptance}
 use Rattle.station.proofs.ReplyLaws.{stop, stopped}
 use Rattle.station.proofs.LowerLaws.{publish-refused, publish-done, publish-output, publish-work}
@@ -16,11 +16,11 @@ refuse-requires : tie.Need-refuse-requires
 refuse-requires c κs = tt
 
 returns : tie.Need-returns
-unfolding stop outputOf
+unfolding stop outputOf publicBuffer
 returns c =
     let i = c .before .before in
     let a = i .before .before .before .args in
-    let t = stopped (a .t1) (publish (a .out .now) (a .work .now)) (sym (i .is-empty .ensures) ∙ c .before .if1 .taken) in
+    let t = stopped (a .t1) (publish (systematic (a .out .now) (a .work .now))) (sym (i .is-empty .ensures) ∙ c .before .if1 .taken) in
     (c .refuse .ensures ∙ t .0, (t .1, refl))
 
 publish-requires : tie.Need-publish-requires

@@ -1,8 +1,8 @@
 -- The state, then the lower call. Assumes nothing.
 use mathlib.Core.Path.{sym, ap, _∙_}
 use borrow.Author.Needs.{needs}
-use Rattle.ledger.specs.Calls.{read-word}
-use Rattle.ledger.specs.Demands.{outputOf}
+use Rattle.ledger.specs.Questions.{read-word, answerBuffer}
+use Rattle.ledger.specs.Calls.{ask, outputOf}
 use Rattle.station.specs.Replies.{refusal, moved}
 use Rattle.station.proofs.ReplyLaws.{stop, stopped}
 use Rattle.station.proofs.LowerLaws.{answered-refused, answered-ones, read-passes, read-answer, read-output}
@@ -16,11 +16,11 @@ refuse-requires : tie.Need-refuse-requires
 refuse-requires c κs = tt
 
 returns : tie.Need-returns
-unfolding stop outputOf
+unfolding stop outputOf answerBuffer
 returns c =
     let i = c .before .before in
     let a = i .before .before .before .args in
-    let t = stopped (a .t1) (read-word (a .word .now) (a .out .now)) (sym (i .is-empty .ensures) ∙ c .before .if1 .taken) in
+    let t = stopped (a .t1) (ask (read-word (a .word .now) (a .out .now))) (sym (i .is-empty .ensures) ∙ c .before .if1 .taken) in
     (c .refuse .ensures ∙ t .0, t .1)
 
 read-requires : tie.Need-read-requires
@@ -49,7 +49,7 @@ returns-2 c =
     let k = sym (l .before .is-empty .ensures) ∙ l .if1 .left in (
       c .refuse2 .ensures
           ∙ ap (refusal (a .t1)) (c .before .answer-number .ensures)
-          ∙ answered-refused (a .t1) (read-word (a .word .now) (a .out .now)) (read-passes (a .t1) (a .word .now) (a .out .now) k) _
+          ∙ answered-refused (a .t1) (ask (read-word (a .word .now) (a .out .now))) (read-passes (a .t1) (a .word .now) (a .out .now) k) _
           (p .read .ensures .0 ∙ read-answer (a .t1) (a .word .now) (a .out .now) k) (c .before .before .enum-told .given .1),
       p .read .ensures .1 ∙ read-output (a .t1) (a .word .now) (a .out .now) k,
     )
@@ -68,7 +68,7 @@ returns-3 c =
     let a = l .before .before .before .before .args in
     let k = sym (l .before .is-empty .ensures) ∙ l .if1 .left in (
       c .accept .ensures
-          ∙ answered-ones (a .t1) (read-word (a .word .now) (a .out .now)) (read-passes (a .t1) (a .word .now) (a .out .now) k) _
+          ∙ answered-ones (a .t1) (ask (read-word (a .word .now) (a .out .now))) (read-passes (a .t1) (a .word .now) (a .out .now) k) _
           (p .read .ensures .0 ∙ read-answer (a .t1) (a .word .now) (a .out .now) k) (c .before .before .answer .given .1),
       p .read .ensures .1 ∙ read-output (a .t1) (a .word .now) (a .out .now) k,
     )

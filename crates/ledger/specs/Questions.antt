@@ -1,0 +1,53 @@
+-- The questions: calls that leave the station. For each form its buffer, its conditions once a key is held, and its answer.
+-- Assumes nothing.
+use Prim.Native.Nat.{ℕ}
+use mathlib.Core.Bool.{Bool}
+use mathlib.Core.List.{List, []}
+use Rattle.bits.specs.Bits.{unpack, pack, ones, over}
+use Rattle.key.specs.Keys.{Key}
+use Rattle.code.specs.Publish.{capsuleBits}
+use Rattle.decoder.specs.Reading.{reading, opening}
+use Rattle.decoder.specs.Calls.{found, openConditions, readConditions}
+use Rattle.records.specs.Records.{recordsOf, countsOf, reportConditions}
+use Rattle.ledger.specs.Station.{Held}
+
+-- open: capsule, output; read: word, output; report: capsules back to back, record buffer
+pub data Question : Type 0 where
+  open-capsule : List ℕ → List ℕ → Question
+  read-word : List ℕ → List ℕ → Question
+  report : List ℕ → List ℕ → Question
+
+-- the buffer that is written to
+unfoldable pub answerBuffer : Question → List ℕ
+answerBuffer (open-capsule capsule out) = out
+answerBuffer (read-word word out) = out
+answerBuffer (report capsules records) = records
+
+-- open 25, 24, 8, 9, 10, 13; read 25, 8, 9, 10, 14; report 25, 24, 31
+unfoldable pub questionConditions : Held → Question → List (Bool × ℕ)
+questionConditions h (open-capsule capsule out) = openConditions (h .unsound) (h .unpublished) (h .key) capsule out
+questionConditions h (read-word word out) = readConditions (h .unsound) (h .key) word out
+questionConditions h (report capsules records) = reportConditions (h .unsound) (h .unpublished) (h .key) capsules records
+
+-- What is answered: the output buffer, the number of ones written, and what the form answers besides.
+pub record Given : Type 0 where
+  pub output : List ℕ
+  pub count : ℕ
+  pub answer : List ℕ
+
+-- the pattern e written, and the ones counted in it
+unfoldable pub gives : List ℕ → List ℕ → Given
+gives e out = record { output = over (pack e) out; count = ones e; answer = [] }
+
+-- the pattern for a capsule; the pattern for a word; the records of the capsules, and how often each byte value is among them
+unfoldable pub given : Key → Question → Given
+given k (open-capsule capsule out) = gives (found (opening k (unpack (capsuleBits k) capsule))) out
+given k (read-word word out) = gives (found (reading k (unpack (k .n) word))) out
+given k (report capsules records) =
+    record { output = over (recordsOf k capsules) records; count = 0; answer = countsOf (recordsOf k capsules) }
+
+-- how many numbers a form answers besides: zeros where it is refused
+unfoldable pub answerSize : Question → ℕ
+answerSize (open-capsule capsule out) = 0
+answerSize (read-word word out) = 0
+answerSize (report capsules records) = 256

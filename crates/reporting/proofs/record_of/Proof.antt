@@ -1,0 +1,64 @@
+-- The row's number, then what is found. Assumes nothing.
+use native.Mathlib.Omega.{arith}
+use borrow.Author.Tests.{not-true, not-false}
+use Rattle.key.specs.Kept.{kept, parts}
+use Rattle.reporting.proofs.Found.{record-row, record-none, record-some, row-number}
+use Rattle.reporting.proofs.record_of.Statement.{statement}
+use Rattle.reporting.proofs.record_of.Tie as tie
+
+capsule-bits-requires : tie.Need-capsule-bits-requires
+capsule-bits-requires c κs = tt
+
+check-row-requires : tie.Need-check-row-requires
+check-row-requires c κs = tt
+
+number-requires : tie.Need-number-requires
+number-requires c κs = tt
+
+returns : tie.Need-returns
+returns c =
+    let n = c .before in
+    let r = n .before in
+    let b = r .before in
+    let a = b .before .before .args in
+    let k = parts (a .m) (a .n) (a .t) (a .support .now) (a .g .now) in
+    record-row (kept k) (a .capsule .now) (row-number k (a .capsule .now) (b .capsule-bits .ensures) (r .check-row .ensures) (n .number .ensures)) (c .if1 .taken)
+
+open-checked-requires : tie.Need-open-checked-requires
+open-checked-requires c κs = tt
+
+returns-2 : tie.Need-returns-2
+unfolding kept
+returns-2 c =
+    let f = c .before .before in
+    let n = f .before .before in
+    let r = n .before in
+    let b = r .before in
+    let a = b .before .before .args in
+    let k = parts (a .m) (a .n) (a .t) (a .support .now) (a .g .now) in
+    let e = row-number k (a .capsule .now) (b .capsule-bits .ensures) (r .check-row .ensures) (n .number .ensures) in
+    record-none (kept k) (a .capsule .now) (omega (arith, e, f .before .if1 .left)) _ (f .open-checked .ensures) (not-true _ (c .if2 .taken))
+
+returns-3 : tie.Need-returns-3
+unfolding kept
+returns-3 c =
+    let f = c .before .before in
+    let n = f .before .before in
+    let r = n .before in
+    let b = r .before in
+    let a = b .before .before .args in
+    let k = parts (a .m) (a .n) (a .t) (a .support .now) (a .g .now) in
+    let e = row-number k (a .capsule .now) (b .capsule-bits .ensures) (r .check-row .ensures) (n .number .ensures) in
+    record-some (kept k) (a .capsule .now) (omega (arith, e, f .before .if1 .left)) _ (f .open-checked .ensures) (not-false _ (c .if2 .left))
+
+pub record-of-spec : {M : Type 1} → statement M
+record-of-spec =
+    tie.close
+    (tie.spec
+    capsule-bits-requires
+    check-row-requires
+    number-requires
+    returns
+    open-checked-requires
+    returns-2
+    returns-3)

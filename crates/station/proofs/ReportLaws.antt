@@ -1,0 +1,59 @@
+-- What the report hands back, from the lower call's answer. Assumes nothing.
+use Prim.Native.Nat.{ℕ}
+use mathlib.Core.Path.{_≡_, refl, sym, ap, ap₂, _∙_}
+use mathlib.Core.Bool.{Bool, true, false, not, cond}
+use mathlib.Core.List.{List}
+use Rattle.field.specs.Numbers.{firstOf}
+use Rattle.key.specs.Kept.{kept}
+use Rattle.records.specs.Records.{reportNumber, reportOutput, reportCounts}
+use Rattle.ledger.specs.Station.{isEmpty, isUnpublished, heldBy}
+use Rattle.ledger.specs.Questions.{report, answerBuffer, questionConditions, given, answerSize}
+use Rattle.ledger.specs.Calls.{Call, ask, outputOf, noAnswer, made}
+use Rattle.ledger.proofs.StepLaws.{step-number}
+use Rattle.station.specs.Replies.{stateOf, view, handed, reportedOf}
+use Rattle.station.specs.declared.Station.{Station}
+use Rattle.station.specs.declared.Reported.{Reported}
+use Rattle.station.proofs.ReplyLaws.{stop, lower, stopped, number-stop, number-lower, lower-output, lower-answer}
+use Rattle.station.proofs.LowerLaws.{not-not}
+use Rattle.station.proofs.StepView.{same, question-left}
+
+-- the reply, part by part
+reported : (s : Station) (capsules records : List ℕ) {n : ℕ} {counts : List ℕ} → (let c = ask (report capsules records) in
+    n ≡ handed s c .reply .refused → counts ≡ handed s c .answer
+    → _≡_ {A = Reported} (record { station = s; refused = n; counts = counts }) (reportedOf (handed s c)))
+unfolding reportedOf
+reported s capsules records e f = rw (e, f, question-left s (report capsules records))
+
+module _ (s : Station) (capsules records : List ℕ) where
+  c : Call
+  c = ask (report capsules records)
+
+  -- without a key
+  pub report-stopped : isEmpty (stateOf (s .state)) ≡ true → {counts : List ℕ} → counts ≡ noAnswer (ask (report capsules records))
+      → (record { station = s; refused = 21; counts = counts } ≡ reportedOf (handed s (ask (report capsules records)))) × (records ≡ handed s (ask (report capsules records)) .output)
+  unfolding c stop outputOf answerBuffer
+  report-stopped h e =
+      let t = stopped s c h in
+      (reported s capsules records (number-stop s c h ∙ sym (step-number (view s) c) ∙ sym (same s c .number)) (e ∙ t .2), t .1)
+
+  -- with a key: published or not by b
+  module _ (keyed : isEmpty (stateOf (s .state)) ≡ false) (b : Bool) (e : b ≡ not (isUnpublished (stateOf (s .state)))) where
+    passes : stop s c .0 ≡ false
+    unfolding c stop
+    passes = keyed
+
+    marked : not b ≡ isUnpublished (stateOf (s .state))
+    marked = ap not e ∙ not-not _
+
+    pub report-lower : record { station = s; refused = reportNumber (not b) (kept (s .key)) capsules records; counts = reportCounts (not b) (kept (s .key)) capsules records }
+        ≡ reportedOf (handed s (ask (report capsules records)))
+    unfolding c lower questionConditions heldBy view reportNumber reportCounts made given noAnswer answerSize
+    report-lower =
+        reported s capsules records
+        (ap (λ (u : Bool). reportNumber u (kept (s .key)) capsules records) marked
+        ∙ sym (same s c .number ∙ step-number (view s) c ∙ number-lower s c passes))
+        (ap (λ (u : Bool). reportCounts u (kept (s .key)) capsules records) marked ∙ lower-answer s c passes)
+
+    pub report-output : reportOutput (not b) (kept (s .key)) capsules records ≡ handed s (ask (report capsules records)) .output
+    unfolding c lower questionConditions heldBy view reportNumber reportOutput made given outputOf answerBuffer
+    report-output = ap (λ (u : Bool). reportOutput u (kept (s .key)) capsules records) marked ∙ lower-output s c passes
