@@ -27,7 +27,7 @@ pub const STACK_OPEN: usize = 171 * 1024;
 /// The same for `shearcotter_read`.
 pub const STACK_READ: usize = 171 * 1024;
 /// The same for `shearcotter_report`.
-pub const STACK_REPORT: usize = 176 * 1024;
+pub const STACK_REPORT: usize = 175 * 1024;
 /// The same for `shearcotter_drop`.
 pub const STACK_DROP: usize = 49 * 1024;
 
