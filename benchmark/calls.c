@@ -1,4 +1,5 @@
-/* Publishing, locking, opening and reading at the standard's five shapes: the least processor time of many tries, in ms.
+/* Publishing, locking, opening and reading at the standard's five shapes, and a report beside as many opens at the last: the least
+   processor time of many tries, in ms. Fails where a report takes too much of the opens' time.
    Standard input, where it has lines: a shape's name and the times of Bouncy Castle's decapsulation and encapsulation. */
 #include <stdio.h>
 #include <stdlib.h>
@@ -7,7 +8,7 @@
 
 #include "shearcotter.h"
 
-enum { SHAPES = 5, PLACES = SHEARCOTTER_MOST_PLACES, MOST_ROWS = 13 * SHEARCOTTER_MOST_ERRORS, WORD = PLACES / 8 };
+enum { SHAPES = 5, PLACES = SHEARCOTTER_MOST_PLACES, MOST_ROWS = 13 * SHEARCOTTER_MOST_ERRORS, WORD = PLACES / 8, CARD = 200 };
 static const char *names[SHAPES] = {"mceliece348864", "mceliece460896", "mceliece6688128", "mceliece6960119", "mceliece8192128"};
 
 /* One shape: its sizes, key and inputs. */
@@ -161,6 +162,52 @@ static void measure(times *x)
         publish(x);
 }
 
+/* A report may take this part of the time that an open for each capsule takes. */
+static const double most_of_opens = 0.75;
+static uint8_t card[CARD * WORD], records[CARD];
+
+/* Capsules of other patterns, back to back. */
+static void fill_card(void)
+{
+    for (int i = 0; i < CARD; i++) {
+        draw();
+        differences += shearcotter_lock((uint8_t)m, (uint16_t)n, (uint16_t)t, public_key, public_bytes, pattern, word_bytes,
+                                        card + (size_t)i * capsule_bytes, capsule_bytes) != 0;
+    }
+}
+
+static void open_card(double *least)
+{
+    int opened = 0;
+    double a = now();
+    for (int i = 0; i < CARD; i++)
+        opened += shearcotter_open(station, card + (size_t)i * capsule_bytes, capsule_bytes, out, WORD).refused == 0;
+    lessen(least, now() - a);
+    differences += opened != CARD;
+}
+
+static void report_card(double *least)
+{
+    double a = now();
+    shearcotter_reported r = shearcotter_report(station, card, CARD * capsule_bytes, records, CARD);
+    lessen(least, now() - a);
+    differences += r.refused != 0 || r.counts[0] != CARD || memcmp(records, zeros, CARD) != 0;
+}
+
+/* Reports and opens in turns, at the shape that is prepared; whether a report takes as little as it may. */
+static int report(void)
+{
+    double opens = 0, reports = 0;
+    fill_card();
+    for (int try = 0; try < 8; try++) {
+        open_card(&opens);
+        report_card(&reports);
+    }
+    printf("\nA report on %d capsules of %s: %.0f ms, an open for each %.0f ms, ratio %.2f, at most %.2f\n", CARD,
+           names[SHAPES - 1], reports, opens, reports / opens, most_of_opens);
+    return reports <= most_of_opens * opens;
+}
+
 /* What a refusal with 21 does, in C: the station passed by value and handed back. */
 static shearcotter_reply hand_back(shearcotter_station s, const uint8_t *row, size_t row_len, uint8_t *to, size_t to_len)
 {
@@ -249,7 +296,8 @@ int main(void)
     ratio("publish", "", x, offsetof(times, publish), 0);
     if (x[0].decapsulate)
         chart(x);
+    int quick = report();
     double read = passed_by_value(shearcotter_read), c = passed_by_value(hand_back);
-    printf("\nA station passed by value and handed back: %.0f ns, by C %.0f ns, ratio %.2f\n%d differences\n", read, c, read / c, differences);
-    return differences != 0;
+    printf("A station passed by value and handed back: %.0f ns, by C %.0f ns, ratio %.2f\n%d differences\n", read, c, read / c, differences);
+    return differences != 0 || !quick;
 }

@@ -10,6 +10,7 @@ enum { ARRAY = 2 * SHEARCOTTER_MOST_PLACES };
 static uint8_t file[1 << 15], public_key[1 << 19], work[1 << 19], row[1 << 10], out[1 << 10];
 static shearcotter_station station;
 static shearcotter_reply reply;
+static shearcotter_reported reported;
 static int counting, copies, failed;
 
 /* A station, which has more bytes than a support, or the support alone of the held key or of the file's. The decoder also
@@ -36,20 +37,22 @@ void *memmove(void *to, const void *from, size_t n)
 void *memcpy(void *restrict to, const void *restrict from, size_t n) { return memmove(to, from, n); }
 
 /* The caller's copies: the argument, before the call, and the reply, after it. */
-static void say(const char *call, int refused)
+static void say(const char *call, int wrong)
 {
     counting = 0;
     copies -= 2;
     printf("%-28s %d\n", call, copies);
-    failed |= reply.refused != refused || copies > 2;
+    failed |= wrong || copies > 2;
 }
 
-#define COUNT(name, call, refused) \
+#define COUNT_IN(reply, name, call, number) \
     do { \
         copies = 0, counting = 1, reply = call; \
-        say(name, refused); \
+        say(name, reply.refused != number); \
         station = reply.station; \
     } while (0)
+#define COUNT(name, call, number) COUNT_IN(reply, name, call, number)
+#define COUNT_REPORT(name, call, number) COUNT_IN(reported, name, call, number)
 
 int main(int count, char **words)
 {
@@ -58,12 +61,15 @@ int main(int count, char **words)
     station = shearcotter_fresh();
     COUNT("drop, refused", shearcotter_drop(station), 21);
     COUNT("open, refused, no key", shearcotter_open(station, row, 1, out, sizeof out), 21);
+    COUNT_REPORT("report, refused, no key", shearcotter_report(station, row, 1, out, sizeof out), 21);
     COUNT("load, refused", shearcotter_load(station, file, size - 1), 2);
     COUNT("load", shearcotter_load(station, file, size), 0);
     COUNT("load, refused, key held", shearcotter_load(station, file, size), 22);
     COUNT("publish, refused", shearcotter_publish(station, public_key, 1, work, sizeof work), 10);
     COUNT("publish", shearcotter_publish(station, public_key, sizeof public_key, work, sizeof work), 0);
     COUNT("open, refused", shearcotter_open(station, row, SHEARCOTTER_CAPSULE_BYTES(12, 64), out, sizeof out), 13);
+    COUNT_REPORT("report, refused", shearcotter_report(station, row, 1, out, 0), 31);
+    COUNT_REPORT("report", shearcotter_report(station, row, sizeof row, out, sizeof out), 0);
     COUNT("read, refused", shearcotter_read(station, row, 1, out, sizeof out), 8);
     COUNT("read", shearcotter_read(station, row, SHEARCOTTER_PATTERN_BYTES(3488), out, sizeof out), 0);
     COUNT("drop", shearcotter_drop(station), 0);

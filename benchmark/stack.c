@@ -11,6 +11,7 @@
 enum { SIZE = 1 << 20, MARK = 0xA5, M = 13, N = 8192, T = 128 };
 
 static uint8_t file[1 << 15], public_key[1 << 21], work[1 << 21], pattern[N / 8], capsule[M * T / 8], out[N / 8];
+static uint8_t card[3 * sizeof capsule + 1], records[4];
 static uint16_t list[SHEARCOTTER_LONGEST];
 static size_t size;
 static shearcotter_station station;
@@ -34,6 +35,16 @@ CALL(publish, shearcotter_publish(station, public_key, sizeof public_key, work, 
 CALL(open_capsule, shearcotter_open(station, capsule, sizeof capsule, out, sizeof out))
 CALL(read_word, shearcotter_read(station, pattern, sizeof pattern, out, sizeof out))
 CALL(drop, shearcotter_drop(station))
+
+static void *report(void *none)
+{
+    for (int i = 0; i < 3; i++)
+        memcpy(card + i * sizeof capsule, capsule, sizeof capsule);
+    shearcotter_reported reported = shearcotter_report(station, card, sizeof card, records, sizeof records);
+    station = reported.station;
+    refused = reported.refused || reported.counts[SHEARCOTTER_ACCEPTED] != 3;
+    return none;
+}
 
 static void *lock(void *none)
 {
@@ -87,6 +98,7 @@ int main(int count, char **words)
     measure("publish", publish, SHEARCOTTER_STACK_PUBLISH);
     measure("lock", lock, SHEARCOTTER_STACK_LOCK);
     measure("open", open_capsule, SHEARCOTTER_STACK_OPEN);
+    measure("report", report, SHEARCOTTER_STACK_REPORT);
     measure("read", read_word, SHEARCOTTER_STACK_READ);
     measure("drop", drop, SHEARCOTTER_STACK_DROP);
     measure("register", shortest_register, SHEARCOTTER_STACK_REGISTER);

@@ -9,7 +9,7 @@ count=$(($(wc -c <capsules) / 208))
 # Milliseconds of a run on $1 threads.
 run() {
     from=$(date +%s%N)
-    "$tool" open --jobs "$1" key.bin capsules >"lines.$1"
+    "$tool" open --quiet --jobs "$1" key.bin capsules >"lines.$1"
     to=$(date +%s%N)
     echo $(((to - from) / 1000000))
 }

@@ -1,4 +1,4 @@
-/* Whether wipe.h wipes: a key file is loaded, published and opened with, and then this program's own memory is looked through for
+/* Whether wipe.h wipes: a key file is loaded, published, opened and reported with, and then this program's own memory is looked through for
  * eight elements of the support in a row. Without wiping they are found; with it they must not be. Linux. */
 #include <stdio.h>
 #include <stdlib.h>
@@ -50,7 +50,7 @@ static WIPE_APART void hold_key(const char *name)
     wipe(copies, sizeof copies);
 }
 
-/* Loads, publishes, locks and opens; the stack is left as it is. */
+/* Loads, publishes, locks, opens and reports; the stack is left as it is. */
 static WIPE_APART void use_key(const char *name)
 {
     read_key(name, file);
@@ -63,6 +63,9 @@ static WIPE_APART void use_key(const char *name)
            "the pattern is not locked");
     reply = shearcotter_open(reply.station, capsule, sizeof capsule, pattern, sizeof pattern);
     expect(reply.refused == SHEARCOTTER_ACCEPTED, shearcotter_words(reply.refused));
+    uint8_t record;
+    shearcotter_reported reported = shearcotter_report(reply.station, capsule, sizeof capsule, &record, 1);
+    expect(reported.counts[SHEARCOTTER_ACCEPTED] == 1, shearcotter_words(reported.refused));
 }
 
 /* The element that comes after each in the support; the support itself is not kept. */

@@ -1,4 +1,4 @@
-/* A key is loaded and published, a pattern locked, capsules opened: the bench key K1 of docs/FORMATS.md.
+/* A key is loaded and published, a pattern locked, capsules opened and reported on: the bench key K1 of docs/FORMATS.md.
  * Prints a line for each row; exits with 1 where an answer is not the expected one. Secrets are wiped at the end. */
 #include <stdio.h>
 #include <string.h>
@@ -50,6 +50,22 @@ static void open_row(const char *name, shearcotter_station station, uint8_t caps
         (number == SHEARCOTTER_ACCEPTED || out[0] == 0));
 }
 
+/* Reports on the capsules of the rows above with room for so many records: their numbers, and how many are opened. */
+static void report_row(const char *name, shearcotter_station station, size_t room, uint8_t number)
+{
+    static const uint8_t capsules[] = {0x03, 0x00, 0x13};
+    static const uint8_t expected[] = {SHEARCOTTER_ACCEPTED, SHEARCOTTER_NO_PATTERN, SHEARCOTTER_FILLER_SET};
+    uint8_t records[SHEARCOTTER_CAPSULES(M, T, sizeof capsules)] = {0};
+    shearcotter_reported reported = shearcotter_report(station, capsules, sizeof capsules, records, room);
+    row(name, reported.refused, records, sizeof records, number, expected);
+    size_t opened = reported.counts[SHEARCOTTER_ACCEPTED], refused = 0;
+    for (size_t i = 1; i < SHEARCOTTER_BYTE_VALUES; i++) {
+        refused += reported.counts[i];
+    }
+    printf("  total %zu opened %zu refused %zu", opened + refused, opened, refused);
+    end(number == SHEARCOTTER_ACCEPTED ? opened == 1 && refused == 2 : opened + refused == 0 && records[1] == 0);
+}
+
 /* All calls on the station: what it holds and what the calls leave lies below main's frame. */
 static WIPE_APART void use_key(void)
 {
@@ -71,6 +87,9 @@ static WIPE_APART void use_key(void)
     open_row("P4 open 03", reply.station, capsule[0], SHEARCOTTER_ACCEPTED);
     open_row("P5 open 00", reply.station, 0x00, SHEARCOTTER_NO_PATTERN);
     open_row("P7 open 13", reply.station, 0x13, SHEARCOTTER_FILLER_SET);
+
+    report_row("report 03 00 13", reply.station, 3, SHEARCOTTER_ACCEPTED);
+    report_row("report, two records", reply.station, 2, SHEARCOTTER_SHORT_RECORDS);
 
     reply = shearcotter_drop(reply.station);
     row("drop", reply.refused, k1, 0, SHEARCOTTER_ACCEPTED, k1);

@@ -1,4 +1,4 @@
-//! Opens the capsules of a file with a key file: a line for each, as the opening program prints it.
+//! Opens the capsules of a file with a key file: a line for each and the total, as the opening program prints them.
 
 use std::error::Error;
 use std::{env, fs};
@@ -17,12 +17,14 @@ fn main() -> Result<(), Box<dyn Error>> {
     loaded?;
     station.publish()?;
     let length = station.shape().map_or(1, |shape| shape.capsule_length());
-    for (position, capsule) in (1..).zip(fs::read(capsules)?.chunks(length)) {
+    let capsules = fs::read(capsules)?;
+    for (position, capsule) in (1..).zip(capsules.chunks(length)) {
         match station.open(capsule) {
             Ok(pattern) => println!("{position} open{}", places(pattern.places())),
             Err(refusal) => println!("{position} refused {}", refusal.number()),
         }
     }
+    println!("{}", station.report(&capsules)?.counts());
     Ok(())
 }
 

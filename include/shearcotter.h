@@ -1,4 +1,4 @@
-/* Goppa code capsules: field, keys, public key, locking, reading, opening. Link libshearcotter.a (x86-64).
+/* Goppa code capsules: field, keys, public key, locking, reading, opening, reports. Link libshearcotter.a (x86-64).
  *
  * Rules for every call:
  * - Pointers are not null, also with length 0, and the buffers of one call do not overlap.
@@ -30,7 +30,8 @@ enum shearcotter_limit {
     SHEARCOTTER_MOST_PLACES = 8192,  /* n */
     SHEARCOTTER_MOST_ERRORS = 128,   /* t */
     SHEARCOTTER_LONGEST = 256,       /* elements in the list for a register */
-    SHEARCOTTER_COEFFICIENTS = 257   /* of a register's connection polynomial */
+    SHEARCOTTER_COEFFICIENTS = 257,  /* of a register's connection polynomial */
+    SHEARCOTTER_BYTE_VALUES = 256    /* that a report counts */
 };
 
 /* KiB of stack that a call takes, its argument and reply in the caller included: as measured at (13, 8192, 128), rounded up; the
@@ -42,6 +43,7 @@ enum shearcotter_stack_kib {
     SHEARCOTTER_STACK_LOCK = 2,
     SHEARCOTTER_STACK_OPEN = 171,
     SHEARCOTTER_STACK_READ = 171,
+    SHEARCOTTER_STACK_REPORT = 175,
     SHEARCOTTER_STACK_DROP = 49,
     SHEARCOTTER_STACK_REGISTER = 4
 };
@@ -52,6 +54,10 @@ enum shearcotter_stack_kib {
 #define SHEARCOTTER_CAPSULE_BYTES(m, t) (((size_t)(m) * (t) + 7) / 8)
 #define SHEARCOTTER_PUBLIC_BYTES(m, n, t) ((size_t)(m) * (t) * (((size_t)(n) - (size_t)(m) * (t) + 7) / 8))
 #define SHEARCOTTER_WORK_BYTES(m, n, t) ((size_t)(m) * (t) * (((size_t)(n) + 7) / 8))
+
+/* The number of capsules in so many bytes, and so the bytes of their records: a short last one counts. */
+#define SHEARCOTTER_CAPSULES(m, t, bytes) \
+    ((size_t)(bytes) / SHEARCOTTER_CAPSULE_BYTES(m, t) + ((size_t)(bytes) % SHEARCOTTER_CAPSULE_BYTES(m, t) != 0))
 
 enum shearcotter_state {
     SHEARCOTTER_EMPTY = 0,
@@ -83,7 +89,9 @@ enum shearcotter_state {
     X(SHEARCOTTER_DEPENDENT_COLUMNS, 23, "the first m*t columns are dependent: no public key")         \
     X(SHEARCOTTER_NOT_PUBLISHED, 24, "not published")                                                  \
     /* a station not made by these calls */                                                            \
-    X(SHEARCOTTER_UNSOUND_KEY, 25, "the kept key is not one that load accepts")
+    X(SHEARCOTTER_UNSOUND_KEY, 25, "the kept key is not one that load accepts")                        \
+    /* of a report */                                                                                  \
+    X(SHEARCOTTER_SHORT_RECORDS, 31, "record buffer shorter than the number of capsules")
 
 /* What `refused` says. */
 #define SHEARCOTTER_NUMBER(name, number, words) name = number,
@@ -127,6 +135,14 @@ typedef struct {
     uint8_t refused;
     uint16_t ones;
 } shearcotter_reply;
+
+/* The caller's station, the number of the refusal, 0 for none, and how many of the records have each value; the counts are 0 where
+ * it is refused. A reply of its own, and secret as the others are. */
+typedef struct {
+    shearcotter_station station;
+    uint8_t refused;
+    size_t counts[SHEARCOTTER_BYTE_VALUES];
+} shearcotter_reported;
 
 /* value is 0 where it is refused. */
 typedef struct {
@@ -174,6 +190,10 @@ SHEARCOTTER_SIZE(reply, 16652)
 SHEARCOTTER_OFFSET(reply, station, 0)
 SHEARCOTTER_OFFSET(reply, refused, 16648)
 SHEARCOTTER_OFFSET(reply, ones, 16650)
+SHEARCOTTER_SIZE(reported, 18704)
+SHEARCOTTER_OFFSET(reported, station, 0)
+SHEARCOTTER_OFFSET(reported, refused, 16648)
+SHEARCOTTER_OFFSET(reported, counts, 16656)
 SHEARCOTTER_SIZE(element, 4)
 SHEARCOTTER_OFFSET(element, refused, 0)
 SHEARCOTTER_OFFSET(element, value, 2)
@@ -236,6 +256,14 @@ shearcotter_reply shearcotter_publish(shearcotter_station station, uint8_t *out,
  * Refused: 21, 25, 24, 8, 9, 10, 13. A sender must not learn of 13: docs/FORMATS.md, 'Classic McEliece's objects'. */
 shearcotter_reply shearcotter_open(shearcotter_station station, const uint8_t *capsule, size_t capsule_length, uint8_t *out,
                                    size_t out_length);
+
+/* Reports on capsules that stand back to back: writes a record for each, in their order, and counts the records of each value.
+ * The record is 0 where open gives a pattern, else the number that open refuses the capsule with: 8, 9 or 13. A short tail is the
+ * last capsule, its record 8; an empty buffer has none. SHEARCOTTER_CAPSULES says how many there are: the length divided by a
+ * capsule's, rounded up. No pattern is written, and the kept key is checked once. The station stays.
+ * Refused: 21, 25, 24, 31: then no record is written and the counts are 0. A sender must not learn of a 13 here either. */
+shearcotter_reported shearcotter_report(shearcotter_station station, const uint8_t *capsules, size_t capsules_length,
+                                        uint8_t *records, size_t records_length);
 
 /* Writes the pattern that turns the word into the code word within t places, and counts its ones. The station stays.
  * Refused: 21, 25, 8, 9, 10, 14. */

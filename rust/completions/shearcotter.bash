@@ -21,7 +21,7 @@ _shearcotter() {
             ended=1
         elif [[ -z $ended && $word == -?* ]]; then
             case $word in
-                --format | --jobs) option=$word ;;
+                --format | --jobs | --records) option=$word ;;
             esac
         elif [[ -z $command ]]; then
             command=$word
@@ -33,15 +33,17 @@ _shearcotter() {
         [[ $cur == = ]] && cur=''
         case $option in
             --format) _shearcotter_words 'places hex raw json' "$cur" ;;
+            --records) _shearcotter_files "$cur" ;;
         esac
     elif [[ -z $command ]]; then
-        _shearcotter_words 'check publish lock open read shapes help man completions --help --version' "$cur"
+        _shearcotter_words 'check publish lock open report read shapes help man completions --help --version' "$cur"
     elif [[ -z $ended && $cur == -* ]]; then
         case $command in
             check) _shearcotter_words '--quiet --help' "$cur" ;;
             publish) _shearcotter_words '--quiet --help' "$cur" ;;
             lock) _shearcotter_words '--format --quiet --help' "$cur" ;;
             open) _shearcotter_words '--format --jobs --explain --quiet --help' "$cur" ;;
+            report) _shearcotter_words '--records --jobs --quiet --help' "$cur" ;;
             read) _shearcotter_words '--format --jobs --explain --quiet --help' "$cur" ;;
             shapes) _shearcotter_words '--quiet --help' "$cur" ;;
             help) _shearcotter_words '--quiet --help' "$cur" ;;
@@ -59,9 +61,11 @@ _shearcotter() {
             lock,3) _shearcotter_files "$cur" ;;
             open,0) _shearcotter_files "$cur" ;;
             open,1) _shearcotter_files "$cur" ;;
+            report,0) _shearcotter_files "$cur" ;;
+            report,1) _shearcotter_files "$cur" ;;
             read,0) _shearcotter_files "$cur" ;;
             read,1) _shearcotter_files "$cur" ;;
-            help,0) _shearcotter_words 'check publish lock open read shapes help man completions' "$cur" ;;
+            help,0) _shearcotter_words 'check publish lock open report read shapes help man completions' "$cur" ;;
             completions,0) _shearcotter_words 'bash' "$cur" ;;
         esac
     fi

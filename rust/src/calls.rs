@@ -7,16 +7,23 @@
 
 use std::mem::{size_of, MaybeUninit};
 
-use crate::{raw, wiping, Refusal};
+use crate::{raw, wiping, Counts, Refusal};
 
 /// Bytes of stack that the functions here take beyond a C call's.
 const FRAMES: usize = 4096;
 /// The same with the copies of station and reply that builds without optimisation make.
-const COPIES: usize = FRAMES + size_of::<raw::Station>() + size_of::<raw::Reply>();
+const COPIES: usize = FRAMES + size_of::<raw::Station>() + size_of::<raw::Reported>();
 // What each call on a secret takes lies in the stack that is made sure of.
 const _: () = {
-    let taken =
-        [raw::STACK_LOAD, raw::STACK_PUBLISH, raw::STACK_LOCK, raw::STACK_OPEN, raw::STACK_READ, raw::STACK_DROP];
+    let taken = [
+        raw::STACK_LOAD,
+        raw::STACK_PUBLISH,
+        raw::STACK_LOCK,
+        raw::STACK_OPEN,
+        raw::STACK_READ,
+        raw::STACK_REPORT,
+        raw::STACK_DROP,
+    ];
     let mut i = 0;
     while i < taken.len() {
         assert!(taken[i] + COPIES + FRAMES <= raw::STACK);
@@ -119,6 +126,19 @@ pub(crate) fn read(station: &raw::Station, word: &[u8], out: &mut [u8]) -> Resul
         let reply = unsafe { raw::shearcotter_read(*station, word.as_ptr(), word.len(), out.as_mut_ptr(), out.len()) };
         Refusal::check(reply.refused).map(|()| reply.ones)
     })
+}
+
+/// The station that the call hands back is the caller's own.
+pub(crate) fn report(station: &raw::Station, capsules: &[u8], records: &mut [u8]) -> Result<Counts, Refusal> {
+    let mut counts = Counts::zeros();
+    secretly::<{ raw::STACK_REPORT + COPIES }, _>(|| {
+        let reported = unsafe {
+            raw::shearcotter_report(*station, capsules.as_ptr(), capsules.len(), records.as_mut_ptr(), records.len())
+        };
+        *counts.as_mut() = reported.counts;
+        Refusal::check(reported.refused)
+    })
+    .map(|()| counts)
 }
 
 pub(crate) fn drop_key(station: &mut raw::Station) -> Result<(), Refusal> {

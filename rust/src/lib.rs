@@ -1,8 +1,8 @@
 //! Classic McEliece capsules: the proved calls of `libshearcotter.a` as safe types.
 //!
 //! A [`Station`] keeps one key: [`load`](Station::load) it from a key file, [`publish`](Station::publish) its
-//! public key, [`open`](Station::open) capsules and [`read`](Station::read) words. [`lock`](lock()) makes a capsule
-//! from a public key. A call that is refused answers a [`Refusal`] and changes nothing.
+//! public key, [`open`](Station::open) capsules, [`report`](Station::report) on them and [`read`](Station::read) words.
+//! [`lock`](lock()) makes a capsule from a public key. A call that is refused answers a [`Refusal`] and changes nothing.
 //!
 //! ```
 //! use shearcotter::{lock, Shape, Station};
@@ -14,12 +14,15 @@
 //! let capsule = lock(Shape::new(4, 6, 1)?, &public, &[0x10])?;
 //! assert_eq!(capsule, [0x03]);
 //! assert_eq!(station.open(&capsule)?.places().collect::<Vec<_>>(), [4]);
+//! let report = station.report(&[0x03, 0x00, 0x13])?;
+//! assert_eq!(report.records(), [0, 13, 9]);
+//! assert_eq!(report.counts().to_string(), "total 3 opened 1 refused 2");
 //! # Ok::<(), shearcotter::Refusal>(())
 //! ```
 //!
 //! # Stack
 //!
-//! A call takes up to 171 KiB of stack, 189 without optimisation, since the station passes by value. Each call touches
+//! A call takes up to 175 KiB of stack, 194 without optimisation, since the station passes by value. Each call touches
 //! [`raw::STACK`] bytes of stack first, 256 KiB, so that a thread with less ends at its guard page and nowhere else.
 //!
 //! # Secrets
@@ -39,6 +42,7 @@ mod pattern;
 pub mod raw;
 mod refusal;
 mod register;
+mod report;
 mod shape;
 mod station;
 mod wiping;
@@ -47,6 +51,7 @@ pub use locking::{lock, lock_into};
 pub use pattern::Pattern;
 pub use refusal::Refusal;
 pub use register::{register, Register};
+pub use report::{Counts, Report};
 pub use shape::Shape;
 pub use station::Station;
 pub use wiping::wipe;

@@ -12,6 +12,8 @@ pub const MOST_ERRORS: usize = 128;
 pub const LONGEST: usize = 256;
 /// Coefficients of a register's connection polynomial.
 pub const COEFFICIENTS: usize = LONGEST + 1;
+/// The values of a byte, which a report counts.
+pub const BYTE_VALUES: usize = 256;
 /// Bytes of stack that each safe call makes sure of.
 pub const STACK: usize = 256 * 1024;
 /// Bytes of stack that `shearcotter_load` takes, its argument and reply in the caller included.
@@ -24,6 +26,8 @@ pub const STACK_LOCK: usize = 2 * 1024;
 pub const STACK_OPEN: usize = 171 * 1024;
 /// The same for `shearcotter_read`.
 pub const STACK_READ: usize = 171 * 1024;
+/// The same for `shearcotter_report`.
+pub const STACK_REPORT: usize = 175 * 1024;
 /// The same for `shearcotter_drop`.
 pub const STACK_DROP: usize = 49 * 1024;
 
@@ -70,6 +74,18 @@ pub struct Reply {
     pub refused: u8,
     /// The ones of the pattern that open or read has written.
     pub ones: u16,
+}
+
+/// What the call for a report hands back.
+#[derive(Clone, Copy, PartialEq, Eq)]
+#[repr(C)]
+pub struct Reported {
+    /// The caller's own station.
+    pub station: Station,
+    /// 0, or the refusal's number.
+    pub refused: u8,
+    /// How many records have each value; zeros where it is refused.
+    pub counts: [usize; BYTE_VALUES],
 }
 
 /// What a field call hands back.
@@ -159,6 +175,14 @@ extern "C" {
         out: *mut u8,
         out_length: usize,
     ) -> Reply;
+    /// Writes a record for each capsule, and counts the records of each value.
+    pub fn shearcotter_report(
+        station: Station,
+        capsules: *const u8,
+        capsules_length: usize,
+        records: *mut u8,
+        records_length: usize,
+    ) -> Reported;
     /// Drops the key.
     pub fn shearcotter_drop(station: Station) -> Reply;
 }

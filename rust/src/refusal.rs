@@ -65,6 +65,7 @@ refusals! {
     DependentColumns 23 "the first m*t columns are dependent: no public key",
     NotPublished 24 "not published",
     UnsoundKey 25 "the kept key is not one that load accepts",
+    ShortRecords 31 "record buffer shorter than the number of capsules",
 }
 
 impl Refusal {

@@ -93,6 +93,11 @@ impl Shape {
         self.capsule_bits().div_ceil(8)
     }
 
+    /// How many capsules stand back to back in so many bytes; a short last one counts.
+    pub fn capsules_in(self, length: usize) -> usize {
+        length.div_ceil(self.capsule_length())
+    }
+
     /// Bytes of the public key.
     pub fn public_length(self) -> usize {
         self.capsule_bits() * (usize::from(self.n) - self.capsule_bits()).div_ceil(8)

@@ -46,6 +46,7 @@ fn limits_states_and_stack() {
         ("MOST_ERRORS", raw::MOST_ERRORS),
         ("LONGEST", raw::LONGEST),
         ("COEFFICIENTS", raw::COEFFICIENTS),
+        ("BYTE_VALUES", raw::BYTE_VALUES),
         ("EMPTY", raw::EMPTY.into()),
         ("LOADED", raw::LOADED.into()),
         ("PUBLISHED", raw::PUBLISHED.into()),
@@ -54,6 +55,7 @@ fn limits_states_and_stack() {
         ("STACK_LOCK", raw::STACK_LOCK / 1024),
         ("STACK_OPEN", raw::STACK_OPEN / 1024),
         ("STACK_READ", raw::STACK_READ / 1024),
+        ("STACK_REPORT", raw::STACK_REPORT / 1024),
         ("STACK_DROP", raw::STACK_DROP / 1024),
     ] {
         assert_eq!(constant(name), value, "{name}");
@@ -88,6 +90,7 @@ fn layout_is_the_crate_s() {
     layout!(Key "key" m n t support g);
     layout!(Station "station" state key);
     layout!(Reply "reply" station refused ones);
+    layout!(Reported "reported" station refused counts);
     layout!(Element "element" refused value);
     layout!(Shape "shape" refused m n t);
     layout!(Register "register" refused length c);

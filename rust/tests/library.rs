@@ -11,7 +11,7 @@ use crate::bench_keys::{K1, K3};
 #[test]
 fn refusals_have_their_numbers_and_words() {
     let numbers: Vec<u8> = Refusal::ALL.iter().map(|refusal| refusal.number()).collect();
-    let expected: Vec<u8> = (1..=14).chain(21..=25).collect();
+    let expected: Vec<u8> = (1..=14).chain(21..=25).chain([31]).collect();
     assert_eq!(numbers, expected);
     for number in 0..=255 {
         let refusal = Refusal::from_number(number);
@@ -37,8 +37,9 @@ impl<T> Hidden for Shown<T> {}
 
 #[test]
 fn secrets_are_not_shown() {
-    let structs = [Shown::<raw::Key>::SHOWN, Shown::<raw::Station>::SHOWN, Shown::<raw::Reply>::SHOWN];
-    assert_eq!((structs, Shown::<raw::Element>::SHOWN), ([false; 3], true));
+    let replies = [Shown::<raw::Reply>::SHOWN, Shown::<raw::Reported>::SHOWN];
+    let structs = [Shown::<raw::Key>::SHOWN, Shown::<raw::Station>::SHOWN];
+    assert_eq!((replies, structs, Shown::<raw::Element>::SHOWN), ([false; 2], [false; 2], true));
     let mut station = Station::fresh();
     station.load(&K1).expect("load accepts");
     station.publish().expect("publish accepts");
@@ -71,6 +72,8 @@ fn positions_names_and_lengths() {
     assert_eq!(Shape::MCELIECE348864.workspace_length(), 768 * 436);
     assert_eq!(Shape::MCELIECE8192128.key_file_length(), 16_645);
     assert_eq!(Shape::named("mceliece"), None);
+    let capsules = [0, 1, 95, 96, 97, 960].map(|length| Shape::MCELIECE348864.capsules_in(length));
+    assert_eq!(capsules, [0, 1, 1, 1, 2, 10]);
 }
 
 #[test]
@@ -88,6 +91,7 @@ fn sizes_of_the_structs() {
     assert_eq!(size_of::<raw::Key>(), 6 + 2 * 8192 + 2 * 128);
     assert_eq!(size_of::<raw::Station>(), 2 + size_of::<raw::Key>());
     assert_eq!(size_of::<raw::Reply>(), size_of::<raw::Station>() + 4);
+    assert_eq!(size_of::<raw::Reported>(), size_of::<raw::Station>() + 8 + 8 * 256);
     assert_eq!((size_of::<raw::Element>(), size_of::<raw::Shape>()), (4, 6));
     assert_eq!(size_of::<raw::Register>(), 536);
 }
@@ -114,6 +118,11 @@ fn lent_buffers() {
     assert_eq!(pattern, [0x10, 7]);
     assert_eq!(station.read_into(&[0x24], &mut pattern), Ok(1));
     assert_eq!(pattern, [0x01, 7]);
+    let mut records = [7; 4];
+    assert_eq!(station.report_into(&[3, 0, 0x13], &mut records[..2]), Err(Refusal::ShortRecords));
+    assert_eq!(records, [7; 4]);
+    let counts = station.report_into(&[3, 0, 0x13], &mut records).expect("a report");
+    assert_eq!((records, counts.total()), ([0, 13, 9, 7], 3));
     let mut capsule = [7; 2];
     assert_eq!(lock_into(4, 6, 1, &out[..4], &[0x10], &mut capsule[..0]), Err(Refusal::ShortOutput));
     assert_eq!(lock_into(4, 6, 1, &out[..4], &[0x10], &mut capsule), Ok(()));
@@ -128,17 +137,40 @@ fn states() {
     assert_eq!((station.shape(), station.is_published()), (None, false));
     assert_eq!(station.publish(), Err(Refusal::NoKey));
     assert_eq!(station.open(&[3]), Err(Refusal::NoKey));
+    assert_eq!(station.report(&[3]), Err(Refusal::NoKey));
+    assert_eq!(station.report(&[]), Err(Refusal::NoKey));
     assert_eq!(station.read(&[3]), Err(Refusal::NoKey));
     assert_eq!(station.drop_key(), Err(Refusal::NoKey));
     station.load(&K1).expect("load accepts");
     assert_eq!(station.load(&K1), Err(Refusal::KeyHeld));
     assert_eq!(station.open(&[3]), Err(Refusal::NotPublished));
+    assert_eq!(station.report(&[3]), Err(Refusal::NotPublished));
     assert_eq!((station.shape(), station.is_published()), (Shape::new(4, 6, 1).ok(), false));
     station.publish().expect("publish accepts");
     assert!(station.is_published());
     assert_eq!(station.drop_key(), Ok(()));
     assert_eq!((station.shape(), station.is_published()), (None, false));
     station.load(&K1).expect("load accepts again");
+}
+
+#[test]
+fn what_a_report_says() {
+    let mut station = Station::fresh();
+    station.load(&K1).expect("load accepts");
+    station.publish().expect("publish accepts");
+    let report = station.report(&[0x03, 0x00, 0x13, 0x03]).expect("a report");
+    assert_eq!(report.records(), [0, 13, 9, 0]);
+    let answers = [Ok(()), Err(Refusal::NoPattern), Err(Refusal::FillerSet), Ok(())];
+    assert_eq!(report.answers().collect::<Vec<_>>(), answers);
+    let counts = report.counts();
+    assert_eq!((counts.total(), counts.opened(), counts.refused()), (4, 2, 2));
+    assert_eq!([0, 9, 13, 8, 255].map(|number| counts.of(number)), [2, 1, 1, 0, 0]);
+    assert_eq!(counts.occurring().collect::<Vec<_>>(), [(0, 2), (9, 1), (13, 1)]);
+    assert_eq!(counts.to_string(), "total 4 opened 2 refused 2");
+    assert_eq!(report.clone().into_records(), [0, 13, 9, 0]);
+    let none = station.report(&[]).expect("a report on nothing");
+    assert_eq!((none.records(), none.counts().to_string().as_str()), (&[][..], "total 0 opened 0 refused 0"));
+    assert_eq!(none.counts().occurring().count(), 0);
 }
 
 #[test]

@@ -6,6 +6,8 @@ mod compare;
 mod header;
 mod independent;
 mod library;
+mod lists;
+mod reports;
 #[cfg(target_os = "linux")]
 mod secrets;
 mod support;

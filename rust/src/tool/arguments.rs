@@ -1,6 +1,7 @@
 //! The command line, by the table of commands.
 
 use std::ffi::{OsStr, OsString};
+use std::os::unix::ffi::OsStrExt;
 use std::{array, slice};
 
 use crate::commands::{self, COMMANDS};
@@ -20,7 +21,7 @@ pub struct Given {
     command: &'static Command,
     operands: Vec<OsString>,
     /// In the order given: the last of a name counts.
-    options: Vec<(&'static Choice, String)>,
+    options: Vec<(&'static Choice, OsString)>,
 }
 
 impl Given {
@@ -37,9 +38,14 @@ impl Given {
         self.operands.first().map(OsString::as_os_str)
     }
 
-    fn option(&self, name: &str) -> Option<&str> {
+    fn option(&self, name: &str) -> Option<&OsStr> {
         let found = self.options.iter().rev().find(|(choice, _)| choice.name == name);
-        found.map(|(_, value)| value.as_str())
+        found.map(|(_, value)| value.as_os_str())
+    }
+
+    /// The file given for an option.
+    pub fn file(&self, name: &str) -> Option<&OsStr> {
+        self.option(name)
     }
 
     pub fn has(&self, name: &str) -> bool {
@@ -52,11 +58,11 @@ impl Given {
             Takes::OneOf { default, .. } if choice.name == name => Some(default),
             _ => None,
         });
-        self.option(name).or(default).unwrap_or_default()
+        self.option(name).and_then(OsStr::to_str).or(default).unwrap_or_default()
     }
 
     pub fn number(&self, name: &str) -> Option<usize> {
-        self.option(name).and_then(|value| value.parse().ok())
+        self.option(name)?.to_str()?.parse().ok()
     }
 }
 
@@ -127,7 +133,7 @@ fn option(
     command: &Command,
     word: &OsStr,
     words: &mut slice::Iter<'_, OsString>,
-) -> Result<(&'static Choice, String), Failure> {
+) -> Result<(&'static Choice, OsString), Failure> {
     let mut parts = word.as_encoded_bytes().splitn(2, |byte| *byte == b'=');
     let (name, behind) = (parts.next().unwrap_or_default(), parts.next());
     let found = command.options().find(|choice| choice.name.as_bytes() == name);
@@ -138,8 +144,10 @@ fn option(
         (_, Some(value)) => value,
         (_, None) => words.next().map(|next| next.as_encoded_bytes()).ok_or_else(|| no_value(choice))?,
     };
-    let text = std::str::from_utf8(value).ok().filter(|value| takes(choice, value));
-    text.map(|value| (choice, value.to_owned())).ok_or_else(|| bad_value(choice, value))
+    if !takes(choice, value) {
+        return Err(bad_value(choice, value));
+    }
+    Ok((choice, OsStr::from_bytes(value).to_owned()))
 }
 
 fn no_value(choice: &Choice) -> Failure {
@@ -151,15 +159,18 @@ fn bad_value(choice: &Choice, value: &[u8]) -> Failure {
     Failure::usage(format!("{} takes {}, not {shown}", choice.name, choice.values()))
 }
 
-fn takes(choice: &Choice, value: &str) -> bool {
+fn takes(choice: &Choice, value: &[u8]) -> bool {
     match &choice.takes {
         Takes::Nothing => true,
-        Takes::OneOf { words, .. } => words.iter().any(|word| word.name == value),
-        Takes::Number { least, most, .. } => {
-            let digits = value.bytes().all(|byte| byte.is_ascii_digit());
-            digits && value.parse().is_ok_and(|number: usize| (*least..=*most).contains(&number))
-        }
+        Takes::OneOf { words, .. } => words.iter().any(|word| word.name.as_bytes() == value),
+        Takes::Number { least, most, .. } => number(value).is_some_and(|number| (*least..=*most).contains(&number)),
+        Takes::Output { .. } => !value.is_empty(),
     }
+}
+
+fn number(value: &[u8]) -> Option<usize> {
+    let digits = value.iter().all(u8::is_ascii_digit);
+    std::str::from_utf8(value).ok().filter(|_| digits)?.parse().ok()
 }
 
 fn no_such_option(command: &Command, name: &[u8]) -> Failure {
@@ -203,8 +214,10 @@ fn known(operand: &Operand, word: &OsStr) -> Result<(), Failure> {
 fn streams(given: &Given) -> Result<(), Failure> {
     let inputs = files_of(given, |kind| matches!(kind, Kind::Input));
     let outputs = files_of(given, |kind| matches!(kind, Kind::Output));
+    let options = given.command.options().filter(|choice| matches!(choice.takes, Takes::Output { .. }));
+    let named = options.filter_map(|choice| given.file(choice.name));
     files::one_standard_input(&inputs)?;
-    outputs.into_iter().try_for_each(|out| files::not_an_input(out, &inputs))
+    outputs.into_iter().chain(named).try_for_each(|out| files::not_an_input(out, &inputs))
 }
 
 fn files_of(given: &Given, wanted: fn(&Kind) -> bool) -> Vec<&OsStr> {

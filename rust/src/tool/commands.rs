@@ -4,11 +4,12 @@ use std::ffi::OsStr;
 
 use crate::arguments::Given;
 use crate::table::{Choice, Command, Kind, Operand, Takes};
-use crate::{completions, formats, help, keys, locking, manual, opening, shapes};
+use crate::{completions, formats, help, keys, locking, manual, opening, reporting, shapes};
 
 pub const FORMAT: &str = "--format";
 pub const JOBS: &str = "--jobs";
 pub const EXPLAIN: &str = "--explain";
+pub const RECORDS: &str = "--records";
 
 /// The most threads that may be asked for.
 pub const MOST_JOBS: usize = 1024;
@@ -18,19 +19,21 @@ const fn format(default: &'static str) -> Choice {
     Choice { name: FORMAT, short: None, takes, about: "how patterns are written" }
 }
 
+const ON_THREADS: Choice = Choice {
+    name: JOBS,
+    short: None,
+    takes: Takes::Number { value: "N", least: 1, most: MOST_JOBS },
+    about: "rows on N threads, in their order all the same; the machine's cores where it is not given",
+};
+
 const ROWS: &[Choice] = &[
     format("places"),
-    Choice {
-        name: JOBS,
-        short: None,
-        takes: Takes::Number { value: "N", least: 1, most: MOST_JOBS },
-        about: "rows on N threads, in their order all the same; the machine's cores where it is not given",
-    },
+    ON_THREADS,
     Choice {
         name: EXPLAIN,
         short: None,
         takes: Takes::Nothing,
-        about: "the number's words, and what was expected and found, behind each refused row; no summary",
+        about: "the number's words, and what was expected and found, behind each refused row, not at the end",
     },
 ];
 
@@ -95,10 +98,42 @@ prints a line for each:
     POSITION open PLACES...
     POSITION refused NUMBER
 
-Positions count from 1, places from 0. A short tail is refused 8. Where some
-capsule was refused, a summary on standard error says what the numbers mean.
+Positions count from 1, places from 0. A short tail is refused 8. At the end a
+summary on standard error has the total, as in
+
+    shearcotter: capsules: total 3 opened 1 refused 2
+
+and what the numbers mean by which capsules were refused.
 ",
         run: opening::open,
+    },
+    Command {
+        name: "report",
+        operands: &[KEY, Operand::optional("FILE", Kind::Input, "capsules, back to back")],
+        options: &[
+            Choice {
+                name: RECORDS,
+                short: None,
+                takes: Takes::Output { value: "OUT" },
+                about: "writes a byte a capsule to OUT, in their order: 0 where it is opened, else its number",
+            },
+            ON_THREADS,
+        ],
+        about: "report on capsules, opened and refused",
+        details: "\
+Tries to open the capsules that stand back to back in FILE with the key file
+KEY, and prints how many of them have each number: 0 for those that are opened,
+else the number of the refusal with its words. A last line has the total:
+
+    total 3 opened 1 refused 2
+
+A short tail is refused 8. No pattern is printed, and the kept key is checked
+once a block of capsules, so that this takes less time than `open`.
+
+OUT is replaced in one step, also where capsules are refused: it has their
+numbers. Where it is -, the total and the words go to standard error.
+",
+        run: reporting::report,
     },
     Command {
         name: "read",
@@ -113,8 +148,12 @@ differ, and which:
     POSITION read COUNT PLACES...
     POSITION refused NUMBER
 
-Positions count from 1, places from 0. A short tail is refused 8. Where some
-word was refused, a summary on standard error says what the numbers mean.
+Positions count from 1, places from 0. A short tail is refused 8. At the end a
+summary on standard error has the total, as in
+
+    shearcotter: words: total 3 read 2 refused 1
+
+and what the numbers mean by which words were refused.
 ",
         run: opening::read,
     },

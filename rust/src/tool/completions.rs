@@ -100,10 +100,14 @@ fn words(words: &str) -> String {
     format!("_shearcotter_words '{words}' \"$cur\"")
 }
 
-/// The words that an option takes.
+/// What an option takes: words or a file.
 fn values(choice: &Choice) -> Option<(String, String)> {
-    let list = joined(choice.words().iter().map(|word| word.name), " ");
-    (!list.is_empty()).then(|| (choice.name.to_owned(), words(&list)))
+    let offered = match choice.takes {
+        Takes::OneOf { words: list, .. } => words(&joined(list.iter().map(|word| word.name), " ")),
+        Takes::Output { .. } => operand(&Kind::Output),
+        Takes::Nothing | Takes::Number { .. } => return None,
+    };
+    Some((choice.name.to_owned(), offered))
 }
 
 fn options_of(command: &Command) -> (String, String) {

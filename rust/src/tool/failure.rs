@@ -30,6 +30,14 @@ impl Failure {
         Failure::File(names::shown(name), error)
     }
 
+    /// An output fails: standard output where it has no name.
+    pub fn output(name: Option<&Path>, error: io::Error) -> Failure {
+        match name {
+            Some(name) => Failure::file(name, error),
+            None => error.into(),
+        }
+    }
+
     /// The same, of a command: bad usage names its help.
     pub fn of(self, command: &'static str) -> Failure {
         match self {

@@ -2,7 +2,7 @@
 
 use std::ffi::OsStr;
 use std::fs::{self, File, Metadata, OpenOptions, Permissions};
-use std::io::{self, Read, Seek, Write};
+use std::io::{self, IsTerminal, Read, Seek, Write};
 use std::os::fd::AsFd;
 use std::os::unix::fs::{fchown, MetadataExt, OpenOptionsExt, PermissionsExt};
 use std::path::{Path, PathBuf};
@@ -117,22 +117,83 @@ fn identity(name: &OsStr, standard: fn() -> io::Result<File>) -> Option<(u64, u6
 
 /// Writes to standard output, or replaces a file in one step; a failure leaves the file as it was, and nothing beside it.
 pub fn write(name: &OsStr, bytes: &[u8]) -> Result<(), Failure> {
-    if name == STANDARD {
-        return Ok(standard_output()?.write_all(bytes)?);
-    }
-    let path = Path::new(name);
-    replace(path, bytes).map_err(|error| Failure::file(path, error))
+    let mut out = Output::create(name)?;
+    let done = out.write_all(bytes);
+    done.map_err(|error| Failure::output(out.name(), error)).and_then(|()| out.finish())
 }
 
-/// Writes to a new file in the target's folder, then gives it the target's name.
-fn replace(path: &Path, bytes: &[u8]) -> io::Result<()> {
+/// An output that is written piece by piece: standard output, or a new file beside the one that it replaces in the end.
+pub struct Output {
+    file: File,
+    new: Option<New>,
+}
+
+/// A new file, removed when it is dropped before it has taken the target's name.
+struct New {
+    /// The target's name as it was given.
+    name: PathBuf,
+    target: PathBuf,
+    old: Option<Metadata>,
+    beside: PathBuf,
+}
+
+impl Output {
+    pub fn create(name: &OsStr) -> Result<Output, Failure> {
+        if name == STANDARD {
+            return Ok(Output { file: standard_output()?, new: None });
+        }
+        let path = Path::new(name);
+        create_new(path).map_err(|error| Failure::file(path, error))
+    }
+
+    /// The file's name; none for standard output.
+    pub fn name(&self) -> Option<&Path> {
+        self.new.as_ref().map(|new| new.name.as_path())
+    }
+
+    pub fn is_terminal(&self) -> bool {
+        self.file.is_terminal()
+    }
+
+    /// Gives a new file the target's name.
+    pub fn finish(mut self) -> Result<(), Failure> {
+        let Some(new) = self.new.take() else {
+            return Ok(());
+        };
+        settle(&self.file, &new).map_err(|error| Failure::file(&new.name, error))
+    }
+}
+
+impl Write for Output {
+    fn write(&mut self, bytes: &[u8]) -> io::Result<usize> {
+        self.file.write(bytes)
+    }
+
+    fn flush(&mut self) -> io::Result<()> {
+        self.file.flush()
+    }
+}
+
+/// Behind a rename there is no such file any more.
+impl Drop for New {
+    fn drop(&mut self) {
+        let _ = fs::remove_file(&self.beside);
+    }
+}
+
+fn create_new(path: &Path) -> io::Result<Output> {
     let (target, old) = target(path)?;
     let (beside, file) = create_beside(&target, old.as_ref())?;
-    let done = fill(file, bytes, old.as_ref()).and_then(|()| fs::rename(&beside, &target));
-    if done.is_err() {
-        let _ = fs::remove_file(&beside);
+    Ok(Output { file, new: Some(New { name: path.to_owned(), target, old, beside }) })
+}
+
+/// With the old file's owner and mode, on the disk, and then under its name.
+fn settle(file: &File, new: &New) -> io::Result<()> {
+    if let Some(old) = &new.old {
+        take_after(file, old)?;
     }
-    done
+    file.sync_all()?;
+    fs::rename(&new.beside, &new.target)
 }
 
 /// Where the bytes go, behind all symbolic links: a file that may be replaced, or a new name.
@@ -182,14 +243,6 @@ fn create_beside(target: &Path, old: Option<&Metadata>) -> io::Result<(PathBuf, 
             other => return other.map(|file| (path, file)),
         }
     }
-}
-
-fn fill(mut file: File, bytes: &[u8], old: Option<&Metadata>) -> io::Result<()> {
-    file.write_all(bytes)?;
-    if let Some(old) = old {
-        take_after(&file, old)?;
-    }
-    file.sync_all()
 }
 
 /// Gives the file the old one's owner and group, as far as that is permitted, and its permissions.

@@ -1,4 +1,4 @@
-//! The command-line tool: checks keys, publishes, locks patterns, opens capsules and reads words.
+//! The command-line tool: checks keys, publishes, locks patterns, opens capsules, reports on them and reads words.
 
 #![forbid(unsafe_code)]
 
@@ -18,6 +18,7 @@ mod names;
 mod opening;
 mod patterns;
 mod progress;
+mod reporting;
 mod rows;
 mod shapes;
 mod status;

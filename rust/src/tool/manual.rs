@@ -18,6 +18,10 @@ Capsules from a pipe, opened on four threads, as objects:
 
     cat *.capsule | shearcotter open --jobs 4 --format json office.key
 
+A report on a card, with a record for each of its capsules:
+
+    shearcotter report --records card.records office.key card
+
 Patterns as they were printed, locked again:
 
     shearcotter open --format hex office.key capsules > patterns

@@ -36,7 +36,7 @@ fn form(given: &Given, file: &OsStr, word: &'static str, counted: bool) -> Form 
     Form { format, explain: given.has(EXPLAIN), word, counted, file: names::input(file) }
 }
 
-/// Prints an answer for each row, and at the end a summary of those that were refused.
+/// Prints an answer for each row, and at the end how many there were and by which numbers some were refused.
 fn answers(
     given: &Given,
     file: &OsStr,
@@ -44,32 +44,39 @@ fn answers(
     form: Form,
     call: impl Fn(&[u8]) -> Result<Pattern, Refusal> + Send + Sync + 'static,
 ) -> Result<Status, Failure> {
-    let (quiet, explain) = (given.has(QUIET), form.explain);
+    let (quiet, explained) = (given.has(QUIET), form.explain);
     let rows = Rows::new(file, kind.length(shape), kind.plural(), !quiet)?;
     let counts = rows::each(rows, jobs(given), move |position, row| match call(row) {
         Ok(pattern) => form.accepted(position, &pattern),
         Err(refusal) => form.refused(position, &explain::row(kind, shape, row, refusal)),
     })?;
-    if counts.refused() == 0 {
-        return Ok(Status::Accepted);
+    if !quiet {
+        failure::say(&if explained { total(file, kind, &counts) } else { summary(file, kind, &counts) });
     }
-    if !quiet && !explain {
-        failure::say(&summary(&names::input(file), kind, &counts));
-    }
-    Ok(Status::RowRefused)
+    Ok(status(&counts))
 }
 
-fn jobs(given: &Given) -> usize {
+/// How many rows a file had, and by which numbers some were refused.
+pub fn summary(file: &OsStr, kind: Row, counts: &Counts) -> String {
+    let refused = counts.occurring().filter(|(number, _)| *number > 0);
+    let line = |(number, count)| format!("\n  {count} by {number}: {}", explain::number(kind, number));
+    total(file, kind, counts) + &refused.map(line).collect::<String>()
+}
+
+fn total(file: &OsStr, kind: Row, counts: &Counts) -> String {
+    format!("{}: {}", names::input(file), counts.in_words(kind.accepted()))
+}
+
+/// Whether some row was refused.
+pub fn status(counts: &Counts) -> Status {
+    match counts.refused() {
+        0 => Status::Accepted,
+        _ => Status::RowRefused,
+    }
+}
+
+/// How many threads answer rows.
+pub fn jobs(given: &Given) -> usize {
     let cores = || thread::available_parallelism().map_or(1, |cores| cores.get().min(MOST_JOBS));
     given.number(JOBS).unwrap_or_else(cores)
-}
-
-/// How many rows were refused, and by which numbers.
-fn summary(file: &str, kind: Row, counts: &Counts) -> String {
-    let mut text = format!("{file}: {} of {} {} refused", counts.refused(), counts.total(), kind.plural());
-    for number in (1..=u8::MAX).filter(|number| counts.of(*number) > 0) {
-        let refusal = Refusal::from_number(number).unwrap_or(Refusal::Other(number));
-        text += &format!("\n  {} by {number}: {}", counts.of(number), explain::words(kind, refusal));
-    }
-    text
 }

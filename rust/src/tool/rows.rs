@@ -1,4 +1,4 @@
-//! Rows of one length, back to back: answered on several threads, written in their order.
+//! Rows of one length, back to back: answered on several threads, one by one or in blocks, written in their order.
 //!
 //! A reader cuts the input into batches, workers answer them, and the calling thread, to which all report, hands the
 //! batches to the workers and writes what they answered. Batches are used again and there is a fixed number of them,
@@ -9,7 +9,7 @@ use std::collections::BTreeMap;
 use std::ffi::OsStr;
 use std::io::{self, IsTerminal, Read, Write};
 use std::panic;
-use std::path::PathBuf;
+use std::path::{Path, PathBuf};
 use std::sync::mpsc::{self, Receiver, Sender};
 use std::sync::Mutex;
 use std::thread::{self, Builder, Scope};
@@ -18,11 +18,14 @@ use std::time::{Duration, Instant};
 use shearcotter::raw;
 
 use crate::failure::Failure;
-use crate::files::{self, Input, STANDARD};
+use crate::files::{self, Input, Output, STANDARD};
 use crate::progress::Progress;
 
-/// A batch begins as one row, and has more while answering it takes less time than this.
+/// A batch begins as one row, and has more while answering it takes less time than this, so that lines come soon.
 const SHORT: Duration = Duration::from_millis(1);
+
+/// The same where nobody waits for lines, so that a batch is a block of many rows.
+const LONG: Duration = Duration::from_millis(50);
 
 /// Bytes from which on a batch grows no more.
 const MANY: usize = 1 << 15;
@@ -39,6 +42,8 @@ pub struct Rows {
     input: Box<dyn Read + Send>,
     length: usize,
     progress: Progress,
+    /// How long a batch may take before it grows no more.
+    together: Duration,
 }
 
 impl Rows {
@@ -48,7 +53,7 @@ impl Rows {
         let mut input = Input::open(name)?;
         let total = input.left().map(|bytes| bytes.div_ceil(length as u64));
         let progress = Progress::new(total, unit, progress);
-        Ok(Rows { name: input.name, input: Box::new(input.file), length, progress })
+        Ok(Rows { name: input.name, input: Box::new(input.file), length, progress, together: SHORT })
     }
 }
 
@@ -78,6 +83,16 @@ impl Counts {
         self.total() - self.of(0)
     }
 
+    /// The numbers that occur, rising, with their counts.
+    pub fn occurring(&self) -> impl Iterator<Item = (u8, u64)> + '_ {
+        (0..=u8::MAX).map(|number| (number, self.of(number))).filter(|(_, count)| *count > 0)
+    }
+
+    /// The opening program's last line; `done` is what the accepted rows were.
+    pub fn in_words(&self, done: &str) -> String {
+        format!("total {} {done} {} refused {}", self.total(), self.of(0), self.refused())
+    }
+
     fn add(&mut self, numbers: &[u8]) {
         for number in numbers {
             self.0[usize::from(*number)] += 1;
@@ -89,16 +104,7 @@ impl Counts {
 pub fn each(rows: Rows, jobs: usize, answer: impl Fn(u64, &[u8]) -> Answer + Sync) -> Result<Counts, Failure> {
     let mut out = files::standard_output()?;
     let on_terminal = out.is_terminal();
-    let streams = Streams { out: &mut out, error: &mut io::stderr(), on_terminal };
-    each_to(streams, rows, jobs, answer)
-}
-
-/// Where answers go.
-struct Streams<'a> {
-    out: &'a mut dyn Write,
-    error: &'a mut dyn Write,
-    /// Whether `out` is a terminal, most likely the progress bar's.
-    on_terminal: bool,
+    each_to(Streams { out: &mut out, name: None, error: &mut io::stderr(), on_terminal }, rows, jobs, answer)
 }
 
 fn each_to(
@@ -107,11 +113,51 @@ fn each_to(
     jobs: usize,
     answer: impl Fn(u64, &[u8]) -> Answer + Sync,
 ) -> Result<Counts, Failure> {
+    let length = rows.length;
+    batches(streams, rows, jobs, |batch| batch.answer(length, &answer))
+}
+
+/// Writes the records of the rows, a byte for each, in the rows' order; as many blocks of rows at a time as `jobs` says.
+pub fn blocks(
+    rows: Rows,
+    jobs: usize,
+    out: Option<&mut Output>,
+    records: impl Fn(&[u8]) -> Vec<u8> + Sync,
+) -> Result<Counts, Failure> {
+    let (mut nothing, mut error) = (io::sink(), io::stderr());
+    let streams = match out {
+        Some(out) => {
+            Streams { on_terminal: out.is_terminal(), name: out.name().map(Path::to_owned), out, error: &mut error }
+        }
+        None => Streams { out: &mut nothing, name: None, error: &mut error, on_terminal: false },
+    };
+    batches(streams, Rows { together: LONG, ..rows }, jobs, |batch| batch.record(&records))
+}
+
+/// Where answers go.
+struct Streams<'a> {
+    out: &'a mut dyn Write,
+    /// The file that `out` is; none for standard output.
+    name: Option<PathBuf>,
+    error: &'a mut dyn Write,
+    /// Whether `out` is a terminal, most likely the progress bar's.
+    on_terminal: bool,
+}
+
+fn batches(streams: Streams, rows: Rows, jobs: usize, answer: impl Fn(&mut Batch) + Sync) -> Result<Counts, Failure> {
     let (report, events) = mpsc::channel();
     let (spare, empty) = mpsc::channel();
     let (work, queue) = mpsc::channel();
-    let (queue, length) = (Mutex::new(queue), rows.length);
-    let reader = Reader { input: rows.input, length, rows: 1, position: 1, tail: vec![], ended: false };
+    let queue = Mutex::new(queue);
+    let reader = Reader {
+        input: rows.input,
+        length: rows.length,
+        together: rows.together,
+        rows: 1,
+        position: 1,
+        tail: vec![],
+        ended: false,
+    };
     let writer =
         Writer { streams, progress: rows.progress, events, work, spare, written: 0, answered: BTreeMap::new() };
     let failed = |error| Failure::file("a thread".as_ref(), error);
@@ -119,7 +165,7 @@ fn each_to(
         // The writer is dropped at the end of this block, and before the workers are waited for.
         let writer = writer;
         start_reader(reader, empty, Report(report.clone())).map_err(failed)?;
-        let start = || start_worker(scope, &queue, length, &answer, Report(report.clone()));
+        let start = || start_worker(scope, &queue, &answer, Report(report.clone()));
         let workers = as_many_as_start(jobs, start).map_err(failed)?;
         writer.run(workers * FOR_EACH_WORKER).and_then(|(counts, end)| match end {
             Ok(()) => Ok(counts),
@@ -146,7 +192,6 @@ struct Batch {
 
 impl Batch {
     fn answer(&mut self, length: usize, answer: &impl Fn(u64, &[u8]) -> Answer) {
-        let started = Instant::now();
         for (position, row) in (self.first..).zip(self.rows.chunks(length)) {
             let answer = answer(position, row);
             self.text.extend_from_slice(&answer.text);
@@ -155,7 +200,12 @@ impl Batch {
                 self.notes.push((self.text.len(), answer.notes));
             }
         }
-        self.took = started.elapsed();
+    }
+
+    /// The records are the text, and the numbers.
+    fn record(&mut self, records: &impl Fn(&[u8]) -> Vec<u8>) {
+        self.numbers = records(&self.rows);
+        self.text.extend_from_slice(&self.numbers);
     }
 
     fn clear(&mut self) {
@@ -200,6 +250,8 @@ impl Drop for Report {
 struct Reader {
     input: Box<dyn Read + Send>,
     length: usize,
+    /// How long a batch may take before it grows no more.
+    together: Duration,
     /// Rows of a full batch.
     rows: usize,
     /// The position of the next row.
@@ -227,7 +279,7 @@ impl Reader {
     /// Doubles the batches while a full one takes little time.
     fn learn(&mut self, answered: &Batch) {
         let full = answered.numbers.len() == self.rows;
-        if full && answered.took < SHORT && self.rows * self.length < MANY {
+        if full && answered.took < self.together && self.rows * self.length < MANY {
             self.rows *= 2;
         }
     }
@@ -269,16 +321,17 @@ fn as_many_as_start(jobs: usize, start: impl Fn() -> io::Result<()>) -> io::Resu
     Ok(1 + (1..jobs).map_while(|_| start().ok()).count())
 }
 
-fn start_worker<'scope, F: Fn(u64, &[u8]) -> Answer + Sync>(
+fn start_worker<'scope, F: Fn(&mut Batch) + Sync>(
     scope: &'scope Scope<'scope, '_>,
     queue: &'scope Mutex<Receiver<Batch>>,
-    length: usize,
     answer: &'scope F,
     report: Report,
 ) -> io::Result<()> {
     let run = move || {
         while let Some(mut batch) = next_of(queue) {
-            batch.answer(length, answer);
+            let started = Instant::now();
+            answer(&mut batch);
+            batch.took = started.elapsed();
             if !report.send(Event::Answered(batch)) {
                 return;
             }
@@ -322,7 +375,8 @@ impl Writer<'_> {
                 Ok(Event::Answered(batch)) => {
                     counts.add(&batch.numbers);
                     self.answered.insert(batch.first, batch);
-                    under_way -= self.write_ready()?;
+                    let written = self.write_ready();
+                    under_way -= written.map_err(|error| Failure::output(self.streams.name.as_deref(), error))?;
                 }
                 Ok(Event::End(result)) => end = Some(result),
                 Ok(Event::Lost) | Err(_) => panic::resume_unwind(Box::new("a thread has panicked")),

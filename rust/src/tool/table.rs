@@ -50,11 +50,12 @@ pub struct Word {
     pub about: &'static str,
 }
 
-/// What stands behind an option.
+/// What stands behind an option. An output is a file that is written; `-` is standard output.
 pub enum Takes {
     Nothing,
     OneOf { value: &'static str, words: &'static [Word], default: &'static str },
     Number { value: &'static str, least: usize, most: usize },
+    Output { value: &'static str },
 }
 
 pub struct Choice {
@@ -71,7 +72,9 @@ impl Choice {
         let short = self.short.map_or(String::new(), |short| format!("{short}, "));
         match self.takes {
             Takes::Nothing => format!("{short}{}", self.name),
-            Takes::OneOf { value, .. } | Takes::Number { value, .. } => format!("{short}{} {value}", self.name),
+            Takes::OneOf { value, .. } | Takes::Number { value, .. } | Takes::Output { value } => {
+                format!("{short}{} {value}", self.name)
+            }
         }
     }
 
@@ -81,6 +84,7 @@ impl Choice {
             Takes::Nothing => "no value".to_owned(),
             Takes::OneOf { words, .. } => listed(words.iter().map(|word| word.name)),
             Takes::Number { least, most, .. } => format!("a number from {least} to {most}"),
+            Takes::Output { .. } => "a file".to_owned(),
         }
     }
 

@@ -100,6 +100,22 @@ fn open_and_read(random: &mut Random, held: &Held, cut: usize) {
     written(&out, &expected);
 }
 
+/// Three capsules or two and a tail, with room for their records, or for one less.
+fn report(random: &mut Random, held: &Held, cut: usize) {
+    let length = held.key.capsule_bits().div_ceil(8);
+    let station = raw_calls::holding(2, &held.key);
+    let capsules = Walled::new(&random.bytes(3 * length - cut));
+    let total = capsules.length.div_ceil(length);
+    for room in [total, total - 1, total + 1] {
+        let records = Walled::new(&vec![0; room]);
+        let reported =
+            unsafe { raw::shearcotter_report(station, capsules.start(), capsules.length, records.start(), room) };
+        let expected = calls::report(2, held, capsules.bytes(), room);
+        assert_eq!((reported.refused, reported.counts), (expected.number, calls::counts(&expected.written)));
+        written(&records, &expected);
+    }
+}
+
 fn lock(random: &mut Random, held: &Held, cut: usize) {
     let key = &held.key;
     let shape = (key.m, key.n as u16, key.t as u16);
@@ -134,6 +150,7 @@ fn nothing_past_the_ends() {
         for cut in [0, 1] {
             load_and_publish(&held, cut);
             open_and_read(&mut random, &held, cut);
+            report(&mut random, &held, cut);
             lock(&mut random, &held, cut);
         }
     }

@@ -191,6 +191,36 @@ pub fn open(random: &mut Random, pool: &Pool) -> (&'static str, u8) {
     ("open", reply.refused)
 }
 
+/// Some capsules back to back, the last of any length.
+fn capsules(random: &mut Random, held: &Held) -> Vec<u8> {
+    let count = random.below(6);
+    let mut rows: Vec<u8> = (0..count).flat_map(|_| capsule(random, held)).collect();
+    if random.one_in(2) {
+        let length = random.below(held.key.capsule_bits().div_ceil(8) + 1);
+        rows.extend(random.bytes(length));
+    }
+    rows
+}
+
+pub fn report(random: &mut Random, pool: &Pool) -> (&'static str, u8) {
+    let case = any(random, pool);
+    let held = fitting(random, pool, &case);
+    let rows = capsules(random, &held);
+    let capsules = holding(random, &rows);
+    let length = awkward(random, rows.len().div_ceil(held.key.capsule_bits().div_ceil(8)));
+    let mut records = noise(random, length);
+    let reported = unsafe {
+        raw::shearcotter_report(case.station, capsules.as_ptr(), capsules.len(), records.as_mut_ptr(), records.len())
+    };
+    let expected = expected::report(case.station.state, &case.held, capsules.content(), length);
+    let reply = Reply { station: reported.station, refused: reported.refused, ones: 0 };
+    same(&reply, &expected, &case.station, &case.station);
+    assert_eq!(reported.counts, expected::counts(&expected.written), "{:?}", expected.written);
+    records.written(&expected.written);
+    capsules.same();
+    ("report", reported.refused)
+}
+
 pub fn read(random: &mut Random, pool: &Pool) -> (&'static str, u8) {
     let case = any(random, pool);
     let held = fitting(random, pool, &case);

@@ -1,5 +1,7 @@
 //! What each call answers: the first number in document 01's order whose condition holds, or what is written.
 
+use std::array;
+
 use super::bits;
 use super::field::Field;
 use super::held::Held;
@@ -83,6 +85,27 @@ pub fn open(state: u8, held: &Held, capsule: &[u8], out: usize) -> Outcome {
         return refused(number);
     }
     pattern(held, held.open(capsule), 13)
+}
+
+/// The records are what open answers for each capsule, one after the other; the last may be shorter.
+pub fn report(state: u8, held: &Held, capsules: &[u8], records: usize) -> Outcome {
+    let number = match held_number(state, held) {
+        0 if state == 1 => 24,
+        other => other,
+    };
+    if number != 0 {
+        return refused(number);
+    }
+    let parts: Vec<&[u8]> = capsules.chunks(held.key.capsule_bits().div_ceil(8)).collect();
+    if records < parts.len() {
+        return refused(31);
+    }
+    written(parts.iter().map(|capsule| open(state, held, capsule, usize::MAX).number).collect())
+}
+
+/// How often each value of a byte stands in the records.
+pub fn counts(records: &[u8]) -> [usize; 256] {
+    array::from_fn(|value| records.iter().filter(|record| usize::from(**record) == value).count())
 }
 
 pub fn read(state: u8, held: &Held, word: &[u8], out: usize) -> Outcome {

@@ -31,6 +31,7 @@ pub enum Point {
     Opened,
     PatternDropped,
     Refused,
+    Reported,
     Read,
     StationDropped,
     LoadedAgain,
@@ -124,6 +125,10 @@ fn with_the_crate() {
     pause(Point::PatternDropped);
     assert_eq!(station.open(&file::<96>("capsule_reject.bin")[..]), Err(Refusal::NoPattern));
     pause(Point::Refused);
+    let card = [&capsule[..], &file::<96>("capsule_reject.bin")[..]].concat();
+    let report = station.report(&card).expect("a report");
+    assert_eq!(report.records(), [0, 13]);
+    pause(Point::Reported);
     let word: Vec<u8> = capsule.iter().copied().chain(iter::repeat(0)).take(436).collect();
     assert_eq!(station.read(&word).expect("it reads").clone().ones(), 64);
     pause(Point::Read);

@@ -43,6 +43,7 @@ fn no_secret_outlives_its_owner() {
         (Point::Opened, &[KEY, G, PATTERN]),
         (Point::PatternDropped, &[KEY, G]),
         (Point::Refused, &[KEY, G]),
+        (Point::Reported, &[KEY, G]),
         (Point::Read, &[KEY, G]),
         (Point::StationDropped, &[]),
         (Point::LoadedAgain, &[KEY, G]),

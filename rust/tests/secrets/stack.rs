@@ -43,6 +43,8 @@ fn calls_leave_zeros_on_the_stack() {
     assert_eq!(left_by(|| station.load(&key).expect("load accepts")), 0, "load");
     assert_eq!(left_by(|| public = station.publish().expect("publish accepts")), 0, "publish");
     assert_eq!(left_by(|| drop(station.open(&capsule).expect("it opens"))), 0, "open");
+    let card = capsule.repeat(3);
+    assert_eq!(left_by(|| drop(station.report(&card).expect("a report"))), 0, "report");
     assert_eq!(left_by(|| drop(station.read(&pattern).expect("it reads"))), 0, "read");
     assert_eq!(left_by(|| drop(lock(Shape::MCELIECE8192128, &public, &pattern).expect("it locks"))), 0, "lock");
     assert_eq!(left_by(|| station.drop_key().expect("there is a key")), 0, "drop");

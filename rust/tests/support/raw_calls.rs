@@ -1,6 +1,6 @@
 //! The raw calls on slices, and stations made by hand.
 
-use shearcotter::raw::{self, Key, Reply, Station, MOST_ERRORS, MOST_PLACES};
+use shearcotter::raw::{self, Key, Reply, Reported, Station, MOST_ERRORS, MOST_PLACES};
 
 use crate::independent::key;
 
@@ -22,6 +22,10 @@ pub fn open(station: Station, capsule: &[u8], out: &mut [u8]) -> Reply {
 
 pub fn read(station: Station, word: &[u8], out: &mut [u8]) -> Reply {
     unsafe { raw::shearcotter_read(station, word.as_ptr(), word.len(), out.as_mut_ptr(), out.len()) }
+}
+
+pub fn report(station: Station, capsules: &[u8], records: &mut [u8]) -> Reported {
+    unsafe { raw::shearcotter_report(station, capsules.as_ptr(), capsules.len(), records.as_mut_ptr(), records.len()) }
 }
 
 pub fn drop(station: Station) -> Reply {

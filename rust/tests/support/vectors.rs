@@ -10,7 +10,7 @@ pub fn folder() -> PathBuf {
     let folder = env::var_os("SHEARCOTTER_VECTORS").map_or_else(|| PathBuf::from(default), PathBuf::from);
     assert!(
         folder.join("field.txt").is_file(),
-        "no vectors in {}: unpack rust/tests/vectors.tar.xz there, or name their folder in SHEARCOTTER_VECTORS",
+        "no vectors in {}: unpack rust/tests/vectors*.tar.xz there, or name their folder in SHEARCOTTER_VECTORS",
         folder.display()
     );
     folder

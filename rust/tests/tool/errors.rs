@@ -10,10 +10,10 @@ use crate::support::run::{status, text, tool};
 fn missing_files() {
     let (folder, key) = with_k1();
     let missing = folder.at("missing");
-    for command in ["check", "open", "read"] {
+    for command in ["check", "open", "read", "report"] {
         fails(&[command, &missing], 2, "missing: ");
     }
-    for command in ["open", "read"] {
+    for command in ["open", "read", "report"] {
         fails(&[command, &key, &missing], 2, "missing: ");
     }
     fails(&["publish", &missing, &folder.at("out")], 2, "missing: ");
@@ -33,7 +33,7 @@ fn refused_keys() {
     let mut twice = K1;
     twice[13] = 1;
     let file = folder.write("twice.bin", &twice);
-    for command in ["check", "open", "read"] {
+    for command in ["check", "open", "read", "report"] {
         fails(&[command, &file], 3, "twice.bin: refused 5: support element twice: ");
         fails(&[command, "--quiet", &file], 3, "twice.bin: refused 5: ");
     }
@@ -41,6 +41,7 @@ fn refused_keys() {
     fails_on(&["check", "-"], &twice, 3, "shearcotter: standard input: refused 5: ");
     let k3 = folder.write("k3.bin", &K3);
     fails(&["open", &k3], 3, "k3.bin: refused 23: the first m*t columns are dependent: no public key: ");
+    fails(&["report", &k3, "--records", &folder.at("out")], 3, "k3.bin: refused 23: ");
     fails(&["publish", &k3, &folder.at("out")], 3, "k3.bin: refused 23: ");
     assert_eq!(folder.names(), ["k3.bin", "key.bin", "twice.bin"]);
 }
@@ -71,7 +72,7 @@ fn refused_shapes() {
 #[test]
 fn a_failing_standard_input() {
     let (folder, key) = with_k1();
-    for words in [vec!["open", &key], vec!["read", &key, "-"], vec!["check", "-"]] {
+    for words in [vec!["open", &key], vec!["read", &key, "-"], vec!["report", &key], vec!["check", "-"]] {
         let unreadable = File::open(folder.path()).expect("the folder opens");
         let output = tool().args(&words).stdin(unreadable).output().expect("the tool ends");
         assert_eq!((status(&output), text(&output.stdout)), (2, ""), "{words:?}");

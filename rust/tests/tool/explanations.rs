@@ -2,7 +2,7 @@
 
 use shearcotter::field;
 
-use super::{fails, fails_on, some_refused, standard, with_k1};
+use super::{accepted, all_accepted, fails, fails_on, some_refused, standard, with_k1};
 use crate::bench_keys::{file, K1, K3};
 
 /// K1 with a byte changed.
@@ -120,18 +120,19 @@ fn rows_explained() {
     let (folder, k1) = with_k1();
     let lines = "1 open 4\n2 refused 13: no pattern for the capsule\n\
                  3 refused 9: filler bit set: expected byte 0 up to 0f, found 13 (hexadecimal)\n";
-    some_refused(&["open", "--explain", &k1], &[0x03, 0x00, 0x13], lines, "");
+    let total = "standard input: total 3 opened 1 refused 2";
+    some_refused(&["open", "--explain", &k1], &[0x03, 0x00, 0x13], lines, total);
     let lines = "1 refused 14: no code word within t places\n\
                  2 refused 9: filler bit set: expected byte 0 up to 3f, found 53 (hexadecimal)\n";
-    some_refused(&["read", "--explain", &k1], &[0x06, 0x53], lines, "");
+    some_refused(&["read", "--explain", &k1], &[0x06, 0x53], lines, "standard input: total 2 read 0 refused 2");
     let key = folder.write("large.key", &standard("key.bin"));
     let says = "1 refused 8: capsule of wrong byte length: expected 96 bytes, found 95\n";
-    some_refused(&["open", &key, "--explain"], &[0; 95], says, "");
+    some_refused(&["open", &key, "--explain"], &[0; 95], says, "standard input: total 1 opened 0 refused 1");
     let says = "1 refused 8: word of wrong byte length: expected 436 bytes, found 1\n";
     some_refused(&["read", &key, "--explain", "--quiet"], &[0], says, "");
     let object = r#"{"position":1,"answer":"refused","number":8,"words":"capsule of wrong byte length""#;
     let found = format!("{object},\"explained\":\"expected 96 bytes, found 95\"}}\n");
-    some_refused(&["open", &key, "--explain", "--format=json"], &[0; 95], &found, "");
+    some_refused(&["open", &key, "--explain", "--format=json", "--quiet"], &[0; 95], &found, "");
     some_refused(&["open", &key, "--quiet", "--format=json"], &[0; 95], &format!("{object}}}\n"), "");
 }
 
@@ -139,14 +140,29 @@ fn rows_explained() {
 fn a_summary_says_what_the_numbers_mean() {
     let (folder, key) = with_k1();
     let (capsules, lines) = ([0x03, 0x00, 0x13, 0x00], "1 open 4\n2 refused 13\n3 refused 9\n4 refused 13\n");
-    let counts = "3 of 4 capsules refused\n  1 by 9: filler bit set\n  2 by 13: no pattern for the capsule";
+    let counts = "total 4 opened 1 refused 3\n  1 by 9: filler bit set\n  2 by 13: no pattern for the capsule";
     some_refused(&["open", &key], &capsules, lines, &format!("standard input: {counts}"));
     some_refused(&["open", &key, "--quiet"], &capsules, lines, "");
     let file = folder.write("capsules", &capsules);
     some_refused(&["open", &key, &file], &[], lines, &format!("{file}: {counts}"));
-    let summary = "standard input: 1 of 2 words refused\n  1 by 14: no code word within t places";
+    let summary = "standard input: total 2 read 1 refused 1\n  1 by 14: no code word within t places";
     some_refused(&["read", &key], &[0x13, 0x06], "1 read 0\n2 refused 14\n", summary);
     let large = folder.write("large.key", &standard("key.bin"));
-    let summary = "standard input: 1 of 1 capsules refused\n  1 by 8: capsule of wrong byte length";
+    let summary = "standard input: total 1 opened 0 refused 1\n  1 by 8: capsule of wrong byte length";
     some_refused(&["open", &large], &[0], "1 refused 8\n", summary);
+}
+
+#[test]
+fn a_total_where_nothing_is_refused() {
+    let (folder, key) = with_k1();
+    all_accepted(&["open", &key], &[0x03, 0x03], "1 open 4\n2 open 4\n", "standard input: total 2 opened 2 refused 0");
+    all_accepted(&["open", &key], &[], "", "standard input: total 0 opened 0 refused 0");
+    all_accepted(&["read", &key], &[0x13], "1 read 0\n", "standard input: total 1 read 1 refused 0");
+    let file = folder.write("capsules", &[0x03]);
+    for (format, line) in [("hex", "1 open 10\n"), ("raw", "\x10")] {
+        let total = format!("{file}: total 1 opened 1 refused 0");
+        all_accepted(&["open", &key, &file, "--format", format], &[], line, &total);
+        all_accepted(&["open", &key, &file, "--format", format, "--explain"], &[], line, &total);
+        accepted(&["open", &key, &file, "--format", format, "--quiet"], &[], line);
+    }
 }

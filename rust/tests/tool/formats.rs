@@ -7,7 +7,7 @@ use crate::support::run::{run, status, text, Folder};
 
 const FORMATS: [&str; 4] = ["places", "hex", "raw", "json"];
 const OPEN_SUMMARY: &str =
-    "standard input: 2 of 3 capsules refused\n  1 by 9: filler bit set\n  1 by 13: no pattern for the capsule";
+    "standard input: total 3 opened 1 refused 2\n  1 by 9: filler bit set\n  1 by 13: no pattern for the capsule";
 
 #[test]
 fn open_in_each_format() {
@@ -28,7 +28,7 @@ fn open_in_each_format() {
 #[test]
 fn read_in_each_format() {
     let (_folder, key) = with_k1();
-    let summary = "standard input: 1 of 3 words refused\n  1 by 14: no code word within t places";
+    let summary = "standard input: total 3 read 2 refused 1\n  1 by 14: no code word within t places";
     let lines = |format: &str, expected: &str| {
         some_refused(&["read", &key, "--format", format], &[0x13, 0x24, 0x06], expected, summary);
     };
@@ -55,12 +55,12 @@ fn raw_names_refused_rows_on_standard_error() {
         &["open", "--format=raw", "--explain", &key, &capsules],
         &[],
         "\x10\x10",
-        &format!("{named}: {filler}"),
+        &format!("{named}: {filler}\nshearcotter: {capsules}: total 4 opened 2 refused 2"),
     );
-    let counts = "2 of 4 capsules refused\n  1 by 9: filler bit set\n  1 by 13: no pattern for the capsule";
+    let counts = "total 4 opened 2 refused 2\n  1 by 9: filler bit set\n  1 by 13: no pattern for the capsule";
     let both = format!("{named}\nshearcotter: {capsules}: {counts}");
     some_refused(&["open", "--format=raw", &key, &capsules], &[], "\x10\x10", &both);
-    accepted(&["read", "--format=raw", &key], &[0x13, 0x24], "\0\x01");
+    accepted(&["read", "--format=raw", "--quiet", &key], &[0x13, 0x24], "\0\x01");
 }
 
 /// Standard output of a run in which all is accepted.
@@ -80,7 +80,7 @@ fn round_trips(shape: &str, key: &[u8], patterns: &[u8]) {
     for format in FORMATS {
         let format = format!("--format={format}");
         for (command, rows) in [("open", &capsules[..]), ("read", patterns)] {
-            let lines = printed(&[command, &key, &format], rows);
+            let lines = printed(&[command, "--quiet", &key, &format], rows);
             let again = printed(&["lock", shape, &public, "-", "-", &format], &lines);
             assert!(again == capsules, "{command} {format}");
             let (file, out) = (folder.write("lines", &lines), folder.at("out"));
@@ -108,7 +108,7 @@ fn the_vectors_pattern_is_opened_in_hex() {
     let (folder, _) = with_k1();
     let key = folder.write("key", &standard("key.bin"));
     let hex: String = standard("pattern.bin").iter().map(|byte| format!("{byte:02x}")).collect();
-    accepted(&["open", &key, "--format", "hex"], &standard("capsule.bin"), &format!("1 open {hex}\n"));
+    accepted(&["open", &key, "--quiet", "--format", "hex"], &standard("capsule.bin"), &format!("1 open {hex}\n"));
     let (_, out, _) = outcome(&["read", &key, "--format", "hex"], &standard("pattern.bin"));
     assert_eq!(out, format!("1 read 64 {hex}\n"));
 }

@@ -7,6 +7,7 @@ mod formats;
 mod names;
 mod outputs;
 mod patterns;
+mod report;
 mod shell;
 mod streams;
 mod terminal;
@@ -27,6 +28,11 @@ fn outcome(words: &[&str], input: &[u8]) -> (i32, String, String) {
 
 fn accepted(words: &[&str], input: &[u8], expected: &str) {
     assert_eq!(outcome(words, input), (0, expected.to_owned(), String::new()), "{words:?}");
+}
+
+/// Rows that are all accepted: the lines, and the total on standard error without the tool's name.
+fn all_accepted(words: &[&str], input: &[u8], expected: &str, total: &str) {
+    assert_eq!(outcome(words, input), (0, expected.to_owned(), format!("shearcotter: {total}\n")), "{words:?}");
 }
 
 /// Rows of which some are refused: the lines, and standard error without the tool's name.

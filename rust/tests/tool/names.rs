@@ -34,10 +34,12 @@ fn put(folder: &Folder, bytes: &[u8]) {
 fn escaped_in_every_message() {
     let (folder, _) = with_k1();
     folder.write("public", &[3, 1, 2, 0]);
-    let commands: [&[&str]; 13] = [
+    let commands: [&[&str]; 15] = [
         &["check", "@"],
         &["open", "key.bin", "@"],
         &["read", "key.bin", "@"],
+        &["report", "key.bin", "@"],
+        &["report", "key.bin", "/dev/null", "--records", "none@/out"],
         &["publish", "key.bin", "none@/out"],
         &["lock", "4,6,1", "public", "@", "-"],
         &["lock", "@", "public", "key.bin", "-"],

@@ -28,7 +28,7 @@ fn publish_and_lock_k1() {
     assert_eq!(fs::read(&public).expect("the public key"), [3, 1, 2, 0]);
     accepted(&["lock", "4,6,1", "--", &public, &pattern, &capsule], &[], "");
     assert_eq!(fs::read(&capsule).expect("the capsule"), [3]);
-    accepted(&["open", &key, &capsule], &[], "1 open 4\n");
+    accepted(&["open", "--quiet", &key, &capsule], &[], "1 open 4\n");
     assert_eq!(folder.names(), ["-pattern.bin", "capsule.bin", "key.bin", "public.bin"]);
 }
 

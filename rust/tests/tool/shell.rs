@@ -108,7 +108,8 @@ fn commands_and_options() {
     assert_eq!(completed(&["open", "key", "-"]), ["--explain", "--format", "--help", "--jobs", "--quiet"]);
     assert_eq!(completed(&["check", "-"]), ["--help", "--quiet"]);
     assert_eq!(completed(&["nothing", "-"]), [""; 0]);
-    assert_eq!(completed(&["help", "re"]), ["read"]);
+    assert_eq!(completed(&["help", "re"]), ["read", "report"]);
+    assert_eq!(completed(&["report", "-"]), ["--help", "--jobs", "--quiet", "--records"]);
     assert_eq!(completed(&["completions", ""]), ["bash"]);
     assert_eq!(completed(&["lock", "mceliece6"]), ["mceliece6688128", "mceliece6960119"]);
 }
@@ -135,6 +136,9 @@ fn files() {
     assert_eq!(files(&["open", "--format", "hex", "k", "ot"]), ["other"]);
     assert_eq!(files(&["open", "--format", "=", "hex", "--jobs", "2", "k", "ot"]), ["other"]);
     assert_eq!(files(&["open", "--", "k", "-d"]), ["-dash"]);
+    assert_eq!(files(&["report", "--records", "ot"]), ["other"]);
+    assert_eq!(files(&["report", "--records", "=", "ot"]), ["other"]);
+    assert_eq!(files(&["report", "--records", "out", "key", "ot"]), ["other"]);
     for operand in 2..5 {
         let words = [&["lock", "1", "a", "b"][..operand], &["on"]].concat();
         assert_eq!(files(&words), ["one key"]);

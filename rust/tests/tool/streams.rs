@@ -28,8 +28,8 @@ fn open_prints_as_the_opening_program() {
     some_refused(&["open", &key, "-"], &input, lines);
     let file = folder.write("capsules", &input);
     some_refused(&["open", &key, &file], &[], lines);
-    accepted(&["open", &key], &[], "");
-    accepted(&["open", &key], &[0x03, 0x03], "1 open 4\n2 open 4\n");
+    accepted(&["open", "--quiet", &key], &[], "");
+    accepted(&["open", "--quiet", &key], &[0x03, 0x03], "1 open 4\n2 open 4\n");
 }
 
 #[test]
@@ -40,7 +40,7 @@ fn read_prints_count_and_places() {
     some_refused(&["read", &key], &input, lines);
     let file = folder.write("words", &input);
     some_refused(&["read", &key, &file], &[], lines);
-    accepted(&["read", &key], &[0x13], "1 read 0\n");
+    accepted(&["read", "--quiet", &key], &[0x13], "1 read 0\n");
 }
 
 #[test]
@@ -91,7 +91,7 @@ fn lines_in_order_at_a_standard_shape() {
 }
 
 /// A run with pipes for all three streams.
-fn start(words: &[&str]) -> Child {
+pub fn start(words: &[&str]) -> Child {
     let mut command = tool();
     command.args(words).stdin(Stdio::piped()).stdout(Stdio::piped()).stderr(Stdio::piped());
     command.spawn().expect("the tool starts")
@@ -158,7 +158,7 @@ fn a_read_fails_behind_three_capsules() {
 }
 
 /// The most memory that a run has had, in KiB.
-fn most_memory(child: &Child) -> u64 {
+pub fn most_memory(child: &Child) -> u64 {
     let status = fs::read_to_string(format!("/proc/{}/status", child.id())).expect("the process's state");
     let line = status.lines().find(|line| line.starts_with("VmHWM:")).expect("its memory");
     line.split_whitespace().nth(1).expect("a number").parse().expect("a number")
@@ -199,7 +199,9 @@ fn a_closed_standard_output_ends_it_while_input_is_awaited() {
 fn a_full_device_is_named() {
     let (folder, key) = with_k1();
     let file = folder.write("words", &[0x53; 100_000]);
-    for words in [&["read", &key, &file][..], &["publish", &key, "-"]] {
+    let report: &[&str] = &["report", &key, &file];
+    let records: &[&str] = &["report", "--records=-", &key, &file];
+    for words in [&["read", &key, &file][..], &["publish", &key, "-"], report, records] {
         let full = OpenOptions::new().write(true).open("/dev/full").expect("the device");
         let output = tool().args(words).stdout(full).output().expect("the tool ends");
         assert_eq!(status(&output), 2);
@@ -224,8 +226,10 @@ fn a_dash_is_a_standard_stream_for_every_file() {
     gives(&["publish", &key, "-"], &[], &[3, 1, 2, 0]);
     gives(&["lock", "4,6,1", "-", &pattern, "-"], &[3, 1, 2, 0], &[3]);
     gives(&["lock", "4,6,1", &public, "-", "-"], &[0x10], &[3]);
-    gives(&["open", "-", &capsule], &K1, b"1 open 4\n");
-    gives(&["open", &key, "-"], &[3], b"1 open 4\n");
+    gives(&["open", "--quiet", "-", &capsule], &K1, b"1 open 4\n");
+    gives(&["open", "--quiet", &key, "-"], &[3], b"1 open 4\n");
+    gives(&["report", "--quiet", "--records", "-", &key, "-"], &[3, 3], &[0, 0]);
+    gives(&["report", "-", &capsule], &K1, b"0  opened  1\ntotal 1 opened 1 refused 0\n");
     let out = folder.at("out");
     gives(&["lock", "4,6,1", "-", &pattern, &out], &[3, 1, 2, 0], &[]);
     assert_eq!(fs::read(&out).expect("the capsule"), [3]);
@@ -259,7 +263,9 @@ fn a_dash_in_a_folder_is_a_file() {
 #[test]
 fn standard_input_is_named_once() {
     let (_folder, key) = with_k1();
-    for words in [&["open", "-", "-"][..], &["open", "-"], &["read", "-"], &["lock", "4,6,1", "-", "-", &key]] {
+    for words in
+        [&["open", "-", "-"][..], &["open", "-"], &["read", "-"], &["report", "-"], &["lock", "4,6,1", "-", "-", &key]]
+    {
         fails(words, 2, "two inputs are `-`");
     }
 }
@@ -280,9 +286,13 @@ fn an_output_is_no_input() {
             assert!(text(&output.stderr).starts_with(&said), "{}", text(&output.stderr));
             assert_eq!(status(&output), 2);
         }
+        let output = run(&["report", &key, "/dev/null", "--records", out], Stdio::piped());
+        assert!(text(&output.stderr).contains(" is an input too; see shearcotter help report"), "{output:?}");
+        assert_eq!(status(&output), 2);
     }
     let append = || Stdio::from(OpenOptions::new().append(true).open(&key).expect("the key"));
-    for words in [&["open", &key, &key][..], &["open", &key], &["publish", "-", "-"]] {
+    let report: &[&str] = &["report", &key, &key, "--records", "-"];
+    for words in [&["open", &key, &key][..], &["open", &key], &["publish", "-", "-"], report, &report[..3]] {
         let output = run(words, append());
         let said = "shearcotter: standard output is an input too; ";
         assert!(text(&output.stderr).starts_with(said), "{}", text(&output.stderr));

@@ -30,7 +30,7 @@ fn lines() -> Vec<String> {
 
 /// What stands on standard error at the end.
 fn summary(file: &str) -> Vec<String> {
-    let refused = format!("shearcotter: {file}: {CAPSULES} of {CAPSULES} capsules refused");
+    let refused = format!("shearcotter: {file}: total {CAPSULES} opened 0 refused {CAPSULES}");
     vec![refused, format!("  {CAPSULES} by 13: no pattern for the capsule")]
 }
 
@@ -108,8 +108,31 @@ fn quiet_shows_no_bar() {
 #[test]
 fn a_short_run_shows_no_bar() {
     let (folder, key, _) = long_run();
-    let session = session(open(&key, &folder.write("none", &[])), None);
-    assert_eq!((session.status, session.written.as_str()), (0, ""));
+    let none = folder.write("none", &[]);
+    let session = session(open(&key, &none), None);
+    let said = format!("shearcotter: {none}: total 0 opened 0 refused 0\r\n");
+    assert_eq!((session.status, session.written), (0, said));
+}
+
+#[test]
+fn a_report_shows_a_bar_and_takes_it_away() {
+    let (folder, key, capsules) = long_run();
+    let report = |words: &[&str]| {
+        let mut command = tool();
+        command.args(["report", "--jobs", "1", &key, &capsules]).args(words);
+        command
+    };
+    let said = [
+        format!("13  no pattern for the capsule  {CAPSULES}"),
+        format!("total {CAPSULES} opened 0 refused {CAPSULES}"),
+    ];
+    let shown = session(report(&["--records", &folder.at("records")]), None);
+    let done: Option<Vec<usize>> = shown.bars().iter().map(|bar| done_in(bar)).collect();
+    assert!(done.is_some_and(|done| !done.is_empty() && done.is_sorted()), "{:?}", shown.bars());
+    assert_eq!((shown.status, shown.screen()), (1, said.to_vec()));
+    assert!(fs::read(folder.at("records")).expect("the records") == [13; CAPSULES]);
+    let quiet = session(report(&["--quiet"]), None);
+    assert_eq!((quiet.status, quiet.screen(), quiet.bars().len()), (1, said.to_vec(), 0));
 }
 
 #[test]

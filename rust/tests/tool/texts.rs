@@ -2,7 +2,8 @@
 
 use super::{accepted, outcome};
 
-const COMMANDS: [&str; 9] = ["check", "publish", "lock", "open", "read", "shapes", "help", "man", "completions"];
+const COMMANDS: [&str; 10] =
+    ["check", "publish", "lock", "open", "report", "read", "shapes", "help", "man", "completions"];
 
 const STATUSES: &str = "
 Exit status:
@@ -67,6 +68,8 @@ fn help_names_operands_options_and_values() {
     }
     assert!(open.contains("places where it is not given"), "{open}");
     assert!(help(&["help", "lock"]).contains("raw where it is not given"));
+    let report = help(&["help", "report"]);
+    assert!(report.contains("--records OUT ") && report.contains("--jobs N "), "{report}");
 }
 
 #[test]

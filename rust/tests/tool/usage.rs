@@ -52,6 +52,10 @@ fn options() {
     fails(&["read", "key.bin", "--format"], 2, "--format needs a value: places, hex, raw or json; see");
     fails(&["check", "--format", "hex", "key.bin"], 2, "check takes no option --format; see");
     fails(&["lock", "--jobs=2", "1", "a", "b", "c"], 2, "lock takes no option --jobs; see");
+    fails(&["report", "key.bin", "--records"], 2, "--records needs a value: a file; see shearcotter help report");
+    fails(&["report", "key.bin", "--records="], 2, "--records takes a file, not an empty word; see");
+    fails(&["report", "key.bin", "--format", "hex"], 2, "report takes no option --format; see");
+    fails(&["open", "key.bin", "--records", "x"], 2, "open takes no option --records; see");
 }
 
 #[test]
@@ -68,10 +72,10 @@ fn options_stand_anywhere() {
         [&key, "--format=hex", "--", &capsules],
     ];
     for words in orders {
-        accepted(&[&["open"], &words[..]].concat(), &[], "1 open 10\n");
+        accepted(&[&["open", "--quiet"], &words[..]].concat(), &[], "1 open 10\n");
     }
     for jobs in ["1", "2", "01", "1024"] {
-        accepted(&["open", &key, &capsules, "--jobs", jobs], &[], "1 open 4\n");
+        accepted(&["open", "--quiet", &key, &capsules, "--jobs", jobs], &[], "1 open 4\n");
         some_refused(&["read", &key, "--quiet", "--jobs", jobs], &[0x13, 0x53], "1 read 0\n2 refused 9\n", "");
     }
 }
@@ -94,10 +98,11 @@ fn every_command_takes_quiet() {
 fn one_input_is_standard_input() {
     let (folder, key) = with_k1();
     let out = folder.at("out");
-    for words in [vec!["open", "-"], vec!["read", "-", "-"], vec!["lock", "4,6,1", "-", "-", &out]] {
+    for words in [vec!["open", "-"], vec!["read", "-", "-"], vec!["report", "-"], vec!["lock", "4,6,1", "-", "-", &out]]
+    {
         fails_on(&words, &[0x13], 2, "standard input");
     }
-    accepted(&["read", &key, "-"], &[0x13], "1 read 0\n");
-    accepted(&["read", &key], &[0x13], "1 read 0\n");
+    accepted(&["read", "--quiet", &key, "-"], &[0x13], "1 read 0\n");
+    accepted(&["read", "--quiet", &key], &[0x13], "1 read 0\n");
     assert_eq!(folder.names(), ["key.bin"]);
 }

@@ -1,10 +1,12 @@
-//! calls.txt: lists of calls on one station, with the ledger at the end.
+//! calls.txt: lists of calls on one station, with the ledger at the end; the same with a report behind each call.
 
 use shearcotter::raw::{Reply, Station};
 
 use super::expected;
+use crate::independent::held::Held;
 use crate::independent::key::Key;
-use crate::support::raw_calls::{drop, fresh, held, holding, load, open, publish, read};
+use crate::independent::{calls, random::Random};
+use crate::support::raw_calls::{drop, fresh, held, holding, load, open, publish, read, report};
 use crate::support::{bytes, vectors::cases};
 
 const UNTOUCHED: u8 = 0xA5;
@@ -67,8 +69,8 @@ fn ledger(case: &[String]) -> Station {
     holding(state, &Key::parse(&bytes(&case[1])).expect("a key"))
 }
 
-#[test]
-fn lists_end_as_the_ledger() {
+/// Runs all lists, with something done behind each call; how many lists and calls.
+fn run_lists(mut behind: impl FnMut(Station) -> Station) -> (usize, usize) {
     let (mut station, mut lists, mut calls) = (fresh(), 0, 0);
     for case in cases("calls.txt") {
         match case[0].as_str() {
@@ -78,10 +80,32 @@ fn lists_end_as_the_ledger() {
             }
             "end" => assert!(station == ledger(&case), "{case:?}"),
             _ => {
-                station = run(station, &case);
+                station = behind(run(station, &case));
                 calls += 1;
             }
         }
     }
+    (lists, calls)
+}
+
+#[test]
+fn lists_end_as_the_ledger() {
+    let (lists, calls) = run_lists(|station| station);
     assert!(lists > 100 && calls > 1500, "{lists} lists, {calls} calls");
+}
+
+#[test]
+fn reports_between_the_calls_change_nothing() {
+    let (mut random, mut numbers) = (Random::new(41), vec![]);
+    run_lists(|station| {
+        let (length, room) = (random.below(8), random.below(8));
+        let (capsules, mut records) = (random.bytes(length), vec![UNTOUCHED; room]);
+        let reported = report(station, &capsules, &mut records);
+        let expected = calls::report(station.state, &Held::new(held(&station)), &capsules, room);
+        assert_eq!((reported.refused, reported.counts), (expected.number, calls::counts(&expected.written)));
+        assert!(records.starts_with(&expected.written));
+        numbers.push(reported.refused);
+        reported.station
+    });
+    assert!([0, 21, 24, 31].iter().all(|number| numbers.contains(number)), "{numbers:?}");
 }

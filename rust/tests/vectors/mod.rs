@@ -7,9 +7,11 @@ mod program;
 mod standard;
 mod words;
 
-use shearcotter::{Pattern, Refusal, Station};
+use shearcotter::{raw, Pattern, Refusal, Station};
 
+use crate::independent;
 use crate::support::bytes;
+use crate::support::raw_calls::{self, held};
 
 /// What a case says: `ok` and its fields, or `refused` and the number.
 fn expected(case: &[String]) -> Result<Vec<&str>, u8> {
@@ -33,6 +35,29 @@ fn same_pattern(answer: Result<Pattern, Refusal>, case: &[String]) {
         (Err(refusal), Err(number)) => assert_eq!(refusal.number(), number, "{case:?}"),
         (answer, _) => panic!("{answer:?} where the case says {case:?}"),
     }
+}
+
+/// A report on the capsules of all `open` cases, back to back, has their numbers as records; how many. Of those with a
+/// wrong length only a shorter one can stand there, as the tail: each in turn.
+fn same_records(station: &raw::Station, cases: &[Vec<String>]) -> usize {
+    let length = held(station).capsule_bits().div_ceil(8);
+    let open = cases.iter().filter(|case| case[0] == "open").map(|case| (bytes(&case[1]), number(&case[2..])));
+    let (whole, other): (Vec<_>, Vec<_>) = open.partition(|(capsule, _)| capsule.len() == length);
+    let (capsules, numbers): (Vec<_>, Vec<_>) = whole.into_iter().unzip();
+    let short = other.into_iter().filter(|(capsule, _)| (1..length).contains(&capsule.len()));
+    for (tail, last) in short.chain([(vec![], 0)]) {
+        let expected: Vec<u8> = numbers.iter().copied().chain((!tail.is_empty()).then_some(last)).collect();
+        let mut records = vec![0xA5; expected.len()];
+        let reported = raw_calls::report(*station, &[capsules.concat(), tail].concat(), &mut records);
+        assert_eq!((reported.refused, &records), (0, &expected));
+        assert_eq!(reported.counts, independent::calls::counts(&expected));
+    }
+    numbers.len()
+}
+
+/// The number that a case says; 0 for `ok`.
+fn number(case: &[String]) -> u8 {
+    expected(case).map_or_else(|number| number, |_| 0)
 }
 
 fn loaded(file: &[u8]) -> Station {

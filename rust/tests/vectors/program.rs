@@ -1,4 +1,4 @@
-//! program: the opening program's runs, through the tool's `open`.
+//! program: the opening program's runs, through the tool's `open`, with the last line of request L1.
 
 use crate::support::run::{run, status, text};
 use crate::support::vectors::{exists, file, folder, names};
@@ -26,7 +26,7 @@ fn compare(name: &str, wanted: impl Fn(usize) -> bool) {
     let part = |part: &str| file(&format!("program/{name}/{part}"));
     let key = folder().join(format!("program/{name}/key.bin"));
     let key = key.to_str().expect("a plain path");
-    let (mut input, stdout) = (part("stdin.bin"), part("stdout.txt"));
+    let (mut input, stdout) = (part("stdin.bin"), part("stdout_L1.txt"));
     if !wanted(input.len()) {
         return;
     }
@@ -34,10 +34,20 @@ fn compare(name: &str, wanted: impl Fn(usize) -> bool) {
     if stdout.starts_with(b"key ") {
         return refused_key(name, text(&stdout), key, &input);
     }
-    let output = run(&["open", "--quiet", key], &input);
-    assert!(output.stdout == stdout, "{name}: {}", text(&output.stdout));
-    let refused = text(&stdout).contains("refused");
+    let output = run(&["open", key], &input);
+    // The total stands on standard error, behind the names of the tool and the file.
+    let total = text(&output.stderr).lines().next().and_then(|line| line.strip_prefix("shearcotter: standard input: "));
+    let printed = format!("{}{}\n", text(&output.stdout), total.unwrap_or_default());
+    assert!(printed == text(&stdout), "{name}: {printed}");
+    let refused = !printed.ends_with(" refused 0\n");
     assert_eq!(status(&output), i32::from(refused), "{name}");
+    same_total(name, key, &input, &printed);
+}
+
+/// The tool's `report` prints the same last line.
+fn same_total(name: &str, key: &str, input: &[u8], printed: &str) {
+    let output = run(&["report", key], input);
+    assert_eq!(text(&output.stdout).lines().last(), printed.lines().last(), "{name}");
     assert_eq!(text(&output.stderr), "", "{name}");
 }
 

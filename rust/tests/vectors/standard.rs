@@ -2,8 +2,10 @@
 
 use shearcotter::{lock, Refusal, Shape};
 
-use super::{loaded, same_pattern};
+use super::{loaded, same_pattern, same_records};
+use crate::independent::key::Key;
 use crate::support::bytes;
+use crate::support::raw_calls::holding;
 use crate::support::vectors::{cases, file};
 
 fn published_vector(shape: Shape) {
@@ -17,10 +19,13 @@ fn published_vector(shape: Shape) {
     let opened = station.open(&capsule).expect("it opens");
     assert_eq!((opened.bytes(), opened.ones()), (&pattern[..], shape.t()));
     assert_eq!(station.open(&at("capsule_reject.bin")), Err(Refusal::NoPattern));
-    for case in cases(&format!("{name}/count0/many.txt")) {
+    let cases = cases(&format!("{name}/count0/many.txt"));
+    for case in &cases {
         assert_eq!(case[0], "open");
         same_pattern(station.open(&bytes(&case[1])), &case[2..]);
     }
+    let raw = holding(2, &Key::parse(&at("key.bin")).expect("a key"));
+    assert!(same_records(&raw, &cases) > 10, "{name}");
 }
 
 #[test]

@@ -2,7 +2,7 @@
 
 use shearcotter::{lock, Pattern, Refusal, Station};
 
-use super::{expected, loaded, same_pattern};
+use super::{expected, loaded, same_pattern, same_records};
 use crate::support::raw_calls;
 use crate::support::vectors::{cases, exists, file, names};
 use crate::support::{bytes, raw_calls::held};
@@ -67,8 +67,9 @@ impl Label {
     }
 }
 
-fn run_all(wanted: impl Fn(&str) -> bool) -> usize {
-    let mut count = 0;
+/// How many cases there are, and how many capsules stand in reports.
+fn run_all(wanted: impl Fn(&str) -> bool) -> (usize, usize) {
+    let (mut count, mut reported) = (0, 0);
     for name in names("words").iter().filter(|name| wanted(name)) {
         let folder = format!("words/{name}");
         let label = Label::new(&folder);
@@ -79,16 +80,19 @@ fn run_all(wanted: impl Fn(&str) -> bool) -> usize {
         }
         count += list.len();
         list.iter().for_each(|case| label.run(case));
+        reported += same_records(&label.marked, &list);
     }
-    count
+    (count, reported)
 }
 
 #[test]
 fn small() {
-    assert!(run_all(|name| name.starts_with("m4-")) > 20_000);
+    let (count, reported) = run_all(|name| name.starts_with("m4-"));
+    assert!(count > 20_000 && reported > 2_000, "{count} cases, {reported} records");
 }
 
 #[test]
 fn large() {
-    assert!(run_all(|name| name.starts_with("mceliece")) > 60);
+    let (count, reported) = run_all(|name| name.starts_with("mceliece"));
+    assert!(count > 60 && reported > 40, "{count} cases, {reported} records");
 }

@@ -29,6 +29,15 @@ impl Row {
         }
     }
 
+    /// What an accepted one was.
+    pub fn accepted(self) -> &'static str {
+        match self {
+            Row::Capsule => "opened",
+            Row::Word => "read",
+            Row::Pattern => "locked",
+        }
+    }
+
     fn bits(self, shape: Shape) -> usize {
         match self {
             Row::Capsule => capsule_bits(shape),
@@ -50,11 +59,19 @@ fn wrong_length(name: &str) -> String {
     format!("{name} of wrong byte length")
 }
 
-/// What the number says of a row.
-pub fn words(kind: Row, refusal: Refusal) -> String {
+/// What a refusal says of a row.
+fn words(kind: Row, refusal: Refusal) -> String {
     match refusal {
         Refusal::BadBytes => wrong_length(kind.name()),
         _ => refusal.condition().to_owned(),
+    }
+}
+
+/// What a number says of a row, 0 too.
+pub fn number(kind: Row, number: u8) -> String {
+    match number {
+        0 => kind.accepted().to_owned(),
+        _ => words(kind, Refusal::from_number(number).unwrap_or(Refusal::Other(number))),
     }
 }
 

@@ -1,6 +1,6 @@
 //! The threads, on inputs, answers and outputs made for them.
 
-use std::io::ErrorKind;
+use std::io::{Cursor, ErrorKind};
 use std::sync::atomic::{AtomicUsize, Ordering};
 use std::sync::mpsc::RecvTimeoutError;
 use std::sync::{Arc, Barrier};
@@ -19,7 +19,8 @@ fn ends<T: Send + 'static>(work: impl FnOnce() -> T + Send + 'static) -> Result<
 }
 
 fn rows(input: impl Read + Send + 'static, length: usize) -> Rows {
-    Rows { name: "input".into(), input: Box::new(input), length, progress: Progress::new(None, "rows", false) }
+    let progress = Progress::new(None, "rows", false);
+    Rows { name: "input".into(), input: Box::new(input), length, progress, together: SHORT }
 }
 
 fn each_into(
@@ -28,7 +29,7 @@ fn each_into(
     jobs: usize,
     answer: impl Fn(u64, &[u8]) -> Answer + Sync,
 ) -> Result<Counts, Failure> {
-    each_to(Streams { out, error: &mut io::sink(), on_terminal: false }, rows, jobs, answer)
+    each_to(Streams { out, name: None, error: &mut io::sink(), on_terminal: false }, rows, jobs, answer)
 }
 
 fn line(position: u64, row: &[u8]) -> Answer {
@@ -170,7 +171,7 @@ fn notes_stand_behind_their_lines() {
         }
     }
     let page = Page(Arc::default());
-    let streams = Streams { out: &mut page.clone(), error: &mut page.clone(), on_terminal: false };
+    let streams = Streams { out: &mut page.clone(), name: None, error: &mut page.clone(), on_terminal: false };
     let answer = |position: u64, _: &[u8]| {
         let notes = if position % 3 == 1 { format!("note on {position}\n") } else { String::new() };
         Answer { text: format!("{position}\n").into_bytes(), notes, number: 0 }
@@ -179,6 +180,53 @@ fn notes_stand_behind_their_lines() {
     let note = |i: u64| if i % 3 == 1 { format!("{i}\nnote on {i}\n") } else { format!("{i}\n") };
     let expected: String = (1..=1000).map(note).collect();
     assert!(*page.0.lock().expect("the page") == expected.into_bytes());
+}
+
+#[test]
+fn records_of_blocks_in_order_on_any_number_of_threads() {
+    let bytes: Vec<u8> = (0..50_000_u32).map(|i| (i * i / 7) as u8).collect();
+    let record = |row: &[u8]| row[0] % 3 + row.len() as u8;
+    let expected: Vec<u8> = bytes.chunks(3).map(record).collect();
+    for jobs in [1, 2, 3, 16] {
+        let (mut out, most) = (vec![], AtomicUsize::new(0));
+        let streams = Streams { out: &mut out, name: None, error: &mut io::sink(), on_terminal: false };
+        let rows = Rows { together: LONG, ..rows(Cursor::new(bytes.clone()), 3) };
+        let counts = batches(streams, rows, jobs, |batch| {
+            batch.record(&|block: &[u8]| {
+                most.fetch_max(block.len(), Ordering::Relaxed);
+                thread::sleep(2 * SHORT);
+                block.chunks(3).map(record).collect()
+            });
+        });
+        let counts = counts.ok().expect("all is written");
+        assert!(out == expected, "{jobs} jobs");
+        assert_eq!(counts.total(), 16_667);
+        let of = |value: u8| (value, expected.iter().filter(|record| **record == value).count() as u64);
+        let occurring: Vec<(u8, u64)> = (0..=5).map(of).filter(|(_, count)| *count > 0).collect();
+        assert_eq!(counts.occurring().collect::<Vec<_>>(), occurring);
+        // Though each block takes longer than lines may, it has many rows.
+        assert!(most.into_inner() > 100, "{jobs} jobs");
+    }
+}
+
+#[test]
+fn a_failing_output_has_its_name() {
+    struct Full;
+    impl Write for Full {
+        fn write(&mut self, _: &[u8]) -> io::Result<usize> {
+            Err(ErrorKind::StorageFull.into())
+        }
+        fn flush(&mut self) -> io::Result<()> {
+            Ok(())
+        }
+    }
+    for (name, said) in [(Some("records"), "records: "), (None, "standard output: ")] {
+        let name = name.map(PathBuf::from);
+        let streams = Streams { out: &mut Full, name, error: &mut io::sink(), on_terminal: false };
+        let result = each_to(streams, rows(io::repeat(7), 1), 2, line);
+        let failure = result.err().expect("a failure").to_string();
+        assert!(failure.starts_with(said), "{failure}");
+    }
 }
 
 #[test]

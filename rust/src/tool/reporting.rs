@@ -1,0 +1,60 @@
+//! `report`: how many capsules of a file have each number, and a record for each.
+
+use std::ffi::OsStr;
+use std::iter;
+
+use shearcotter::{Report, Shape, Station};
+
+use crate::arguments::Given;
+use crate::commands::RECORDS;
+use crate::explain::{self, Row};
+use crate::failure::{self, Failure};
+use crate::files::{Output, STANDARD};
+use crate::rows::{self, Counts, Rows};
+use crate::status::Status;
+use crate::table::QUIET;
+use crate::{help, keys, opening};
+
+const KIND: Row = Row::Capsule;
+
+/// The command `report`.
+pub fn report(given: &Given) -> Result<Status, Failure> {
+    let [key, file] = given.operands();
+    let (station, shape, _) = keys::published(key)?;
+    let rows = Rows::new(file, shape.capsule_length(), KIND.plural(), !given.has(QUIET))?;
+    let mut out = given.file(RECORDS).map(Output::create).transpose()?;
+    let records = move |capsules: &[u8]| records(&station, shape, capsules);
+    let counts = rows::blocks(rows, opening::jobs(given), out.as_mut(), records)?;
+    out.map_or(Ok(()), Output::finish)?;
+    say(given, file, &counts)?;
+    Ok(opening::status(&counts))
+}
+
+/// A record for each capsule; a refused report refuses each of them.
+fn records(station: &Station, shape: Shape, capsules: &[u8]) -> Vec<u8> {
+    let refused = |number| vec![number; shape.capsules_in(capsules.len())];
+    station.report(capsules).map_or_else(|refusal| refused(refusal.number()), Report::into_records)
+}
+
+/// The table on standard output; where the records stand there, a summary on standard error.
+fn say(given: &Given, file: &OsStr, counts: &Counts) -> Result<(), Failure> {
+    if given.file(RECORDS) != Some(OsStr::new(STANDARD)) {
+        return help::print(&table(counts)).map(drop);
+    }
+    if !given.has(QUIET) {
+        failure::say(&opening::summary(file, KIND, counts));
+    }
+    Ok(())
+}
+
+/// A line for each number that occurs, with its words and its count, and the total.
+fn table(counts: &Counts) -> String {
+    let rows: Vec<[String; 3]> = counts
+        .occurring()
+        .map(|(number, count)| [number.to_string(), explain::number(KIND, number), count.to_string()])
+        .collect();
+    let width = |column: usize| rows.iter().map(|row| row[column].len()).max().unwrap_or(0);
+    let (first, second, third) = (width(0), width(1), width(2));
+    let line = |[number, words, count]: &[String; 3]| format!("{number:<first$}  {words:<second$}  {count:>third$}\n");
+    rows.iter().map(line).chain(iter::once(counts.in_words(KIND.accepted()) + "\n")).collect()
+}
