@@ -45,6 +45,11 @@ pub map-append : (f : ℕ → ℕ) (l r : List ℕ) → map f (l ++ r) ≡ map f
 map-append f [] r = refl
 map-append f (x ∷ l) r = ap (_∷_ (f x)) (map-append f l r)
 
+pub map-at : {A B : Type 0} (f : A → B) (l : List A) (i : ℕ) (a : A) (b : B) → i < length l → getD (map f l) i b ≡ f (getD l i a)
+map-at f [] i a b h = absurd (not-suc-le-zero h)
+map-at f (x ∷ l) zero a b h = refl
+map-at f (x ∷ l) (suc i) a b h = map-at f l i a b (le-of-suc-le-suc h)
+
 -- maps over numbers in sequence: their lengths, their elements, and when two are equal
 pub length-map-from : (f : ℕ → ℕ) (k n : ℕ) → length (map f (from k n)) ≡ n
 length-map-from f k n = length-map (from k n) f ∙ length-from k n

@@ -10,7 +10,7 @@ use borrow.Author.Tests.{eqb-true, eq-eqb}
 use lib.Dec.{eqb}
 use lib.Pow.{pow-pos}
 use lib.ListN.{length, getD, take, drop, set, replicate, length-take, length-set, length-replicate, drop-of-length-le, List·getD-eq-default}
-use lib.Seq.{take-at, getD-take, getD-drop, getD-set-same, getD-set-other, ext-getD}
+use lib.Seq.{getD-take, getD-drop, getD-set-same, getD-set-other, ext-getD}
 use Rattle.bits.specs.Xor.{_⊕_}
 use Rattle.bits.specs.Bits.{Bytes, Row, end, off, on, from, bytesFor, bitAt, unpack, number, pack, setBit, fillerClear, wellFormed, eachWith, xorRow, over}
 use Rattle.bits.proofs.Xor.{Digit, xor-comm, xor-self, xor-shifted}
@@ -18,6 +18,7 @@ use Rattle.bits.proofs.Xor as xor
 use Rattle.bits.proofs.Lists.{and-left, and-right, length-map-from, map-from-at, map-from-past, map-from, map-append, from-add, every-from-at, every-from-all, every-from, take-below, drop-below}
 use Rattle.bits.proofs.Bits.{bit-digit, bit-past, bit-zeros, bit-of-byte, digit-suc, bits-determine, length-setBit, set-bit-same, set-bit-other}
 use Rattle.bits.proofs.Rows.{length-xorRow, bit-xorRow}
+use Rattle.bits.proofs.Padded.{over-first}
 
 -- lists of bits
 pub row-cons : {n d : ℕ} {e : List ℕ} → Digit d → Row n e → Row (suc n) (d ∷ e)
@@ -243,8 +244,7 @@ unpack-pack {n} {e} r =
 -- a packed row that is written over an output begins it, and is read back from it
 module _ {n : ℕ} {e : List ℕ} (r : Row n e) (out : List ℕ) where
   pub take-over : take (bytesFor n) (over (pack e) out) ≡ pack e
-  unfolding over
-  take-over = take-at (pack e) (drop (length (pack e)) out) (bytesFor n) (length-pack e ∙ ap bytesFor (row-length r))
+  take-over = over-first (pack e) out (bytesFor n) (length-pack e ∙ ap bytesFor (row-length r))
 
   pub unpack-over : unpack n (over (pack e) out) ≡ e
   unpack-over = sym (unpack-take n (bytesFor n) (over (pack e) out) (le-refl (bytesFor n))) ∙ ap (unpack n) take-over ∙ unpack-pack r

@@ -5,8 +5,8 @@ use Prim.Native.Nat.{ℕ, zero, suc, _+_, _-_, _≤_, _<_}
 use native.Mathlib.Nat.{le-of-lt, sub-zero}
 use native.Mathlib.Numerals.{add-one}
 use native.Mathlib.Omega.{arith}
-use lib.ListN.{length, getD, take, drop, set, replicate, length-append, length-replicate}
-use lib.Seq.{drop-cons, set-at, take-at, take-suc, append-snoc, length-take-le}
+use lib.ListN.{length, getD, take, drop, set, replicate, length-append, length-replicate, List·getD-append}
+use lib.Seq.{drop-at, drop-cons, set-at, take-at, take-suc, append-snoc, length-take-le}
 use Rattle.bits.specs.Bits.{over, padded}
 use Rattle.bits.proofs.Bits.{zeros-at}
 
@@ -27,6 +27,20 @@ over-next i l d h k =
     ∙ ap (λ (r : List ℕ). r ++ drop (suc i) d) (sym (take-suc l i 0 h))
     ∙ sym (over-take (suc i) l d h)
     ∙ ap (λ (j : ℕ). over (take j l) d) (sym (add-one i))
+
+-- n numbers over another list: they are its first, and the others stay
+module _ (l out : List ℕ) (n : ℕ) (e : length l ≡ n) where
+  pub over-first : take n (over l out) ≡ l
+  unfolding over
+  over-first = take-at l (drop (length l) out) n e
+
+  pub over-rest : drop n (over l out) ≡ drop n out
+  unfolding over
+  over-rest = drop-at l (drop (length l) out) n e ∙ ap (λ (i : ℕ). drop i out) e
+
+  pub over-at : (i : ℕ) → i < n → getD (over l out) i 0 ≡ getD l i 0
+  unfolding over
+  over-at i h = List·getD-append l (drop (length l) out) 0 i (rw e h)
 
 -- over zeros
 pub drop-zeros : (n k : ℕ) → drop n (replicate {A = ℕ} k 0) ≡ replicate (k - n) 0

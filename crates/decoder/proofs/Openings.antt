@@ -93,7 +93,7 @@ row-filled {l} {s} n r h =
     let e : l + (n - length s) ≡ n = omega (arith, row-length r) in
     subst (λ (i : ℕ). Row i (s ++ replicate (n - length s) 0)) e (row-append r (row-zeros (n - length s)))
 
-exactly-some : (t : ℕ) (o : Option (List ℕ)) (e : List ℕ) → exactly t o ≡ some e → (o ≡ some e) × (ones e ≡ t)
+pub exactly-some : (t : ℕ) (o : Option (List ℕ)) (e : List ℕ) → exactly t o ≡ some e → (o ≡ some e) × (ones e ≡ t)
 unfolding exactly
 exactly-some t none e h = let z : _≡_ {A = ℕ} 0 1 = cc in absurd (omega arith)
 exactly-some t (some d) e h = go (eqb (ones d) t) refl h

@@ -47,11 +47,6 @@ module _ {n : ℕ} {e : List ℕ} (r : Row n e) where
       ap (putBits e 0) (sym zeros) ∙ put-over (replicate 1024 0) r ∙ over-zeros 1024 (pack e)
 
 -- marks are bits
-pub map-at : (f : ℕ → ℕ) (l : List ℕ) (i : ℕ) → i < length l → getD (map f l) i 0 ≡ f (getD l i 0)
-map-at f [] i h = absurd (not-suc-le-zero h)
-map-at f (x ∷ l) zero h = refl
-map-at f (x ∷ l) (suc i) h = map-at f l i (le-of-suc-le-suc h)
-
 pub row-marks : (l : List ℕ) → Row (length l) (map mark l)
 unfolding mark
 row-marks l = marks-row (λ v. eqb v 0) l

@@ -23,7 +23,7 @@ pub struct Found {
 }
 
 // No pattern.
-fn nothing() -> Found
+pub fn nothing() -> Found
     ensures { λ r. ⌜ r ≡ foundOf none ⌝ }
 {
     Found {

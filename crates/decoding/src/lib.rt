@@ -6,3 +6,4 @@ mod sums;
 
 pub use decoding::Found;
 pub use decoding::decode;
+pub use decoding::nothing;

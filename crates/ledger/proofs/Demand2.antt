@@ -6,10 +6,10 @@ use mathlib.Core.List.{List, [], _∷_, flatMap}
 use mathlib.Core.Option.{Option, none, some}
 use native.Mathlib.Nat.{le-of-lt}
 use lib.Dec.{eqb, ltb}
-use lib.ListN.{length, take, drop}
-use lib.Seq.{take-at}
+use lib.ListN.{length, take}
 use borrow.Author.Tests.{not-false, eqb-true, ltb-false, le-ltb}
 use Rattle.bits.specs.Bits.{Bytes, Row, bytesFor, unpack, pack, ones, weight, wellFormed, over}
+use Rattle.bits.proofs.Padded.{over-first}
 use Rattle.bits.proofs.Pack.{row-unpack, unpack-pack, take-over, pack-unpack, well-formed, well-formed-pack}
 use Rattle.bits.proofs.Ones.{weight-pack}
 use Rattle.field.specs.Numbers.{firstOf}
@@ -127,11 +127,11 @@ module _ (k : Key) (rows : Matrix) (good : keyNumber k ≡ 0) (public : publicKe
   -- the public key begins what publish wrote
   public-begins : (state : State) (out work : List ℕ) → publishResult state k out work .number ≡ 0
       → take (publicBytes k) (publishResult state k out work .output) ≡ flatMap pack rows
-  unfolding over capsuleBits
+  unfolding capsuleBits
   public-begins state out work e =
       let l : length (flatMap pack rows) ≡ publicBytes k = public-size k rows good public in
       ap (take (publicBytes k)) (publish-output state out work e)
-      ∙ take-at (flatMap pack rows) (drop (length (flatMap pack rows)) out) (publicBytes k) l
+      ∙ over-first (flatMap pack rows) out (publicBytes k) l
 
   -- a pattern's capsule has m·t bits
   pub capsule-row : {e : List ℕ} → Row (k .n) e → Row (capsuleBits k) (locked rows e)

@@ -7,9 +7,9 @@ use mathlib.Core.Option.{Option, none, some}
 use native.Mathlib.Omega.{arith}
 use lib.Dec.{eqb, ltb}
 use lib.ListN.{length}
-use borrow.Author.Tests.{le-ltb}
+use borrow.Author.Tests.{eq-eqb, le-ltb}
 use Rattle.bits.specs.Bits.{bytesFor, unpack, fillerClear, wellFormed}
-use Rattle.bits.proofs.Lists.{and-left, and-right}
+use Rattle.bits.proofs.Pack.{well-formed-length, well-formed-clear}
 use Rattle.field.specs.Numbers.{firstOf}
 use Rattle.key.specs.Keys.{Key, keyNumber}
 use Rattle.code.specs.PublicKey.{Matrix, publicKey}
@@ -66,14 +66,6 @@ open-first : (a b c d : Bool) → a ≡ true → b ≡ true → c ≡ false
 unfolding firstOf
 open-first a b c d p q r = rw (p, q, r)
 
-well-length : (n : ℕ) (s : List ℕ) → wellFormed n s ≡ true → eqb (length s) (bytesFor n) ≡ true
-unfolding wellFormed
-well-length n s w = and-left (eqb (length s) (bytesFor n)) (fillerClear n s) w
-
-pub well-filler : (n : ℕ) (s : List ℕ) → wellFormed n s ≡ true → fillerClear n s ≡ true
-unfolding wellFormed
-well-filler n s w = and-right (eqb (length s) (bytesFor n)) (fillerClear n s) w
-
 -- demand 3's words on reading a word, and on opening
 abbrev Reads : Station → Key → List ℕ → List ℕ → Type 0
 Reads s k word out = wellFormed (k .n) word ≡ true → bytesFor (k .n) ≤ length out → Decides (Differs k word) 14 out (step s (ask (read-word word out)))
@@ -93,7 +85,7 @@ module _ (k : Key) (good : keyNumber k ≡ 0) where
       13 (stationOf st k) (read-word word out) out refl
       (ap (λ (x : Held). firstOf (conditionsOf x (ask (read-word word out)))) (sound-held st k good)
       ∙ read-first _ (eqb (length word) (bytesFor (k .n))) (fillerClear (k .n) word) (ltb (length out) (bytesFor (k .n))) _
-      h (well-length (k .n) word w) (well-filler (k .n) word w) (le-ltb _ _ long))
+      h (eq-eqb _ _ (well-formed-length (k .n) word w)) (well-formed-clear (k .n) word w) (le-ltb _ _ long))
 
   pub open-decides : (rows : Matrix) → publicKey k ≡ some rows → (capsule out : List ℕ) → Opens (stationOf published k) k rows capsule out
   unfolding conditionsOf questionConditions openConditions given isEmpty isUnpublished
@@ -103,7 +95,7 @@ module _ (k : Key) (good : keyNumber k ≡ 0) where
       (one-opening k good rows public capsule) 12 (stationOf published k) (open-capsule capsule out) out refl
       (ap (λ (x : Held). firstOf (conditionsOf x (ask (open-capsule capsule out)))) (sound-held published k good)
       ∙ open-first (eqb (length capsule) (bytesFor (capsuleBits k))) (fillerClear (capsuleBits k) capsule) (ltb (length out) (bytesFor (k .n))) _
-      (well-length (capsuleBits k) capsule w) (well-filler (capsuleBits k) capsule w) (le-ltb _ _ long))
+      (eq-eqb _ _ (well-formed-length (capsuleBits k) capsule w)) (well-formed-clear (capsuleBits k) capsule w) (le-ltb _ _ long))
 
 reading-after : {s : Station} {l : Ledger} → Agree s l → (k : Key) (word out : List ℕ) → l .key ≡ some k → Reads s k word out
 unfolding blank isEmpty

@@ -3,9 +3,9 @@ use Prim.Native.Nat.{ℕ}
 use mathlib.Core.Path.{_≡_, sym, ap, _∙_}
 use mathlib.Core.List.{List, flatMap}
 use mathlib.Core.Option.{some}
-use lib.ListN.{length, take, drop}
-use lib.Seq.{take-at}
+use lib.ListN.{take}
 use Rattle.bits.specs.Bits.{bytesFor, pack, over}
+use Rattle.bits.proofs.Padded.{over-first}
 use Rattle.bits.proofs.Pack.{row-unpack, take-over, well-formed-length}
 use Rattle.key.specs.Keys.{Key, keyNumber}
 use Rattle.code.specs.PublicKey.{Matrix, publicKey}
@@ -30,10 +30,6 @@ wrote k rows good public pattern buffer e =
     ∙ take-over (capsule-row k rows good public (row-unpack (k .n) pattern)) buffer
     ∙ sym l
 
-begins : (n : ℕ) (pattern out : List ℕ) → length pattern ≡ n → take n (over pattern out) ≡ pattern
-unfolding over
-begins n pattern out e = take-at pattern (drop (length pattern) out) n e
-
 module _ (sys : System) (sim : Simulates sys) where
   undo : (k : Key) (rows : Matrix) → keyNumber k ≡ 0 → publicKey k ≡ some rows → (s : sys .Stations) → sys .view s ≡ at published k
       → Undo sys k (flatMap pack rows) s
@@ -47,7 +43,7 @@ module _ (sys : System) (sim : Simulates sys) where
               ap (λ (r : Outcome (sys .Stations)). r .number) o,
               ap (λ (r : Outcome (sys .Stations)). r .count) o,
               ap (λ (r : Outcome (sys .Stations)). take (bytesFor (k .n)) (r .output)) o
-                  ∙ begins (bytesFor (k .n)) pattern out (well-formed-length (k .n) pattern (f .0)),
+                  ∙ over-first pattern out (bytesFor (k .n)) (well-formed-length (k .n) pattern (f .0)),
             );
         open-lock = λ capsule out buffer bytes e room.
             let n = d .opened-locks s capsule out buffer v e room in

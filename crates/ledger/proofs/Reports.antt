@@ -1,16 +1,16 @@
 -- An accepted report: its records and counts. Assumes nothing.
-use Prim.Native.Nat.{ℕ, _+_, _≤_, _<_}
-use mathlib.Core.Path.{_≡_, refl, sym, ap, subst, _∙_}
+use Prim.Native.Nat.{ℕ, _≤_, _<_}
+use mathlib.Core.Path.{_≡_, refl, sym, ap, _∙_}
 use mathlib.Core.Logic.{_↔_}
 use mathlib.Core.Bool.{Bool, true, false, true≢false, cond}
-use mathlib.Core.List.{List, [], _∷_, _++_}
+use mathlib.Core.List.{List, _∷_}
 use mathlib.Core.Option.{Option, none, some}
 use native.Mathlib.Omega.{arith}
 use borrow.Author.Tests.{not-false, eqb-true, ltb-false}
-use lib.ListN.{length, getD, take, drop, List·getD-append}
-use lib.Seq.{take-at, drop-at}
+use lib.ListN.{length, getD, take, drop}
 use Rattle.bits.specs.Bits.{bytesFor, unpack, wellFormed, over}
-use Rattle.bits.proofs.Pack.{well-formed, well-formed-length}
+use Rattle.bits.proofs.Padded.{over-first, over-rest, over-at}
+use Rattle.bits.proofs.Pack.{well-formed, well-formed-length, well-formed-clear}
 use Rattle.field.specs.Numbers.{firstOf}
 use Rattle.field.proofs.Numbers.{first-clear}
 use Rattle.key.specs.Keys.{Key, keyNumber, unsound}
@@ -25,10 +25,9 @@ use Rattle.ledger.specs.Questions.{open-capsule, report, questionConditi
 use Rattle.ledger.specs.Calls.{ask, conditionsOf, made, step}
 use Rattle.ledger.specs.Systems.{System}
 use Rattle.ledger.specs.Demands.{Locks}
-use Rattle.ledger.specs.Reports.{capsuleNumber, capsuleAt, reportOf, recordAt, Reported, ImportReport}
+use Rattle.ledger.specs.Reports.{capsuleNumber, capsuleAt, recordAt, ImportReport}
 use Rattle.ledger.proofs.StepLaws.{step-number, step-made}
 use Rattle.ledger.proofs.Patterns.{opening-sound, opening-complete}
-use Rattle.ledger.proofs.Demand3.{well-filler}
 use Rattle.ledger.proofs.Simulation.{Simulates, same-number, same-output, same-answer}
 
 -- a record is 0 exactly when the capsule is well-formed and some pattern locks to it
@@ -53,7 +52,7 @@ module _ (k : Key) (good : keyNumber k ≡ 0) (rows : Matrix) (public : publicKe
         (well-formed (capsuleBits k) capsule (eqb-true _ _ (not-false _ (c8 .0))) (not-false _ (c9 .0)), pattern _ refl (c13 .0)),
     λ p.
         let w = p .0 in
-        record-opening k capsule (well-formed-length (capsuleBits k) capsule w) (well-filler (capsuleBits k) capsule w)
+        record-opening k capsule (well-formed-length (capsuleBits k) capsule w) (well-formed-clear (capsuleBits k) capsule w)
         ∙ opened _ refl (p .1 .0) (p .1 .1),
   )
 
@@ -86,30 +85,16 @@ report-accepts s capsules records e =
     }
 
 -- with room for the pattern, open answers the record
-open-first : (a b c : Bool) (k : Key) (capsule out : List ℕ) → a ≡ false → b ≡ false → c ≡ false → bytesFor (k .n) ≤ length out
+record-first : (a b c : Bool) (k : Key) (capsule out : List ℕ) → a ≡ false → b ≡ false → c ≡ false → bytesFor (k .n) ≤ length out
     → firstOf ((a, 21) ∷ openConditions b c k capsule out) ≡ recordOf k capsule
 unfolding firstOf
-open-first a b c k capsule out p q r long = rw (p, q, r) (record-open k capsule out long)
+record-first a b c k capsule out p q r long = rw (p, q, r) (record-open k capsule out long)
 
 open-records : (s : Station) (capsules records capsule out : List ℕ) → Accepts s capsules records → bytesFor (s .key .n) ≤ length out
     → step s (ask (open-capsule capsule out)) .number ≡ recordOf (s .key) capsule
 unfolding heldBy conditionsOf questionConditions
 open-records s capsules records capsule out a long =
-    step-number s (ask (open-capsule capsule out)) ∙ open-first _ _ _ (s .key) capsule out (a .held) (a .sound) (a .marked) long
-
--- what is written over a buffer
-module _ (l out : List ℕ) (n : ℕ) (e : length l ≡ n) where
-  over-take : take n (over l out) ≡ l
-  unfolding over
-  over-take = take-at l (drop (length l) out) n e
-
-  over-drop : drop n (over l out) ≡ drop n out
-  unfolding over
-  over-drop = drop-at l (drop (length l) out) n e ∙ ap (λ (i : ℕ). drop i out) e
-
-  over-at : (i : ℕ) → i < n → getD (over l out) i 0 ≡ getD l i 0
-  unfolding over
-  over-at i h = List·getD-append l (drop (length l) out) 0 i (rw e h)
+    step-number s (ask (open-capsule capsule out)) ∙ record-first _ _ _ (s .key) capsule out (a .held) (a .sound) (a .marked) long
 
 module _ (sys : System) (sim : Simulates sys) where
   pub import-report : ImportReport sys
@@ -126,8 +111,8 @@ module _ (sys : System) (sim : Simulates sys) where
       λ i h. ap (λ (o : List ℕ). getD o i 0) out ∙ over-at (recordsOf k capsules) records _ l i h ∙ records-at k capsules some i (rw n h) in
       record {
         room = rw (← n) (a .room);
-        beyond = ap (drop (capsuleNumber k capsules)) out ∙ over-drop (recordsOf k capsules) records _ l;
-        counts = answer ∙ ap countsOf (sym (ap (take (capsuleNumber k capsules)) out ∙ over-take (recordsOf k capsules) records _ l));
+        beyond = ap (drop (capsuleNumber k capsules)) out ∙ over-rest (recordsOf k capsules) records _ l;
+        counts = answer ∙ ap countsOf (sym (ap (take (capsuleNumber k capsules)) out ∙ over-first (recordsOf k capsules) records _ l));
         sum = ap total answer ∙ records-sum k capsules ∙ n;
         opens = λ i h o long.
             at i h ∙ sym (same-number sys sim s (ask (open-capsule (capsuleAt k capsules i) o)) ∙ open-records (sys .view s) capsules records _ o a long);

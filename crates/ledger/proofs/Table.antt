@@ -236,6 +236,8 @@ story =
     (ask (read-word (0x1D ∷ []) (zeros 1)), refused 14) ∷
     (ask (read-word (0x06 ∷ []) (zeros 1)), accepted (0x10 ∷ []) 1) ∷
     (ask (open-capsule (0x0A ∷ []) (zeros 1)), refused 13) ∷
+    (ask (report (0x04 ∷ 0x0A ∷ 0x44 ∷ []) (zeros 2)), refused 31) ∷
+    (ask (report (0x04 ∷ 0x0A ∷ 0x44 ∷ []) (7 ∷ 7 ∷ 7 ∷ 7 ∷ [])), accepted (0 ∷ 13 ∷ 9 ∷ 7 ∷ []) 0) ∷
     (drop-key, accepted [] 0) ∷
     (load (key-file K1), accepted [] 0) ∷
     (ask (open-capsule [] (zeros 1)), refused 24) ∷
@@ -250,7 +252,7 @@ calls = map (λ r. r .0) story
 abbrev pub Story : Type 0
 Story =
     (answers fresh calls ≡ map (λ r. r .1) story) ×
-    (expected blank calls ≡ 21 ∷ 21 ∷ 21 ∷ 21 ∷ 0 ∷ 10 ∷ 11 ∷ 0 ∷ 0 ∷ 10 ∷ 0 ∷ 14 ∷ 0 ∷ 13 ∷ 0 ∷ 0 ∷ 24 ∷ 24 ∷ 24 ∷ 0 ∷ []) ×
+    (expected blank calls ≡ 21 ∷ 21 ∷ 21 ∷ 21 ∷ 0 ∷ 10 ∷ 11 ∷ 0 ∷ 0 ∷ 10 ∷ 0 ∷ 14 ∷ 0 ∷ 13 ∷ 31 ∷ 0 ∷ 0 ∷ 0 ∷ 24 ∷ 24 ∷ 24 ∷ 0 ∷ []) ×
     (ledgerAfter blank calls ≡ record { key = some (parse K1); mark = true })
 
 -- one computation for all tables

@@ -3,6 +3,7 @@
 use Prim.Native.Nat.{ℕ}
 use mathlib.Core.Bool.{Bool}
 use mathlib.Core.List.{List, []}
+use lib.ListN.{length}
 use Rattle.bits.specs.Bits.{unpack, pack, ones, over}
 use Rattle.key.specs.Keys.{Key}
 use Rattle.code.specs.Publish.{capsuleBits}
@@ -27,7 +28,7 @@ answerBuffer (report capsules records) = records
 unfoldable pub questionConditions : Held → Question → List (Bool × ℕ)
 questionConditions h (open-capsule capsule out) = openConditions (h .unsound) (h .unpublished) (h .key) capsule out
 questionConditions h (read-word word out) = readConditions (h .unsound) (h .key) word out
-questionConditions h (report capsules records) = reportConditions (h .unsound) (h .unpublished) (h .key) capsules records
+questionConditions h (report capsules records) = reportConditions (h .unsound) (h .unpublished) (h .key) capsules (length records)
 
 -- What is answered: the output buffer, the number of ones written, and what the form answers besides.
 pub record Given : Type 0 where

@@ -34,7 +34,7 @@ module _ (sys : System) where
   abbrev pub recordAt : sys .Stations → List ℕ → List ℕ → ℕ → ℕ
   recordAt s capsules records i = getD (reportOf s capsules records .output) i 0
 
-  pub record Reported (k : Key) (s : sys .Stations) (capsules records : List ℕ) : Type 0 where
+  pub record Recorded (k : Key) (s : sys .Stations) (capsules records : List ℕ) : Type 0 where
     -- there is a byte for each capsule, and bytes beyond keep their contents
     pub room : capsuleNumber k capsules ≤ length records
     pub beyond : drop (capsuleNumber k capsules) (reportOf s capsules records .output) ≡ drop (capsuleNumber k capsules) records
@@ -53,4 +53,4 @@ module _ (sys : System) where
   -- for every station and every buffer
   abbrev pub ImportReport : Type 0
   ImportReport = (s : sys .Stations) (capsules records : List ℕ) → reportOf s capsules records .number ≡ 0
-      → Reported (sys .view s .key) s capsules records
+      → Recorded (sys .view s .key) s capsules records

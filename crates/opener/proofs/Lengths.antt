@@ -18,6 +18,7 @@ use Rattle.code.specs.Publish.{capsuleBits, publicBytes, workBytes}
 use Rattle.decoder.specs.Reading.{reading, exactly, opening}
 use Rattle.decoder.specs.Calls.{found, isNone, openConditions}
 use Rattle.decoder.proofs.Sanity.{Corrects, reading-sound}
+use Rattle.decoder.proofs.Openings.{exactly-some}
 use Rattle.records.specs.Records.{cut, capsulesOf}
 use Rattle.records.proofs.Cut.{cut-number}
 use Rattle.ledger.specs.Station.{Station, heldBy, Result}
@@ -42,17 +43,7 @@ first-below k (c ∷ cs) h = go (c .0) (first-below k cs (h .1))
     go true t = h .0
     go false t = t
 
--- the pattern that is found: at most t ones
-exactly-some : (t : ℕ) (o : Option (List ℕ)) {e : List ℕ} → exactly t o ≡ some e → o ≡ some e
-unfolding exactly
-exactly-some t none h = h
-exactly-some t (some d) {e} h = go (eqb (ones d) t) h
-  where
-    go : (b : Bool) → cond b (some d) none ≡ some e → some d ≡ some e
-    go true g = g
-    go false g = let z : _≡_ {A = ℕ} 0 1 = cc in absurd (omega arith)
-
--- the pattern that open writes
+-- the pattern that open writes: at most t ones
 record Pattern (k : Key) (e : List ℕ) : Type 0 where
   bits : Row (k .n) e
   few : ones e ≤ k .t
@@ -61,7 +52,7 @@ found-some : (k : Key) (w : List ℕ) (o : Option (List ℕ)) → exactly (k .t)
 unfolding found isNone
 found-some k w none h i = absurd (true≢false i)
 found-some k w (some e) h i =
-    let c : Corrects k w e = reading-sound k w e (exactly-some (k .t) (reading k w) h) in
+    let c : Corrects k w e = reading-sound k w e (exactly-some (k .t) (reading k w) e h .0) in
     record { bits = c .bits; few = c .few }
 
 module _ (s : Station) (capsule out : List ℕ) where

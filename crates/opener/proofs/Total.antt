@@ -2,18 +2,17 @@
 use mathlib.Core.Path.{_≡_, refl, sym, ap, ap₂, _∙_, fun-ext}
 use mathlib.Core.Bool.{Bool, true, false, cond}
 use mathlib.Core.List.{List, [], _∷_, _++_, map}
-use Prim.Native.Nat.{ℕ, zero, suc, _+_, _-_, _/_, _≤_, _<_}
+use Prim.Native.Nat.{ℕ, zero, suc, _+_, _-_, _≤_, _<_}
 use native.Mathlib.Omega.{arith}
 use borrow.Author.Tests.{ne-eqb, le-ltb}
-use lib.ListN.{length, getD, drop, replicate, length-map, length-replicate}
+use lib.ListN.{length, getD, replicate, length-map, length-replicate}
 use Rattle.bits.specs.Bits.{bytesFor}
 use Rattle.field.specs.Numbers.{firstOf}
 use Rattle.key.specs.Keys.{Key, unsound}
-use Rattle.code.specs.Publish.{capsuleBits}
 use Rattle.decoder.specs.Calls.{openConditions}
 use Rattle.records.specs.Records.{cut, capsulesOf, recordsOf, occurrences, reportConditions}
 use Rattle.records.proofs.Counts.{occurrences-most, counts-at}
-use Rattle.records.proofs.Values.{record-open, capsules-number}
+use Rattle.records.proofs.Values.{record-open, capsules-few}
 use Rattle.ledger.specs.Station.{Station, isEmpty, isUnpublished, heldBy, Result}
 use Rattle.ledger.specs.Questions.{open-capsule, report, questionConditions, given, answerSize}
 use Rattle.ledger.specs.Calls.{ask, conditionsOf, noAnswer, made, step}
@@ -26,22 +25,6 @@ use Rattle.opener.proofs.Digits.{decimal-short}
 use Rattle.opener.proofs.Text.{total-length}
 use Rattle.opener.proofs.Shape.{four}
 use Rattle.opener.proofs.Lengths.{room-enough}
-
--- the length divided by a capsule's bytes, rounded up
-pub capsules-counted : (k : Key) (input : List ℕ) {c : ℕ} → c ≡ bytesFor (capsuleBits k) → 0 < c → (length input + (c - 1)) / c ≡ length (capsulesOf k input)
-capsules-counted k input e h =
-    ap (λ (b : ℕ). (length input + (b - 1)) / b) e ∙ sym (capsules-number k input (omega arith))
-
--- no more parts than asked for
-cut-most : (k c : ℕ) (l : List ℕ) → length (cut k c l) ≤ k
-unfolding cut
-cut-most zero c l = omega arith
-cut-most (suc k) c [] = omega arith
-cut-most (suc k) c (b ∷ l) = let r = cut-most k c (drop c (b ∷ l)) in omega arith
-
-pub capsules-few : (k : Key) (input : List ℕ) → length (capsulesOf k input) ≤ length input
-unfolding capsulesOf
-capsules-few k input = cut-most (length input) _ input
 
 -- no more capsules are opened than there are
 numbers-most : (s : Station) (cs : List (List ℕ)) → occurrences 0 (numbers s cs) ≤ length cs
@@ -88,7 +71,7 @@ unlessNumber (suc n) a = 0
 module _ (k : Key) (input records : List ℕ) (wide : bytesFor (k .n) ≤ length room) (long : length (capsulesOf k input) ≤ length records) where
   first-opened : (missing bad unpublished : Bool)
       → occurrences 0 (map (λ c. firstOf ((missing, 21) ∷ openConditions bad unpublished k c room)) (capsulesOf k input))
-      ≡ unlessNumber (firstOf ((missing, 21) ∷ reportConditions bad unpublished k input records)) (occurrences 0 (recordsOf k input))
+      ≡ unlessNumber (firstOf ((missing, 21) ∷ reportConditions bad unpublished k input (length records))) (occurrences 0 (recordsOf k input))
   unfolding unlessNumber openConditions reportConditions recordsOf firstOf
   first-opened true b u = none-zero _ (λ c e. omega arith) (capsulesOf k input)
   first-opened false true u = none-zero _ (λ c e. omega arith) (capsulesOf k input)

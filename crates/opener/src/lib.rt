@@ -151,7 +151,7 @@ fn capsule_bytes(station: Station) -> usize
     ensures { λ r. ⌜ r ≡ bytesFor (capsuleBits (view station .key)) ⌝ }
 {
     let key = station.key;
-    bits::bytes_for((key.m as usize) * (key.t as usize))
+    reading::capsule_bytes(key.m, key.t)
 }
 
 // The lines of the capsules.
@@ -176,8 +176,7 @@ fn capsule_count(station: Station, input: &[u8]) -> usize
     requires { ⌜ (isFour (view station .key) ≡ true) × (length (now input) ≤ 65536) ⌝ }
     ensures { λ r. ⌜ r ≡ length (capsulesOf (view station .key) (now (input .entry))) ⌝ }
 {
-    let c = capsule_bytes(station);
-    (input.len() + (c - 1)) / c
+    reporting::capsule_count(input.len(), capsule_bytes(station))
 }
 
 // How many of the capsules are opened: the count of 0 among the records of a report.

@@ -1,12 +1,11 @@
 -- What read and open answer and write, from what is found. Assumes nothing.
 use mathlib.Core.Path.{_≡_, refl, sym, ap, _∙_}
-use mathlib.Core.Bool.{Bool, true, false, cond}
+use mathlib.Core.Bool.{Bool, true, cond}
 use mathlib.Core.List.{List, _∷_, _++_, map}
 use mathlib.Core.Option.{Option, none, some}
 use Prim.Native.Nat.{ℕ, zero, suc, _+_, _-_, _*_, _≤_}
 use native.Mathlib.Omega.{arith}
 use borrow.Author.Tests.{eq-eqb, ne-eqb}
-use lib.Dec.{eqb}
 use lib.ListN.{length, replicate}
 use Rattle.bits.specs.Bits.{Row, from, bytesFor, bitAt, unpack, pack, ones, wellFormed, over, rowWritten}
 use Rattle.bits.proofs.Lists.{map-from}
@@ -21,6 +20,7 @@ use Rattle.code.specs.Publish.{capsuleBits}
 use Rattle.decoder.specs.Reading.{reading, filled, exactly, opening}
 use Rattle.decoder.specs.Calls.{found, isNone, patternOutput, openNumber, readNumber, openOutput, readOutput}
 use Rattle.decoder.proofs.Sanity.{reading-sound}
+use Rattle.decoder.proofs.Openings.{exactly-some}
 use Rattle.decoding.specs.Parts.{decoded, foundOf}
 use Rattle.decoding.specs.declared.decoding.Found.{Found}
 use Rattle.decoding.proofs.Packed.{unpack-packed}
@@ -133,15 +133,6 @@ unpack-filled m n s w h =
     ∙ ap (λ (i : ℕ). replicate (n - i) 0) (sym (length-unpack m s)))
 
 -- open
-row-exactly : {n : ℕ} (t : ℕ) (o : Option (List ℕ)) → ((e : List ℕ) → o ≡ some e → Row n e) → (e : List ℕ) → exactly t o ≡ some e → Row n e
-unfolding exactly
-row-exactly t none row e h = let z : _≡_ {A = ℕ} 0 1 = cc in absurd (omega arith)
-row-exactly {n} t (some d) row e h = go (eqb (ones d) t) h
-  where
-    go : (b : Bool) → cond b (some d) none ≡ some e → Row n e
-    go true h = row e h
-    go false h = let z : _≡_ {A = ℕ} 0 1 = cc in absurd (omega arith)
-
 -- where the pattern has another number of ones nothing is found, and where it has t the pattern
 module _ (t : ℕ) where
   pub found-other : (o : Option (List ℕ)) {f : Found} → f ≡ foundOf o → (f .ones ≡ t → ⊥) → foundOf none ≡ foundOf (exactly t o)
@@ -172,7 +163,7 @@ module _ (k : Key) (capsule : List ℕ) (z : keyNumber (kept k) ≡ 0) (w : well
   found-opening e = e ∙ ap foundOf exactly-opening
 
   pub row-opening : (e : List ℕ) → opening (kept k) (unpack (capsuleBits (kept k)) capsule) ≡ some e → Row (k .n) e
-  row-opening e h = row-exactly (k .t) _ (row-reading k capsule) e (sym opening-exactly ∙ h)
+  row-opening e h = row-reading k capsule e (exactly-some (k .t) _ e (sym opening-exactly ∙ h) .0)
 
 module _ (unpublished : Bool) (k : Key) (capsule out : List ℕ) where
   pub open-refusal : {x : ℕ} → x ≡ firstOf (openChecks unpublished (kept k) capsule (length out)) → (x ≡ 0 → ⊥)

@@ -1,5 +1,5 @@
 -- The numbers of read and open, by the tests of the code. Assumes nothing.
-use mathlib.Core.Path.{_≡_, refl, ap, _∙_}
+use mathlib.Core.Path.{_≡_, refl, sym, ap, _∙_}
 use mathlib.Core.Bool.{Bool, true, false, cond, not}
 use mathlib.Core.List.{List, [], _∷_, _++_}
 use Prim.Native.Nat.{ℕ, _≤_, _<_}
@@ -15,7 +15,7 @@ use Rattle.key.proofs.Conditions.{first-take}
 use Rattle.code.specs.Publish.{capsuleBits}
 use Rattle.decoder.specs.Reading.{reading, opening}
 use Rattle.decoder.specs.Calls.{isNone, openConditions, readConditions, openNumber, readNumber}
-use Rattle.reading.specs.Answers.{rowChecks, bufferChecks, openChecks, readChecks}
+use Rattle.reading.specs.Answers.{rowChecks, bufferChecks, keyChecks, openChecks, readChecks}
 
 -- 8, 9
 module _ (k : ℕ) (row : List ℕ) where
@@ -89,23 +89,47 @@ module _ (k : Key) where
     unfolding readChecks firstOf
     read-sound z = rw (unsound-none z)
 
-    pub open-unsound : (unpublished : Bool) → (keyNumber k ≡ 0 → ⊥) → 25 ≡ firstOf (openChecks unpublished k word len)
-    unfolding openChecks firstOf
-    open-unsound unpublished h = rw (unsound-some h)
+  -- 0 of the checks: the key is sound
+  pub sound-key : unsound k ≡ false → keyNumber k ≡ 0
+  unfolding unsound
+  sound-key e = eqb-true _ _ (not-false _ e)
 
-    pub open-unpublished : (unpublished : Bool) → keyNumber k ≡ 0 → unpublished ≡ true → 24 ≡ firstOf (openChecks unpublished k word len)
-    unfolding openChecks firstOf
-    open-unpublished unpublished z p = rw (unsound-none z, p)
+-- 25, 24
+module _ (unpublished : Bool) (k : Key) where
+  pub key-unsound : (keyNumber k ≡ 0 → ⊥) → 25 ≡ firstOf (keyChecks unpublished k)
+  unfolding keyChecks firstOf
+  key-unsound h = rw (unsound-some k h)
 
-    pub open-sound : (unpublished : Bool) → keyNumber k ≡ 0 → unpublished ≡ false
-        → firstOf (bufferChecks (capsuleBits k) (k .n) word len) ≡ firstOf (openChecks unpublished k word len)
-    unfolding openChecks firstOf
-    open-sound unpublished z p = rw (unsound-none z, p)
+  module _ (z : keyNumber k ≡ 0) where
+    pub key-unpublished : unpublished ≡ true → 24 ≡ firstOf (keyChecks unpublished k)
+    unfolding keyChecks firstOf
+    key-unpublished p = rw (unsound-none k z, p)
+
+    pub key-right : unpublished ≡ false → 0 ≡ firstOf (keyChecks unpublished k)
+    unfolding keyChecks firstOf
+    key-right p = rw (unsound-none k z, p)
+
+  -- with the conditions behind them
+  module _ (cs : List (Bool × ℕ)) where
+    pub key-refused : (firstOf (keyChecks unpublished k) ≡ 0 → ⊥) → firstOf (keyChecks unpublished k) ≡ firstOf (keyChecks unpublished k ++ cs)
+    unfolding keyChecks
+    key-refused h = first-take 2 (keyChecks unpublished k ++ cs) h
+
+    pub key-passed : firstOf (keyChecks unpublished k) ≡ 0 → firstOf cs ≡ firstOf (keyChecks unpublished k ++ cs)
+    unfolding keyChecks numbered
+    key-passed z = sym (first-append (keyChecks unpublished k) cs refl z)
+
+    pub key-first : firstOf (keyChecks unpublished k ++ cs) ≡ 0 → (keyNumber k ≡ 0) × (firstOf cs ≡ 0)
+    unfolding keyChecks
+    key-first e =
+        let c25 = first-clear (unsound k) 24 _ e in
+        (sound-key k (c25 .0), first-clear unpublished 23 _ (c25 .1) .1)
+
+  pub key-clear : firstOf (keyChecks unpublished k) ≡ 0 → keyNumber k ≡ 0
+  unfolding keyChecks
+  key-clear e = key-first [] e .0
 
 -- 0 of the checks: the key is sound and the buffers are right
-pub sound-key : (k : Key) → unsound k ≡ false → keyNumber k ≡ 0
-unfolding unsound
-sound-key k e = eqb-true _ _ (not-false _ e)
 
 module _ (k : Key) (word out : List ℕ) where
   pub read-clear : firstOf (readChecks k word (length out)) ≡ 0 → (keyNumber k ≡ 0) × (wellFormed (k .n) word ≡ true) × (bytesFor (k .n) ≤ length out)
@@ -128,17 +152,16 @@ module _ (unpublished : Bool) (k : Key) (capsule out : List ℕ) where
       → (keyNumber k ≡ 0) × (wellFormed (capsuleBits k) capsule ≡ true) × (bytesFor (k .n) ≤ length out)
   unfolding openChecks
   open-clear e =
-      let c = first-clear (unsound k) 24 _ e in
-      let d = first-clear unpublished 23 _ (c .1) in
-      let b = buffers-clear (capsuleBits k) capsule (k .n) (length out) (d .1) in (sound-key k (c .0), b .0, b .1)
+      let c = key-first unpublished k (bufferChecks (capsuleBits k) (k .n) capsule (length out)) e in
+      let b = buffers-clear (capsuleBits k) capsule (k .n) (length out) (c .1) in (c .0, b .0, b .1)
 
   -- the number: that of the checks, or 13
   pub open-refused : {x : ℕ} → x ≡ firstOf (openChecks unpublished k capsule (length out)) → (x ≡ 0 → ⊥) → x ≡ openNumber unpublished k capsule out
-  unfolding openNumber openConditions openChecks rowChecks bufferChecks
+  unfolding openNumber openConditions openChecks keyChecks rowChecks bufferChecks
   open-refused e h = e ∙ first-take 5 (openConditions (unsound k) unpublished k capsule out) (λ z. h (e ∙ z))
 
   pub open-number : firstOf (openChecks unpublished k capsule (length out)) ≡ 0
       → openNumber unpublished k capsule out ≡ cond (isNone (opening k (unpack (capsuleBits k) capsule))) 13 0
-  unfolding openNumber openConditions openChecks rowChecks bufferChecks firstOf numbered
+  unfolding openNumber openConditions openChecks keyChecks rowChecks bufferChecks firstOf numbered
   open-number e =
       first-append (openChecks unpublished k capsule (length out)) ((isNone (opening k (unpack (capsuleBits k) capsule)), 13) ∷ []) refl e

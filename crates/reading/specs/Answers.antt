@@ -38,9 +38,13 @@ bufferChecks k n row len = rowChecks k row ++ ((ltb len (bytesFor n), 10) ∷ []
 unfoldable pub readChecks : Key → List ℕ → ℕ → List (Bool × ℕ)
 readChecks k word len = (unsound k, 25) ∷ bufferChecks (k .n) (k .n) word len
 
--- 25, 24, and these of a capsule
+-- 25, 24
+unfoldable pub keyChecks : Bool → Key → List (Bool × ℕ)
+keyChecks unpublished k = (unsound k, 25) ∷ (unpublished, 24) ∷ []
+
+-- and those of a capsule
 unfoldable pub openChecks : Bool → Key → List ℕ → ℕ → List (Bool × ℕ)
-openChecks unpublished k capsule len = (unsound k, 25) ∷ (unpublished, 24) ∷ bufferChecks (capsuleBits k) (k .n) capsule len
+openChecks unpublished k capsule len = keyChecks unpublished k ++ bufferChecks (capsuleBits k) (k .n) capsule len
 
 -- the ones of a pattern that is found, else the refusal with the number x
 unfoldable pub countedOf : ℕ → Found → Answer

@@ -1,24 +1,40 @@
 // The calls read and open on a kept key, lent by its parts.
 use decoding::Found;
 use decoding::decode;
+use decoding::nothing;
 use field::Verdict;
 use key::checks::check;
 use key::kept::Key;
 ghost use mathlib.Core.Path.{_≡_};
 ghost use mathlib.Core.Bool.{not};
-ghost use Rattle.bits.specs.Bits.{unpack, rowWritten};
+ghost use Prim.Native.Nat.{_*_};
+ghost use Rattle.bits.specs.Bits.{bytesFor, unpack, rowWritten};
 ghost use Rattle.field.specs.Numbers.{firstOf};
 ghost use Rattle.field.specs.Verdicts.{verdictOf};
 ghost use Rattle.key.specs.Kept.{kept, parts};
 ghost use Rattle.decoder.specs.Reading.{exactly};
 ghost use Rattle.decoder.specs.Calls.{openOutput, readOutput};
 ghost use Rattle.decoding.specs.Parts.{decoded, foundOf};
-ghost use Rattle.reading.specs.Answers.{rowChecks, bufferChecks, openChecks, readChecks, countedOf, openOf, readOf};
+ghost use Rattle.reading.specs.Answers.{keyChecks, rowChecks, bufferChecks, openChecks, readChecks, countedOf, openOf, readOf};
 
 // The number of ones of the pattern that is written, or the number of a refusal.
 pub enum Answer {
     Ones(u16),
     Refused(u8),
+}
+
+// The bits of a capsule.
+pub fn capsule_bits(m: u8, t: u16) -> usize
+    ensures { λ r. ⌜ r ≡ m * t ⌝ }
+{
+    (m as usize) * (t as usize)
+}
+
+// Its bytes.
+pub fn capsule_bytes(m: u8, t: u16) -> usize
+    ensures { λ r. ⌜ r ≡ bytesFor (m * t) ⌝ }
+{
+    bits::bytes_for(capsule_bits(m, t))
 }
 
 // Whether a row of k bits is right: 8 or 9 on refusal.
@@ -67,6 +83,27 @@ fn check_word<'a>(
     check_buffers(places, places, word, len)
 }
 
+// Whether capsules can be opened under a kept key: 25 or 24 on refusal.
+pub fn check_published<'a>(
+    m: u8,
+    n: u16,
+    t: u16,
+    support: &'a [u16; Key::MOST_PLACES],
+    g: &'a [u16; Key::MOST_ERRORS],
+    published: bool,
+) -> Verdict
+    ensures { λ r. ⌜ r ≡ verdictOf (firstOf (keyChecks (not published) (kept (parts m n t (now (support .entry)) (now (g .entry)))))) ⌝ }
+{
+    let x = check(m, n, t, support, g);
+    let Verdict::Accepted = x else {
+        return Verdict::Refused(25);
+    };
+    if !published {
+        return Verdict::Refused(24);
+    }
+    x
+}
+
 // Whether a capsule can be opened: 25, 24, 8, 9 or 10 on refusal.
 fn check_capsule<'a>(
     m: u8,
@@ -80,14 +117,11 @@ fn check_capsule<'a>(
 ) -> Verdict
     ensures { λ r. ⌜ r ≡ verdictOf (firstOf (openChecks (not published) (kept (parts m n t (now (support .entry)) (now (g .entry)))) (now (capsule .entry)) len)) ⌝ }
 {
-    let Verdict::Accepted = check(m, n, t, support, g) else {
-        return Verdict::Refused(25);
+    let x = check_published(m, n, t, support, g, published);
+    let Verdict::Accepted = x else {
+        return x;
     };
-    if !published {
-        return Verdict::Refused(24);
-    }
-    let k = (m as usize) * (t as usize);
-    check_buffers(k, n as usize, capsule, len)
+    check_buffers(capsule_bits(m, t), n as usize, capsule, len)
 }
 
 // The number of ones of the pattern found, or the refusal with a number where there is none.
@@ -148,11 +182,7 @@ pub fn open_checked<'a>(
 {
     let e = decode(m, n, t, support, g, capsule);
     if e.ones != t {
-        return Found {
-            found: false,
-            ones: 0,
-            pattern: [0u8; 1024],
-        };
+        return nothing();
     }
     e
 }

@@ -2,6 +2,9 @@
 mod calls;
 
 pub use calls::Answer;
+pub use calls::capsule_bits;
+pub use calls::capsule_bytes;
+pub use calls::check_published;
 pub use calls::check_row;
 pub use calls::open;
 pub use calls::open_checked;

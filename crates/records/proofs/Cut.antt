@@ -8,6 +8,7 @@ use native.Mathlib.Numerals.{add-one}
 use native.Mathlib.Omega.{arith}
 use lib.ListN.{length, getD, take, drop, length-drop}
 use lib.Seq.{take-all, take-nil, drop-nil, drop-drop}
+use Rattle.bits.proofs.Lists.{map-at}
 use Rattle.records.specs.Records.{cut}
 
 -- c numbers from i on, or what is left
@@ -68,6 +69,13 @@ number-within (suc k) c (b ∷ l) h x =
     ap suc (number-within k c (drop c (b ∷ l)) h (omega (arith, e)) ∙ ap (λ (n : ℕ). (n + (c - 1)) / c) e)
     ∙ rounded-next (length (b ∷ l)) c h (omega arith)
 
+-- no more parts than asked for
+pub cut-most : (k c : ℕ) (l : List ℕ) → length (cut k c l) ≤ k
+unfolding cut
+cut-most zero c l = omega arith
+cut-most (suc k) c [] = omega arith
+cut-most (suc k) c (b ∷ l) = let r = cut-most k c (drop c (b ∷ l)) in omega arith
+
 -- the number of parts: the length divided by c, rounded up
 pub cut-number : (c : ℕ) (l : List ℕ) → 0 < c → length (cut (length l) c l) ≡ (length l + (c - 1)) / c
 cut-number c l h = number-within (length l) c l h (omega arith)
@@ -92,12 +100,7 @@ cut-part c (suc i) (b ∷ l) h =
     ∙ cut-part c i (drop c (b ∷ l)) h
     ∙ ap (take c) (drop-drop (i * c) c (b ∷ l) ∙ ap (λ (j : ℕ). drop j (b ∷ l)) e)
 
-map-at : (f : List ℕ → ℕ) (r : List (List ℕ)) (i : ℕ) → i < length r → getD (map f r) i 0 ≡ f (getD r i [])
-map-at f [] i h = absurd (not-suc-le-zero h)
-map-at f (x ∷ r) zero h = refl
-map-at f (x ∷ r) (suc i) h = map-at f r i (le-of-suc-le-suc h)
-
 -- the value of f at part i
 pub cut-map : (f : List ℕ → ℕ) (c i : ℕ) (l : List ℕ) → 0 < c → i < length (cut (length l) c l)
     → getD (map f (cut (length l) c l)) i 0 ≡ f (take c (drop (i * c) l))
-cut-map f c i l h b = map-at f (cut (length l) c l) i b ∙ ap f (cut-part c i l h)
+cut-map f c i l h b = map-at f (cut (length l) c l) i [] 0 b ∙ ap f (cut-part c i l h)

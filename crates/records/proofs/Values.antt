@@ -1,5 +1,5 @@
 -- The values of a record, that it is what opening answers, and the records of a buffer. Assumes nothing.
-use mathlib.Core.Path.{_≡_, refl, _∙_}
+use mathlib.Core.Path.{_≡_, refl, sym, ap, _∙_}
 use mathlib.Core.Logic.{_⊎_, inl, inr}
 use mathlib.Core.Bool.{Bool, true, false, cond}
 use mathlib.Core.List.{List, [], _∷_, map}
@@ -17,7 +17,7 @@ use Rattle.code.specs.Publish.{capsuleBits}
 use Rattle.decoder.specs.Reading.{opening}
 use Rattle.decoder.specs.Calls.{isNone, openConditions}
 use Rattle.records.specs.Records.{capsulesOf, capsuleConditions, recordOf, recordsOf, countsOf, total}
-use Rattle.records.proofs.Cut.{cut-number, cut-within, cut-map}
+use Rattle.records.proofs.Cut.{cut-most, cut-number, cut-within, cut-map}
 use Rattle.records.proofs.Counts.{counts-sum}
 
 -- a capsule has a bit, and a byte
@@ -62,10 +62,6 @@ module _ (k : Key) (capsule : List ℕ) where
   record-length h = rw (ne-eqb _ _ h)
 
   module _ (a : length capsule ≡ bytesFor (capsuleBits k)) where
-    pub record-filler : fillerClear (capsuleBits k) capsule ≡ false → recordOf k capsule ≡ 9
-    unfolding recordOf capsuleConditions firstOf
-    record-filler h = rw (eq-eqb _ _ a, h)
-
     pub record-opening : fillerClear (capsuleBits k) capsule ≡ true → recordOf k capsule ≡ cond (isNone (opening k (unpack (capsuleBits k) capsule))) 13 0
     unfolding recordOf capsuleConditions firstOf
     record-opening h = rw (eq-eqb _ _ a, h)
@@ -88,11 +84,18 @@ module _ (k : Key) (buffer : List ℕ) where
   pub records-sum : total (countsOf (recordsOf k buffer)) ≡ length (capsulesOf k buffer)
   records-sum = counts-sum (recordsOf k buffer) records-bytes ∙ records-length
 
+  pub capsules-few : length (capsulesOf k buffer) ≤ length buffer
+  unfolding capsulesOf
+  capsules-few = cut-most (length buffer) (bytesFor (capsuleBits k)) buffer
+
   -- how many capsules there are, and which
   module _ (h : 0 < bytesFor (capsuleBits k)) where
     pub capsules-number : length (capsulesOf k buffer) ≡ (length buffer + (bytesFor (capsuleBits k) - 1)) / bytesFor (capsuleBits k)
     unfolding capsulesOf
     capsules-number = cut-number (bytesFor (capsuleBits k)) buffer h
+
+    pub capsules-counted : {c r : ℕ} → c ≡ bytesFor (capsuleBits k) → r ≡ (length buffer + (c - 1)) / c → r ≡ length (capsulesOf k buffer)
+    capsules-counted e q = q ∙ ap (λ (c : ℕ). (length buffer + (c - 1)) / c) e ∙ sym capsules-number
 
     module _ (i : ℕ) (b : i < length (capsulesOf k buffer)) where
       pub capsule-within : i * bytesFor (capsuleBits k) < length buffer

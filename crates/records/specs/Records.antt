@@ -51,14 +51,14 @@ unfoldable pub total : List ℕ → ℕ
 total [] = 0
 total (x ∷ l) = x + total l
 
--- 25, 24, 31
-unfoldable pub reportConditions : Bool → Bool → Key → List ℕ → List ℕ → List (Bool × ℕ)
-reportConditions bad unpublished k buffer records =
-    (bad, 25) ∷ (unpublished, 24) ∷ (ltb (length records) (length (capsulesOf k buffer)), 31) ∷ []
+-- 25, 24, 31 for a record buffer of len bytes
+unfoldable pub reportConditions : Bool → Bool → Key → List ℕ → ℕ → List (Bool × ℕ)
+reportConditions bad unpublished k buffer len =
+    (bad, 25) ∷ (unpublished, 24) ∷ (ltb len (length (capsulesOf k buffer)), 31) ∷ []
 
 -- the number for a kept key
 unfoldable pub reportNumber : Bool → Key → List ℕ → List ℕ → ℕ
-reportNumber unpublished k buffer records = firstOf (reportConditions (unsound k) unpublished k buffer records)
+reportNumber unpublished k buffer records = firstOf (reportConditions (unsound k) unpublished k buffer (length records))
 
 -- the records from the record buffer's start, where nothing is refused
 unfoldable pub reportOutput : Bool → Key → List ℕ → List ℕ → List ℕ

@@ -1,7 +1,7 @@
--- The numbers of report, by the tests of the code; the number of capsules. Assumes nothing.
-use mathlib.Core.Path.{_≡_, refl, sym, ap, _∙_}
-use mathlib.Core.Bool.{Bool, true, false}
-use mathlib.Core.List.{List}
+-- The numbers of report, by the tests of the code; quotients rounded up. Assumes nothing.
+use mathlib.Core.Path.{_≡_, sym}
+use mathlib.Core.Bool.{Bool}
+use mathlib.Core.List.{List, [], _∷_}
 use Prim.Native.Nat.{ℕ, _+_, _-_, _*_, _/_, _%_, _≤_, _<_}
 use native.Mathlib.Nat.{le-refl, mod-lt, div-add-mod', div-le-self, div-eq-of-lt-le, le-mul-of-pos-right}
 use native.Mathlib.Decide.{decLe}
@@ -9,45 +9,40 @@ use native.Mathlib.Omega.{arith}
 use borrow.Author.Tests.{lt-ltb, le-ltb, ltb-false}
 use lib.Dec.{ltb}
 use lib.ListN.{length}
-use Rattle.bits.specs.Bits.{bytesFor}
 use Rattle.bits.proofs.Parts.{next-row}
 use Rattle.field.specs.Numbers.{firstOf}
 use Rattle.field.proofs.Numbers.{first-clear}
 use Rattle.key.specs.Keys.{Key, keyNumber, unsound}
-use Rattle.code.specs.Publish.{capsuleBits}
-use Rattle.reading.proofs.Refusals.{unsound-some, unsound-none, sound-key}
-use Rattle.records.specs.Records.{capsulesOf}
-use Rattle.records.proofs.Values.{bytes-some, capsules-number}
-use Rattle.reporting.specs.Answers.{reportChecks}
+use Rattle.reading.specs.Answers.{keyChecks}
+use Rattle.reading.proofs.Refusals.{key-refused, key-passed, key-first}
+use Rattle.records.specs.Records.{capsulesOf, reportConditions}
 
--- 25, 24, 31
+-- 31 behind 25 and 24
 module _ (unpublished : Bool) (k : Key) (capsules : List ℕ) (len : ℕ) where
-  pub report-unsound : (keyNumber k ≡ 0 → ⊥) → 25 ≡ firstOf (reportChecks unpublished k capsules len)
-  unfolding reportChecks firstOf
-  report-unsound h = rw (unsound-some k h)
+  pub report-refused : (firstOf (keyChecks unpublished k) ≡ 0 → ⊥) → firstOf (keyChecks unpublished k) ≡ firstOf (reportConditions (unsound k) unpublished k capsules len)
+  unfolding reportConditions keyChecks
+  report-refused h = key-refused unpublished k ((ltb len (length (capsulesOf k capsules)), 31) ∷ []) h
 
-  module _ (z : keyNumber k ≡ 0) where
-    pub report-unpublished : unpublished ≡ true → 24 ≡ firstOf (reportChecks unpublished k capsules len)
-    unfolding reportChecks firstOf
-    report-unpublished p = rw (unsound-none k z, p)
+  passed : firstOf (keyChecks unpublished k) ≡ 0
+      → firstOf ((ltb len (length (capsulesOf k capsules)), 31) ∷ []) ≡ firstOf (reportConditions (unsound k) unpublished k capsules len)
+  unfolding reportConditions keyChecks
+  passed z = key-passed unpublished k ((ltb len (length (capsulesOf k capsules)), 31) ∷ []) z
 
-    module _ (p : unpublished ≡ false) where
-      pub report-short : len < length (capsulesOf k capsules) → 31 ≡ firstOf (reportChecks unpublished k capsules len)
-      unfolding reportChecks firstOf
-      report-short h = rw (unsound-none k z, p, lt-ltb _ _ h)
+  module _ (z : firstOf (keyChecks unpublished k) ≡ 0) where
+    pub report-short : len < length (capsulesOf k capsules) → 31 ≡ firstOf (reportConditions (unsound k) unpublished k capsules len)
+    unfolding firstOf
+    report-short h = rw (← passed z, lt-ltb _ _ h)
 
-      pub report-room : length (capsulesOf k capsules) ≤ len → 0 ≡ firstOf (reportChecks unpublished k capsules len)
-      unfolding reportChecks firstOf
-      report-room h = rw (unsound-none k z, p, le-ltb _ _ h)
+    pub report-room : length (capsulesOf k capsules) ≤ len → 0 ≡ firstOf (reportConditions (unsound k) unpublished k capsules len)
+    unfolding firstOf
+    report-room h = rw (← passed z, le-ltb _ _ h)
 
   -- where none holds
-  pub report-clear : firstOf (reportChecks unpublished k capsules len) ≡ 0 → (keyNumber k ≡ 0) × (length (capsulesOf k capsules) ≤ len)
-  unfolding reportChecks
+  pub report-clear : firstOf (reportConditions (unsound k) unpublished k capsules len) ≡ 0 → (keyNumber k ≡ 0) × (length (capsulesOf k capsules) ≤ len)
+  unfolding reportConditions keyChecks
   report-clear e =
-      let c25 = first-clear (unsound k) 24 _ e in
-      let c24 = first-clear unpublished 23 _ (c25 .1) in
-      let c31 = first-clear (ltb len (length (capsulesOf k capsules))) 30 _ (c24 .1) in
-      (sound-key k (c25 .0), ltb-false _ _ (c31 .0))
+      let c = key-first unpublished k ((ltb len (length (capsulesOf k capsules)), 31) ∷ []) e in
+      (c .0, ltb-false _ _ (first-clear (ltb len (length (capsulesOf k capsules))) 30 [] (c .1) .0))
 
 -- a quotient rounded up
 rounded : (n c q r : ℕ) → 0 < c → r ≤ c → q * c + r ≡ n + c → 0 < r → q ≡ (n + (c - 1)) / c
@@ -69,9 +64,3 @@ module _ (n c : ℕ) (h : 0 < c) where
         go : Dec (n / c + 1 ≤ n) → n / c < n
         go (yes b) = omega arith
         go (no b) = absurd (e (omega (arith, div-add-mod' n c, div-le-self n c, le-mul-of-pos-right (n / c) h)))
-
--- the number of capsules of c bytes
-pub count-capsules : (k : Key) (capsules : List ℕ) {c r : ℕ} → 0 < capsuleBits k → c ≡ bytesFor (capsuleBits k) → r ≡ (length capsules + (c - 1)) / c
-    → r ≡ length (capsulesOf k capsules)
-count-capsules k capsules h e q =
-    q ∙ ap (λ (c : ℕ). (length capsules + (c - 1)) / c) e ∙ sym (capsules-number k capsules (bytes-some {bits = capsuleBits k} refl h))

@@ -1,7 +1,9 @@
 // The import report on a kept key, lent by its parts (request L1).
 use field::Verdict;
-use key::checks::check;
 use key::kept::Key;
+use reading::capsule_bits;
+use reading::capsule_bytes;
+use reading::check_published;
 use reading::check_row;
 use reading::open_checked;
 ghost use mathlib.Core.Path.{_≡_};
@@ -11,9 +13,10 @@ ghost use lib.ListN.{length, take, drop};
 ghost use Rattle.bits.specs.Bits.{bytesFor, over};
 ghost use Rattle.field.specs.Numbers.{firstOf};
 ghost use Rattle.field.specs.Verdicts.{verdictOf};
+ghost use Rattle.key.specs.Keys.{unsound};
 ghost use Rattle.key.specs.Kept.{kept, parts};
-ghost use Rattle.records.specs.Records.{capsulesOf, countsOf, reportOutput};
-ghost use Rattle.reporting.specs.Answers.{countedOf, reportChecks, recordFound, recordsFound};
+ghost use Rattle.records.specs.Records.{capsulesOf, countsOf, reportConditions, reportOutput};
+ghost use Rattle.reporting.specs.Answers.{reportAnswer, recordFound, recordsFound};
 
 // The number of a refusal, or 0, and how often each byte value stands in the records; zeros on refusal.
 pub struct Counted {
@@ -21,25 +24,13 @@ pub struct Counted {
     pub counts: [usize; 256],
 }
 
-// The bits of a capsule.
-fn capsule_bits(m: u8, t: u16) -> usize
-    ensures { λ r. ⌜ r ≡ m * t ⌝ }
-{
-    (m as usize) * (t as usize)
-}
-
-// Its bytes.
-fn capsule_bytes(m: u8, t: u16) -> usize
-    ensures { λ r. ⌜ r ≡ bytesFor (m * t) ⌝ }
-{
-    bits::bytes_for(capsule_bits(m, t))
-}
-
-// The number of capsules of c bytes in len bytes, a short tail included.
-fn capsule_count(len: usize, c: usize) -> usize
-    requires { ⌜ 0 < c ⌝ }
+// The number of capsules of c bytes in len bytes, a short tail included; 0 where c is 0.
+pub fn capsule_count(len: usize, c: usize) -> usize
     ensures { λ r. ⌜ r ≡ (len + (c - 1)) / c ⌝ }
 {
+    if c == 0 {
+        return 0;
+    }
     if len % c == 0 {
         return len / c;
     }
@@ -57,22 +48,20 @@ fn check_report<'a>(
     capsules: &[u8],
     len: usize,
 ) -> Verdict
-    ensures { λ r. ⌜ r ≡ verdictOf (firstOf (reportChecks (not published) (kept (parts m n t (now (support .entry)) (now (g .entry)))) (now (capsules .entry)) len)) ⌝ }
+    ensures { λ r. ⌜ r ≡ verdictOf (firstOf (reportConditions (unsound (kept (parts m n t (now (support .entry)) (now (g .entry))))) (not published) (kept (parts m n t (now (support .entry)) (now (g .entry)))) (now (capsules .entry)) len)) ⌝ }
 {
-    let Verdict::Accepted = check(m, n, t, support, g) else {
-        return Verdict::Refused(25);
+    let x = check_published(m, n, t, support, g, published);
+    let Verdict::Accepted = x else {
+        return x;
     };
-    if !published {
-        return Verdict::Refused(24);
-    }
     if len < capsule_count(capsules.len(), capsule_bytes(m, t)) {
         return Verdict::Refused(31);
     }
-    Verdict::Accepted
+    x
 }
 
 // The record of a capsule: 8, 9 or 13, and 0 where it is opened. At a key that load accepts it is open's number (`record-found`).
-fn record_of<'a>(
+fn record_found<'a>(
     m: u8,
     n: u16,
     t: u16,
@@ -108,7 +97,7 @@ fn record_at<'a>(
     ensures { λ r. ⌜ r ≡ recordFound (kept (parts m n t (now (support .entry)) (now (g .entry)))) (take c (drop i (now (capsules .entry)))) ⌝ }
 {
     let e = i + bits::smaller(c, capsules.len() - i);
-    record_of(m, n, t, support, g, &capsules[i..e])
+    record_found(m, n, t, support, g, &capsules[i..e])
 }
 
 // The records of the capsules from the buffer's start on, and how many they are.
@@ -162,7 +151,7 @@ pub fn report<'a>(
     capsules: &[u8],
     records: &mut [u8],
 ) -> Counted
-    ensures answer { λ r. ⌜ r ≡ countedOf (not published) (kept (parts m n t (now (support .entry)) (now (g .entry)))) (now (capsules .entry)) (now (records .entry)) ⌝ }
+    ensures answer { λ r. ⌜ r ≡ reportAnswer (not published) (kept (parts m n t (now (support .entry)) (now (g .entry)))) (now (capsules .entry)) (now (records .entry)) ⌝ }
     ensures output { λ _. ⌜ now (records .exit) ≡ reportOutput (not published) (kept (parts m n t (now (support .entry)) (now (g .entry)))) (now (capsules .entry)) (now (records .entry)) ⌝ }
 {
     let x = check_report(m, n, t, support, g, published, capsules, records.len());

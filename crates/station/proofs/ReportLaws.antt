@@ -1,9 +1,8 @@
 -- What the report hands back, from the lower call's answer. Assumes nothing.
 use Prim.Native.Nat.{ℕ}
-use mathlib.Core.Path.{_≡_, refl, sym, ap, ap₂, _∙_}
-use mathlib.Core.Bool.{Bool, true, false, not, cond}
+use mathlib.Core.Path.{_≡_, sym, ap, _∙_}
+use mathlib.Core.Bool.{Bool, true, false, not}
 use mathlib.Core.List.{List}
-use Rattle.field.specs.Numbers.{firstOf}
 use Rattle.key.specs.Kept.{kept}
 use Rattle.records.specs.Records.{reportNumber, reportOutput, reportCounts}
 use Rattle.ledger.specs.Station.{isEmpty, isUnpublished, heldBy}

@@ -1,39 +1,26 @@
 -- The length divided by a capsule's bytes, rounded up. Assumes nothing.
-use native.Mathlib.Omega.{arith}
+use mathlib.Core.Path.{refl}
 use borrow.Author.Needs.{needs}
-use Rattle.records.proofs.Values.{bytes-some}
+use Rattle.code.specs.Publish.{capsuleBits}
+use Rattle.records.proofs.Values.{bytes-some, capsules-counted}
 use Rattle.station.specs.Replies.{view}
 use Rattle.opener.proofs.Shape.{four}
-use Rattle.opener.proofs.Capsules.{capsule-few, capsule-bits}
-use Rattle.opener.proofs.Total.{capsules-counted}
+use Rattle.opener.proofs.Capsules.{capsule-bits}
 use Rattle.opener.proofs.capsule_count.Statement.{statement}
 use Rattle.opener.proofs.capsule_count.Tie as tie
 
 capsule-bytes-requires : tie.Need-capsule-bytes-requires
 capsule-bytes-requires c κs = search needs
 
-sub-result : tie.Need-sub-result
-sub-result c =
-    let s = c .before .before in
-    omega (arith, bytes-some (c .capsule-bytes .ensures) (capsule-bits (four _ (s .pre .0)) .0))
-
-add-result : tie.Need-add-result
-add-result c =
-    let s = c .before .before in
-    omega (arith, s .pre .1, capsule-few (c .capsule-bytes .ensures) (capsule-bits (four _ (s .pre .0)) .1))
-
-div-result : tie.Need-div-result
-div-result c =
-    let s = c .before .before in
-    omega (arith, bytes-some (c .capsule-bytes .ensures) (capsule-bits (four _ (s .pre .0)) .0))
+capsule-count-requires : tie.Need-capsule-count-requires
+capsule-count-requires c κs = search needs
 
 returns : tie.Need-returns
 returns c =
-    let s = c .before .before in
-    let v = view (s .args .station) in
-    let h = bytes-some (c .capsule-bytes .ensures) (capsule-bits (four _ (s .pre .0)) .0) in
-    capsules-counted (v .key) (s .args .input .now) (c .capsule-bytes .ensures) h
+    let b = c .before in
+    let s = b .before .before in
+    let k = view (s .args .station) .key in
+    capsules-counted k (s .args .input .now) (bytes-some {bits = capsuleBits k} refl (capsule-bits (four _ (s .pre .0)) .0)) (b .capsule-bytes .ensures) (c .capsule-count .ensures)
 
 pub capsule-count-spec : {M : Type 1} → statement M
-capsule-count-spec =
-    tie.close (tie.spec capsule-bytes-requires sub-result add-result div-result returns)
+capsule-count-spec = tie.close (tie.spec capsule-bytes-requires capsule-count-requires returns)

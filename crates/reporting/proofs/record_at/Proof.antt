@@ -16,23 +16,23 @@ smaller-requires c κs = search needs
 add-e : tie.Need-add-e
 add-e c = search needs
 
-sub-record-of : tie.Need-sub-record-of
-sub-record-of c = search needs
+sub-record-found : tie.Need-sub-record-found
+sub-record-found c = search needs
 
-part-record-of-start : tie.Need-part-record-of-start
-part-record-of-start c = search needs
+part-record-found-start : tie.Need-part-record-found-start
+part-record-found-start c = search needs
 
-part-record-of-end : tie.Need-part-record-of-end
-part-record-of-end c = search needs
+part-record-found-end : tie.Need-part-record-found-end
+part-record-found-end c = search needs
 
-record-of-requires : tie.Need-record-of-requires
-record-of-requires c κs = search needs
+record-found-requires : tie.Need-record-found-requires
+record-found-requires c κs = search needs
 
 returns : tie.Need-returns
 returns c =
     let a = c .before .before .before .before .args in
     let k = parts (a .m) (a .n) (a .t) (a .support .now) (a .g .now) in
-    c .record-of .ensures ∙ ap (recordFound (kept k)) (take-within (a .c) (a .i) (a .capsules .now) (c .before .before .smaller .ensures))
+    c .record-found .ensures ∙ ap (recordFound (kept k)) (take-within (a .c) (a .i) (a .capsules .now) (c .before .before .smaller .ensures))
 
 pub record-at-spec : {M : Type 1} → statement M
 record-at-spec =
@@ -41,8 +41,8 @@ record-at-spec =
     sub-smaller
     smaller-requires
     add-e
-    sub-record-of
-    part-record-of-start
-    part-record-of-end
-    record-of-requires
+    sub-record-found
+    part-record-found-start
+    part-record-found-end
+    record-found-requires
     returns)

@@ -8,9 +8,10 @@ use lib.Seq.{length-take-le}
 use Rattle.field.proofs.Verdicts.{verdict-accepted, verdict-taken}
 use Rattle.key.specs.Kept.{kept, parts}
 use Rattle.code.specs.Publish.{capsuleBits}
+use Rattle.records.specs.Records.{reportNumber}
 use Rattle.records.proofs.Values.{bits-some}
 use Rattle.reporting.proofs.Checks.{report-clear}
-use Rattle.reporting.proofs.Reported.{report-refused, report-written}
+use Rattle.reporting.proofs.Reported.{answer-refused, answer-written}
 use Rattle.reporting.proofs.report.Statement.{statement}
 use Rattle.reporting.proofs.report.Tie as tie
 
@@ -27,11 +28,12 @@ number-requires : tie.Need-number-requires
 number-requires c κs = tt
 
 returns : tie.Need-returns
+unfolding reportNumber
 returns c =
     let a = c .before .before .before .before .before .before .args in
     let t = verdict-taken _ (c .before .before .before .check-report .ensures) (c .before .enum-told2 .given .1) (c .number .ensures) in
     let k = parts (a .m) (a .n) (a .t) (a .support .now) (a .g .now) in
-    report-refused (not (a .published)) (kept k) (a .capsules .now) (a .records .now) (t .0) (t .1)
+    answer-refused (not (a .published)) (kept k) (a .capsules .now) (a .records .now) (t .0) (t .1)
 
 write-records-requires : tie.Need-write-records-requires
 unfolding kept capsuleBits
@@ -71,13 +73,14 @@ same-length : tie.Need-same-length
 same-length c = search needs
 
 returns-2 : tie.Need-returns-2
+unfolding reportNumber
 returns-2 c =
     let w = c .before .before .before .before in
     let t = w .before .before in
     let a = t .before .before .before .before .before .args in
     let k = parts (a .m) (a .n) (a .t) (a .support .now) (a .g .now) in
     let clear = verdict-accepted _ (t .before .before .check-report .ensures) (t .enum-told .given .1) in
-    report-written (not (a .published)) k (a .capsules .now) (a .records .now) clear (w .write-records .ensures .0) (w .write-records .ensures .1) (c .count .ensures)
+    answer-written (not (a .published)) k (a .capsules .now) (a .records .now) clear (w .write-records .ensures .0) (w .write-records .ensures .1) (c .count .ensures)
 
 pub report-spec : {M : Type 1} → statement M
 report-spec =

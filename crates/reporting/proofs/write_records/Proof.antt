@@ -10,9 +10,8 @@ use Rattle.bits.proofs.Padded.{over-start}
 use Rattle.key.specs.Kept.{kept, parts}
 use Rattle.code.specs.Publish.{capsuleBits}
 use Rattle.records.specs.Records.{capsulesOf}
-use Rattle.records.proofs.Values.{bytes-some}
+use Rattle.records.proofs.Values.{bytes-some, capsules-counted}
 use Rattle.reporting.specs.Answers.{recordsFound}
-use Rattle.reporting.proofs.Checks.{count-capsules}
 use Rattle.reporting.proofs.Written.{start-within, written-next, written-all}
 use Rattle.reporting.proofs.write_records.Statement.{statement}
 use Rattle.reporting.proofs.write_records.Tie as tie
@@ -29,7 +28,7 @@ capsule-bytes-requires : tie.Need-capsule-bytes-requires Inv-loop μ-loop
 capsule-bytes-requires c κs = tt
 
 capsule-count-requires : tie.Need-capsule-count-requires Inv-loop μ-loop
-capsule-count-requires c κs = bytes-some (c .capsule-bytes .ensures) (c .before .before .before .pre .0)
+capsule-count-requires c κs = tt
 
 loop-holds : tie.Need-loop-holds Inv-loop μ-loop
 unfolding kept capsuleBits
@@ -38,7 +37,7 @@ loop-holds c =
     let s = b .before .before .before in
     let a = s .args in
     let k = kept (parts (a .m) (a .n) (a .t) (a .support .now) (a .g .now)) in (
-      count-capsules k (a .capsules .now) (s .pre .0) (b .capsule-bytes .ensures) (c .capsule-count .ensures),
+      capsules-counted k (a .capsules .now) (bytes-some {bits = capsuleBits k} refl (s .pre .0)) (b .capsule-bytes .ensures) (c .capsule-count .ensures),
       omega arith,
       refl,
       over-start (recordsFound k (a .capsules .now)) (a .records .now),

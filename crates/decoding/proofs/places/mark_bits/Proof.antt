@@ -6,9 +6,9 @@ use native.Mathlib.Omega.{arith}
 use borrow.Author.Needs.{needs}
 use lib.ListN.{length, drop, length-map}
 use Rattle.bits.specs.Bits.{setBit, putBits}
+use Rattle.bits.proofs.Lists.{map-at}
 use Rattle.bits.proofs.PutBits.{put-next, put-end, length-putBits}
 use Rattle.decoding.specs.Parts.{mark}
-use Rattle.decoding.proofs.Packed.{map-at}
 use Rattle.decoding.proofs.places.mark_bits.Statement.{statement}
 use Rattle.decoding.proofs.places.mark_bits.Tie as tie
 
@@ -49,7 +49,7 @@ loop-again c =
       omega arith,
       ap (putBits (drop (l .i + 1) bits) (l .i + 1))
           (c .before .before .set-bit .ensures
-          ∙ ap (setBit (l .out) (l .i)) (c .before .before .before .mark .ensures ∙ sym (map-at mark (a .values .now) (l .i) (omega arith))))
+          ∙ ap (setBit (l .out) (l .i)) (c .before .before .before .mark .ensures ∙ sym (map-at mark (a .values .now) (l .i) 0 0 (omega arith))))
           ∙ put-next bits (l .i) (l .out) (omega arith)
           ∙ l .inv .1,
     )

@@ -1,7 +1,7 @@
 -- The state, then the lower call. Assumes nothing.
 use mathlib.Core.Path.{refl, sym, ap, _∙_}
 use borrow.Author.Needs.{needs}
-use Rattle.reporting.specs.Answers.{countedOf}
+use Rattle.reporting.specs.Answers.{reportAnswer}
 use Rattle.reporting.specs.declared.Counted.{Counted}
 use Rattle.ledger.specs.Questions.{answerSize}
 use Rattle.ledger.specs.Calls.{noAnswer}
@@ -28,7 +28,7 @@ same-length : tie.Need-same-length
 same-length c = search needs
 
 returns-2 : tie.Need-returns-2
-unfolding countedOf
+unfolding reportAnswer
 returns-2 c =
     let p = c .before .before .before in
     let b = p .before .before .before .before .before in

@@ -1,8 +1,8 @@
 -- The bits' bytes. Assumes nothing.
 use mathlib.Core.Path.{ap, _∙_}
 use Rattle.bits.specs.Bits.{bytesFor}
-use Rattle.reporting.proofs.capsule_bytes.Statement.{statement}
-use Rattle.reporting.proofs.capsule_bytes.Tie as tie
+use Rattle.reading.proofs.calls.capsule_bytes.Statement.{statement}
+use Rattle.reading.proofs.calls.capsule_bytes.Tie as tie
 
 capsule-bits-requires : tie.Need-capsule-bits-requires
 capsule-bits-requires c κs = tt

@@ -3,8 +3,8 @@ use Prim.Native.Nat.{_≤_}
 use native.Mathlib.Nat.{mul-le-mul}
 use native.Mathlib.Omega.{arith}
 use borrow.Author.Needs.{needs}
-use Rattle.reporting.proofs.capsule_bits.Statement.{statement}
-use Rattle.reporting.proofs.capsule_bits.Tie as tie
+use Rattle.reading.proofs.calls.capsule_bits.Statement.{statement}
+use Rattle.reading.proofs.calls.capsule_bits.Tie as tie
 
 mul-result : tie.Need-mul-result
 mul-result c =

@@ -3,8 +3,8 @@ use native.Mathlib.Omega.{arith}
 use borrow.Author.Tests.{not-true, not-false}
 use Rattle.key.specs.Kept.{kept, parts}
 use Rattle.reporting.proofs.Found.{record-row, record-none, record-some, row-number}
-use Rattle.reporting.proofs.record_of.Statement.{statement}
-use Rattle.reporting.proofs.record_of.Tie as tie
+use Rattle.reporting.proofs.record_found.Statement.{statement}
+use Rattle.reporting.proofs.record_found.Tie as tie
 
 capsule-bits-requires : tie.Need-capsule-bits-requires
 capsule-bits-requires c κs = tt
@@ -51,8 +51,8 @@ returns-3 c =
     let e = row-number k (a .capsule .now) (b .capsule-bits .ensures) (r .check-row .ensures) (n .number .ensures) in
     record-some (kept k) (a .capsule .now) (omega (arith, e, f .before .if1 .left)) _ (f .open-checked .ensures) (not-false _ (c .if2 .left))
 
-pub record-of-spec : {M : Type 1} → statement M
-record-of-spec =
+pub record-found-spec : {M : Type 1} → statement M
+record-found-spec =
     tie.close
     (tie.spec
     capsule-bits-requires
