@@ -1,5 +1,5 @@
 // Opens capsules (document 01, 'Bench keys'): reads key.bin of the working folder and publishes; then, if the key is accepted,
-// reads capsules from standard input and writes a line for each.
+// reads capsules from standard input and writes a line for each, and the total.
 use libc::STDIN_FILENO;
 use libc::STDOUT_FILENO;
 use opener::KeyAnswer;
