@@ -2,7 +2,7 @@
 // A line is `key FILE`; `public T`, or `public -` where publish refuses; or a case of the key before it: `publish ok`,
 // `read WORD ok PATTERN ONES`, `open CAPSULE ok PATTERN` as if published, `lock PATTERN ok CAPSULE`, or one of the
 // four with `refused NUMBER` from `ok` on. Bytes are in hexadecimal, and `-` is none. A capsule of `open`
-// that has the right length is also reported on.
+// that is one or a short tail is also reported on.
 use key::kept::Key;
 use libc::STDOUT_FILENO;
 use reading::Answer;
@@ -122,7 +122,7 @@ fn opens(key: Key, line: &[u8]) -> bool {
     r.refused as u16 == refused(line, 2) && r.ones == ones && holds(&out, output(line, 2))
 }
 
-// A report on the capsule has open's number for its only record, and counts it.
+// A report on the capsule, or on a short tail, has open's number for its only record, and counts it.
 fn reports(key: Key, line: &[u8]) -> bool {
     let mut records = [FILLER; 64];
     let b = bytes_of(line, 1);
@@ -168,12 +168,13 @@ fn counted(mut s: State, kind: usize, agrees: bool) -> State {
     s
 }
 
-// The state after a report on a capsule of the right length.
+// The state after a report on one capsule, or on a short tail.
 fn reported(s: State, line: &[u8]) -> State {
-    if refused(line, 2) == 8 {
+    let key = s.key;
+    let b = bytes_of(line, 1);
+    if reporting::capsule_count(b.count, reading::capsule_bytes(key.m, key.t)) != 1 {
         return s;
     }
-    let key = s.key;
     counted(s, REPORT, reports(key, line))
 }
 
