@@ -3,14 +3,14 @@
 use std::ffi::OsStr;
 use std::iter;
 
-use shearcotter::{Report, Shape, Station};
+use shearcotter::{Counts, Report, Shape, Station};
 
 use crate::arguments::Given;
 use crate::commands::RECORDS;
 use crate::explain::{self, Row};
 use crate::failure::{self, Failure};
 use crate::files::{Output, STANDARD};
-use crate::rows::{self, Counts, Rows};
+use crate::rows::{self, Rows};
 use crate::status::Status;
 use crate::table::QUIET;
 use crate::{help, keys, opening};
@@ -56,5 +56,5 @@ fn table(counts: &Counts) -> String {
     let width = |column: usize| rows.iter().map(|row| row[column].len()).max().unwrap_or(0);
     let (first, second, third) = (width(0), width(1), width(2));
     let line = |[number, words, count]: &[String; 3]| format!("{number:<first$}  {words:<second$}  {count:>third$}\n");
-    rows.iter().map(line).chain(iter::once(counts.in_words(KIND.accepted()) + "\n")).collect()
+    rows.iter().map(line).chain(iter::once(format!("{counts}\n"))).collect()
 }

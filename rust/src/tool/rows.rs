@@ -15,7 +15,7 @@ use std::sync::Mutex;
 use std::thread::{self, Builder, Scope};
 use std::time::{Duration, Instant};
 
-use shearcotter::raw;
+use shearcotter::{raw, Counts};
 
 use crate::failure::Failure;
 use crate::files::{self, Input, Output, STANDARD};
@@ -65,39 +65,6 @@ pub struct Answer {
     pub notes: String,
     /// 0, or the refusal's number.
     pub number: u8,
-}
-
-/// How many rows were answered with each number.
-pub struct Counts([u64; 256]);
-
-impl Counts {
-    pub fn of(&self, number: u8) -> u64 {
-        self.0[usize::from(number)]
-    }
-
-    pub fn total(&self) -> u64 {
-        self.0.iter().sum()
-    }
-
-    pub fn refused(&self) -> u64 {
-        self.total() - self.of(0)
-    }
-
-    /// The numbers that occur, rising, with their counts.
-    pub fn occurring(&self) -> impl Iterator<Item = (u8, u64)> + '_ {
-        (0..=u8::MAX).map(|number| (number, self.of(number))).filter(|(_, count)| *count > 0)
-    }
-
-    /// The opening program's last line; `done` is what the accepted rows were.
-    pub fn in_words(&self, done: &str) -> String {
-        format!("total {} {done} {} refused {}", self.total(), self.of(0), self.refused())
-    }
-
-    fn add(&mut self, numbers: &[u8]) {
-        for number in numbers {
-            self.0[usize::from(*number)] += 1;
-        }
-    }
 }
 
 /// Writes the answer to each row, given its position from 1, in the rows' order; `jobs` of them at a time.
@@ -365,7 +332,7 @@ impl Writer<'_> {
         for _ in 0..batches {
             let _ = self.spare.send(Batch::default());
         }
-        let (mut counts, mut end, mut under_way) = (Counts([0; 256]), None, 0);
+        let (mut counts, mut end, mut under_way) = (Counts::default(), None, 0);
         while end.is_none() || under_way > 0 {
             match self.events.recv() {
                 Ok(Event::Read(batch)) => {
@@ -373,7 +340,7 @@ impl Writer<'_> {
                     let _ = self.work.send(batch);
                 }
                 Ok(Event::Answered(batch)) => {
-                    counts.add(&batch.numbers);
+                    counts.extend(batch.numbers.iter().copied());
                     self.answered.insert(batch.first, batch);
                     let written = self.write_ready();
                     under_way -= written.map_err(|error| Failure::output(self.streams.name.as_deref(), error))?;

@@ -109,7 +109,7 @@ fn lines_in_order_on_any_number_of_threads() {
         });
         let counts = counts.ok().expect("all is written");
         assert!(out == text, "{jobs} jobs");
-        let of = |number| expected.iter().filter(|answer| answer.number == number).count() as u64;
+        let of = |number| expected.iter().filter(|answer| answer.number == number).count();
         assert_eq!([0, 1, 2, 3].map(|number| counts.of(number)), [0, 1, 2, 3].map(of));
         assert_eq!((counts.total(), counts.refused()), (1667, of(1) + of(2)));
     }
@@ -201,8 +201,8 @@ fn records_of_blocks_in_order_on_any_number_of_threads() {
         let counts = counts.ok().expect("all is written");
         assert!(out == expected, "{jobs} jobs");
         assert_eq!(counts.total(), 16_667);
-        let of = |value: u8| (value, expected.iter().filter(|record| **record == value).count() as u64);
-        let occurring: Vec<(u8, u64)> = (0..=5).map(of).filter(|(_, count)| *count > 0).collect();
+        let of = |value: u8| (value, expected.iter().filter(|record| **record == value).count());
+        let occurring: Vec<(u8, usize)> = (0..=5).map(of).filter(|(_, count)| *count > 0).collect();
         assert_eq!(counts.occurring().collect::<Vec<_>>(), occurring);
         // Though each block takes longer than lines may, it has many rows.
         assert!(most.into_inner() > 100, "{jobs} jobs");
