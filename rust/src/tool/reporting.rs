@@ -25,8 +25,8 @@ pub fn report(given: &Given) -> Result<Status, Failure> {
     let mut out = given.file(RECORDS).map(Output::create).transpose()?;
     let records = move |capsules: &[u8]| records(&station, shape, capsules);
     let counts = rows::blocks(rows, opening::jobs(given), out.as_mut(), records)?;
-    out.map_or(Ok(()), Output::finish)?;
     say(given, file, &counts)?;
+    out.map_or(Ok(()), Output::finish)?;
     Ok(opening::status(&counts))
 }
 

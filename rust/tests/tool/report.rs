@@ -2,7 +2,9 @@
 
 use std::fs::OpenOptions;
 use std::io::{Read, Write};
+use std::os::fd::OwnedFd;
 use std::os::unix::fs::symlink;
+use std::os::unix::net::UnixStream;
 use std::process::{Output, Stdio};
 use std::time::Duration;
 use std::{fs, thread};
@@ -107,6 +109,23 @@ fn a_failure_leaves_the_records() {
     fails(&["report", &key, "--records", "/dev/null"], 2, "not a regular file");
     assert_eq!(fs::read(&records).expect("the records"), b"kept");
     assert_eq!(folder.names(), ["bad.key", "key.bin", "records"]);
+}
+
+#[test]
+fn a_table_that_cannot_be_printed_leaves_the_records() {
+    let (folder, key) = with_k1();
+    let (capsules, old) = (folder.write("capsules", &[0x03]), folder.write("records", b"kept"));
+    for records in [&old, &folder.at("new")] {
+        let words = ["report", &key, &capsules, "--records", records];
+        let full = run_to(OpenOptions::new().write(true).open("/dev/full").expect("the device"), &words);
+        assert_eq!(status(&full), 2);
+        assert!(text(&full.stderr).starts_with("shearcotter: standard output: "), "{}", text(&full.stderr));
+        let (far, _) = UnixStream::pair().expect("two sockets, one of which is closed");
+        let closed = run_to(OwnedFd::from(far), &words);
+        assert_eq!((status(&closed), text(&closed.stderr)), (2, ""));
+    }
+    assert_eq!(fs::read(&old).expect("the records"), b"kept");
+    assert_eq!(folder.names(), ["capsules", "key.bin", "records"]);
 }
 
 #[test]
