@@ -81,15 +81,19 @@ fn each_to(
     answer: impl Fn(u64, &[u8]) -> Answer + Sync,
 ) -> Result<Counts, Failure> {
     let length = rows.length;
-    batches(streams, rows, jobs, |batch| batch.answer(length, &answer))
+    batches(streams, rows, jobs, |batch| {
+        batch.answer(length, &answer);
+        Ok(())
+    })
 }
 
 /// Writes the records of the rows, a byte for each, in the rows' order; as many blocks of rows at a time as `jobs` says.
+/// A block that fails ends it.
 pub fn blocks(
     rows: Rows,
     jobs: usize,
     out: Option<&mut Output>,
-    records: impl Fn(&[u8]) -> Vec<u8> + Sync,
+    records: impl Fn(&[u8]) -> Result<Vec<u8>, Failure> + Sync,
 ) -> Result<Counts, Failure> {
     let (mut nothing, mut error) = (io::sink(), io::stderr());
     let streams = match out {
@@ -111,7 +115,12 @@ struct Streams<'a> {
     on_terminal: bool,
 }
 
-fn batches(streams: Streams, rows: Rows, jobs: usize, answer: impl Fn(&mut Batch) + Sync) -> Result<Counts, Failure> {
+fn batches(
+    streams: Streams,
+    rows: Rows,
+    jobs: usize,
+    answer: impl Fn(&mut Batch) -> Result<(), Failure> + Sync,
+) -> Result<Counts, Failure> {
     let (report, events) = mpsc::channel();
     let (spare, empty) = mpsc::channel();
     let (work, queue) = mpsc::channel();
@@ -170,9 +179,10 @@ impl Batch {
     }
 
     /// The records are the text, and the numbers.
-    fn record(&mut self, records: &impl Fn(&[u8]) -> Vec<u8>) {
-        self.numbers = records(&self.rows);
+    fn record(&mut self, records: &impl Fn(&[u8]) -> Result<Vec<u8>, Failure>) -> Result<(), Failure> {
+        self.numbers = records(&self.rows)?;
         self.text.extend_from_slice(&self.numbers);
+        Ok(())
     }
 
     fn clear(&mut self) {
@@ -189,6 +199,8 @@ enum Event {
     Read(Batch),
     /// Rows have been answered.
     Answered(Batch),
+    /// Rows could not be answered.
+    Failed(Failure),
     /// No more rows are read.
     End(io::Result<()>),
     /// A thread has panicked.
@@ -288,7 +300,7 @@ fn as_many_as_start(jobs: usize, start: impl Fn() -> io::Result<()>) -> io::Resu
     Ok(1 + (1..jobs).map_while(|_| start().ok()).count())
 }
 
-fn start_worker<'scope, F: Fn(&mut Batch) + Sync>(
+fn start_worker<'scope, F: Fn(&mut Batch) -> Result<(), Failure> + Sync>(
     scope: &'scope Scope<'scope, '_>,
     queue: &'scope Mutex<Receiver<Batch>>,
     answer: &'scope F,
@@ -297,9 +309,9 @@ fn start_worker<'scope, F: Fn(&mut Batch) + Sync>(
     let run = move || {
         while let Some(mut batch) = next_of(queue) {
             let started = Instant::now();
-            answer(&mut batch);
+            let answered = answer(&mut batch);
             batch.took = started.elapsed();
-            if !report.send(Event::Answered(batch)) {
+            if !report.send(answered.map_or_else(Event::Failed, |()| Event::Answered(batch))) {
                 return;
             }
         }
@@ -345,6 +357,7 @@ impl Writer<'_> {
                     let written = self.write_ready();
                     under_way -= written.map_err(|error| Failure::output(self.streams.name.as_deref(), error))?;
                 }
+                Ok(Event::Failed(failure)) => return Err(failure),
                 Ok(Event::End(result)) => end = Some(result),
                 Ok(Event::Lost) | Err(_) => panic::resume_unwind(Box::new("a thread has panicked")),
             }

@@ -195,8 +195,8 @@ fn records_of_blocks_in_order_on_any_number_of_threads() {
             batch.record(&|block: &[u8]| {
                 most.fetch_max(block.len(), Ordering::Relaxed);
                 thread::sleep(2 * SHORT);
-                block.chunks(3).map(record).collect()
-            });
+                Ok(block.chunks(3).map(record).collect())
+            })
         });
         let counts = counts.ok().expect("all is written");
         assert!(out == expected, "{jobs} jobs");
@@ -206,6 +206,22 @@ fn records_of_blocks_in_order_on_any_number_of_threads() {
         assert_eq!(counts.occurring().collect::<Vec<_>>(), occurring);
         // Though each block takes longer than lines may, it has many rows.
         assert!(most.into_inner() > 100, "{jobs} jobs");
+    }
+}
+
+#[test]
+fn a_block_that_fails_ends_it_though_the_reader_waits() {
+    for jobs in [1, 4] {
+        let result = ends(move || {
+            let mut out = vec![];
+            let streams = Streams { out: &mut out, name: None, error: &mut io::sink(), on_terminal: false };
+            let rows = rows(Pieces([vec![0; 100], vec![7]].concat()).chain(Silent), 1);
+            let refused = || Err(Failure::usage("made for this test"));
+            let records = |block: &[u8]| if block.contains(&7) { refused() } else { Ok(block.to_vec()) };
+            let result = batches(streams, rows, jobs, |batch| batch.record(&records));
+            (result.err().map(|failure| failure.to_string()), out.contains(&7))
+        });
+        assert_eq!(result, Ok((Some("made for this test; see shearcotter help".to_owned()), false)));
     }
 }
 
