@@ -70,7 +70,7 @@ mod tests {
         let file = [4, 6, 0, 1, 0, 9, 0, 13, 0, 15, 0, 14, 0, 11, 0, 1, 0, 0, 0];
         let (mut station, shape) = (Station::fresh(), Shape::new(4, 6, 1).expect("a shape"));
         let says = |station: &Station| {
-            let failure = records(station, shape, OsStr::new("card"), &[0x03, 0x00]).err().expect("a failure");
+            let failure = records(station, shape, OsStr::new("card"), &[0x03, 0x00]).expect_err("a failure");
             (failure.status(), failure.to_string())
         };
         assert_eq!(says(&station), (Status::Failed, "card: refused 21: no key".to_owned()));

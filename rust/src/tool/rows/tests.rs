@@ -240,7 +240,7 @@ fn a_failing_output_has_its_name() {
         let name = name.map(PathBuf::from);
         let streams = Streams { out: &mut Full, name, error: &mut io::sink(), on_terminal: false };
         let result = each_to(streams, rows(io::repeat(7), 1), 2, line);
-        let failure = result.err().expect("a failure").to_string();
+        let failure = result.expect_err("a failure").to_string();
         assert!(failure.starts_with(said), "{failure}");
     }
 }
@@ -252,7 +252,7 @@ fn a_failing_read_comes_behind_the_rows_before_it() {
         thread::sleep(SHORT);
         line(position, row)
     });
-    let failure = result.err().expect("a failure").to_string();
+    let failure = result.expect_err("a failure").to_string();
     assert!(failure.starts_with("input: "), "{failure}");
     let expected: String = (1..=17).map(|position| format!("{position} [7, 7]\n")).collect();
     assert_eq!(String::from_utf8(out), Ok(expected));
