@@ -1,5 +1,5 @@
-/* Whether wipe.h wipes: a key file is loaded, published, opened and reported with, and then this program's own memory is looked through for
- * eight elements of the support in a row. Without wiping they are found; with it they must not be. Linux. */
+/* Whether wipe.h wipes: a key file is loaded, published, opened and reported with, and then this program's own memory is looked
+ * through for eight elements of the support in a row. Without wiping they are found; with it they must not be. Linux. */
 #include <stdio.h>
 #include <stdlib.h>
 

@@ -57,7 +57,7 @@ enum shearcotter_stack_kib {
 
 /* The number of capsules in so many bytes, and so the bytes of their records: a short last one counts. */
 #define SHEARCOTTER_CAPSULES(m, t, bytes) \
-    ((size_t)(bytes) / SHEARCOTTER_CAPSULE_BYTES(m, t) + ((size_t)(bytes) % SHEARCOTTER_CAPSULE_BYTES(m, t) != 0))
+    (((size_t)(bytes) + SHEARCOTTER_CAPSULE_BYTES(m, t) - 1) / SHEARCOTTER_CAPSULE_BYTES(m, t))
 
 enum shearcotter_state {
     SHEARCOTTER_EMPTY = 0,

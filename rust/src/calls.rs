@@ -130,7 +130,7 @@ pub(crate) fn read(station: &raw::Station, word: &[u8], out: &mut [u8]) -> Resul
 
 /// The station that the call hands back is the caller's own.
 pub(crate) fn report(station: &raw::Station, capsules: &[u8], records: &mut [u8]) -> Result<Counts, Refusal> {
-    let mut counts = Counts::zeros();
+    let mut counts = Counts::default();
     secretly::<{ raw::STACK_REPORT + COPIES }, _>(|| {
         let reported = unsafe {
             raw::shearcotter_report(*station, capsules.as_ptr(), capsules.len(), records.as_mut_ptr(), records.len())

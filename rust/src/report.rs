@@ -6,15 +6,20 @@ use crate::{raw, Refusal};
 
 /// How many records have each number: 0 for opened, else the number of a capsule's refusal.
 ///
-/// Its text is that of the opening program's last line, as `total 3 opened 1 refused 2`.
+/// Its text is that of the opening program's last line, as `total 3 opened 1 refused 2`. Records of several reports are
+/// counted together by `extend`:
+///
+/// ```
+/// use shearcotter::Counts;
+///
+/// let mut counts: Counts = [0, 13, 9].into_iter().collect();
+/// counts.extend([0, 8]);
+/// assert_eq!(counts.to_string(), "total 5 opened 2 refused 3");
+/// ```
 #[derive(Clone, PartialEq, Eq, Debug)]
 pub struct Counts(Box<[usize; raw::BYTE_VALUES]>);
 
 impl Counts {
-    pub(crate) fn zeros() -> Counts {
-        Counts(Box::new([0; raw::BYTE_VALUES]))
-    }
-
     pub(crate) fn as_mut(&mut self) -> &mut [usize; raw::BYTE_VALUES] {
         &mut self.0
     }
@@ -42,6 +47,31 @@ impl Counts {
     /// The numbers that occur, rising, with their counts.
     pub fn occurring(&self) -> impl Iterator<Item = (u8, usize)> + '_ {
         (0..=u8::MAX).map(|number| (number, self.of(number))).filter(|(_, count)| *count > 0)
+    }
+}
+
+/// The counts of no records.
+impl Default for Counts {
+    fn default() -> Counts {
+        Counts(Box::new([0; raw::BYTE_VALUES]))
+    }
+}
+
+/// Counts further records.
+impl Extend<u8> for Counts {
+    fn extend<I: IntoIterator<Item = u8>>(&mut self, records: I) {
+        for record in records {
+            self.0[usize::from(record)] += 1;
+        }
+    }
+}
+
+/// The counts of records.
+impl FromIterator<u8> for Counts {
+    fn from_iter<I: IntoIterator<Item = u8>>(records: I) -> Counts {
+        let mut counts = Counts::default();
+        counts.extend(records);
+        counts
     }
 }
 

@@ -4,7 +4,7 @@ use std::fmt::Debug;
 use std::marker::PhantomData;
 use std::mem::size_of;
 
-use shearcotter::{field, lock_into, raw, register, wipe, Pattern, Refusal, Shape, Station};
+use shearcotter::{field, lock_into, raw, register, wipe, Counts, Pattern, Refusal, Shape, Station};
 
 use crate::bench_keys::{K1, K3};
 
@@ -171,6 +171,28 @@ fn what_a_report_says() {
     let none = station.report(&[]).expect("a report on nothing");
     assert_eq!((none.records(), none.counts().to_string().as_str()), (&[][..], "total 0 opened 0 refused 0"));
     assert_eq!(none.counts().occurring().count(), 0);
+    assert_eq!(*none.counts(), Counts::default());
+}
+
+/// Records counted in parts, or by the calls, or all at once.
+#[test]
+fn counts_of_records() {
+    let mut station = Station::fresh();
+    station.load(&K1).expect("load accepts");
+    station.publish().expect("publish accepts");
+    let capsules: Vec<u8> = (0..=u8::MAX).collect();
+    let report = station.report(&capsules).expect("a report");
+    assert_eq!(report.records().iter().copied().collect::<Counts>(), *report.counts());
+    for length in [1, 100, 256] {
+        let mut counts = Counts::default();
+        for block in capsules.chunks(length) {
+            counts.extend(station.report(block).expect("a report").into_records());
+        }
+        assert_eq!(counts, *report.counts(), "blocks of {length}");
+    }
+    let all: Counts = (0..=u8::MAX).chain([255; 2]).collect();
+    assert_eq!([0, 1, 254, 255].map(|number| all.of(number)), [1, 1, 1, 3]);
+    assert_eq!((all.total(), all.opened(), all.refused()), (258, 1, 257));
 }
 
 #[test]

@@ -8,7 +8,7 @@ use crate::compare::near_code_word;
 use crate::independent::calls;
 use crate::independent::held::Held;
 use crate::independent::random::Random;
-use crate::support::raw_calls;
+use crate::support::{only_written, raw_calls, UNTOUCHED};
 
 /// A station and what the calls so far should have made of it: its state, and its key where it has one.
 struct List<'a> {
@@ -44,11 +44,12 @@ impl<'a> List<'a> {
     }
 
     fn publish(&mut self) -> u8 {
-        let (mut out, mut work) = (vec![0; self.held.key.public_length()], vec![0; self.held.key.work_length()]);
+        let key = &self.held.key;
+        let (mut out, mut work) = (vec![UNTOUCHED; key.public_length()], vec![UNTOUCHED; key.work_length()]);
         let reply = raw_calls::publish(self.station, &mut out, &mut work);
         let expected = calls::publish(self.state, self.held, out.len(), work.len());
         assert_eq!(reply.refused, expected.number);
-        assert!(out.starts_with(&expected.written));
+        assert!(only_written(&out, &expected.written), "{out:02x?} is not {expected:02x?}");
         if reply.refused == 0 {
             self.state = 2;
         }
@@ -61,7 +62,7 @@ impl<'a> List<'a> {
         let reply = raw_calls::open(self.station, &capsule, &mut out);
         let expected = calls::open(self.state, self.held, &capsule, out.len());
         assert_eq!((reply.refused, reply.ones), (expected.number, expected.ones));
-        assert!(out.starts_with(&expected.written));
+        assert!(only_written(&out, &expected.written), "{out:02x?} is not {expected:02x?}");
         self.hold(reply.station);
         reply.refused
     }
@@ -71,18 +72,18 @@ impl<'a> List<'a> {
         let reply = raw_calls::read(self.station, &word, &mut out);
         let expected = calls::read(self.state, self.held, &word, out.len());
         assert_eq!((reply.refused, reply.ones), (expected.number, expected.ones));
-        assert!(out.starts_with(&expected.written));
+        assert!(only_written(&out, &expected.written), "{out:02x?} is not {expected:02x?}");
         self.hold(reply.station);
         reply.refused
     }
 
     fn report(&mut self, random: &mut Random) -> u8 {
         let (length, room) = (random.below(12), random.below(12));
-        let (capsules, mut records) = (random.bytes(length), vec![0; room]);
+        let (capsules, mut records) = (random.bytes(length), vec![UNTOUCHED; room]);
         let reported = raw_calls::report(self.station, &capsules, &mut records);
         let expected = calls::report(self.state, self.held, &capsules, room);
         assert_eq!(reported.refused, expected.number);
-        assert!(records.starts_with(&expected.written));
+        assert!(only_written(&records, &expected.written), "{records:02x?} is not {expected:02x?}");
         assert_eq!(reported.counts, calls::counts(&expected.written));
         self.hold(reported.station);
         reported.refused
@@ -97,7 +98,7 @@ impl<'a> List<'a> {
     }
 
     fn pattern(&self) -> Vec<u8> {
-        vec![0; self.held.key.n.div_ceil(8)]
+        vec![UNTOUCHED; self.held.key.n.div_ceil(8)]
     }
 
     /// A call of any kind; its name and its number.

@@ -8,8 +8,7 @@ use crate::independent::held::Held;
 use crate::independent::random::Random;
 use crate::independent::{calls, matrix};
 use crate::support::raw_calls::{self, holding};
-
-const UNTOUCHED: u8 = 0xA5;
+use crate::support::{only_written, UNTOUCHED};
 
 /// A report with room for so many records, beside what is expected; its number.
 fn same_report(station: &Station, held: &Held, capsules: &[u8], room: usize) -> u8 {
@@ -18,9 +17,7 @@ fn same_report(station: &Station, held: &Held, capsules: &[u8], room: usize) -> 
     let reported = raw_calls::report(*station, capsules, &mut records);
     let said = || format!("state {} room {room} {capsules:02x?} {:?}", station.state, held.key);
     assert_eq!(reported.refused, expected.number, "{}", said());
-    let (written, rest) = records.split_at(expected.written.len());
-    assert_eq!(written, expected.written, "{}", said());
-    assert!(rest.iter().all(|byte| *byte == UNTOUCHED), "written past the records: {}", said());
+    assert!(only_written(&records, &expected.written), "{records:02x?} is not {expected:02x?}: {}", said());
     assert_eq!(reported.counts, calls::counts(&expected.written), "{}", said());
     assert!(reported.station == *station, "the station has changed: {}", said());
     reported.refused
@@ -184,10 +181,12 @@ fn safe_calls() {
             assert!((0..=255).all(|number| report.counts().of(number) == counts[usize::from(number)]));
             let mut records = vec![UNTOUCHED; expected.len() + 1];
             assert_eq!(station.report_into(&capsules[..length], &mut records).as_ref(), Ok(report.counts()));
-            assert_eq!(records, [&expected[..], &[UNTOUCHED]].concat());
+            assert!(only_written(&records, &expected), "{records:02x?} is not {expected:02x?}");
             if let Some(short) = expected.len().checked_sub(1) {
+                records.fill(UNTOUCHED);
                 let refused = station.report_into(&capsules[..length], &mut records[..short]);
                 assert_eq!(refused, Err(Refusal::ShortRecords));
+                assert!(only_written(&records, &[]), "{records:02x?} under refusal");
             }
         }
     }

@@ -210,14 +210,15 @@ fn known(operand: &Operand, word: &OsStr) -> Result<(), Failure> {
     }
 }
 
-/// One input at most is standard input, and no output is an input.
+/// One input at most is standard input, no output is an input, and none of an option is where the command prints.
 fn streams(given: &Given) -> Result<(), Failure> {
     let inputs = files_of(given, |kind| matches!(kind, Kind::Input));
     let outputs = files_of(given, |kind| matches!(kind, Kind::Output));
     let options = given.command.options().filter(|choice| matches!(choice.takes, Takes::Output { .. }));
-    let named = options.filter_map(|choice| given.file(choice.name));
+    let beside: Vec<&OsStr> = options.filter_map(|choice| given.file(choice.name)).collect();
     files::one_standard_input(&inputs)?;
-    outputs.into_iter().chain(named).try_for_each(|out| files::not_an_input(out, &inputs))
+    outputs.iter().chain(&beside).try_for_each(|out| files::not_an_input(out, &inputs))?;
+    beside.iter().try_for_each(|out| files::not_standard_output(out))
 }
 
 fn files_of(given: &Given, wanted: fn(&Kind) -> bool) -> Vec<&OsStr> {

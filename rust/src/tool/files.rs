@@ -108,6 +108,15 @@ pub fn not_an_input(out: &OsStr, inputs: &[&OsStr]) -> Result<(), Failure> {
     Ok(())
 }
 
+/// A usage failure where an output with a name is the file that standard output goes to, under whatever name.
+pub fn not_standard_output(out: &OsStr) -> Result<(), Failure> {
+    let printed = identity(OsStr::new(STANDARD), standard_output);
+    if out != STANDARD && printed.is_some() && identity(out, standard_output) == printed {
+        return Err(Failure::usage(format!("{} is standard output too", names::shown(Path::new(out)))));
+    }
+    Ok(())
+}
+
 /// What tells a regular file from every other one; none for all else.
 fn identity(name: &OsStr, standard: fn() -> io::Result<File>) -> Option<(u64, u64)> {
     let found = if name == STANDARD { standard().and_then(|file| file.metadata()) } else { fs::metadata(name) };

@@ -3,14 +3,14 @@
 use std::ffi::OsStr;
 use std::thread;
 
-use shearcotter::{Pattern, Refusal, Shape};
+use shearcotter::{Counts, Pattern, Refusal, Shape};
 
 use crate::arguments::Given;
 use crate::commands::{EXPLAIN, FORMAT, JOBS, MOST_JOBS};
 use crate::explain::{self, Row};
 use crate::failure::{self, Failure};
 use crate::formats::{self, Form, Format};
-use crate::rows::{self, Counts, Rows};
+use crate::rows::{self, Rows};
 use crate::status::Status;
 use crate::table::QUIET;
 use crate::{keys, names};
@@ -64,7 +64,15 @@ pub fn summary(file: &OsStr, kind: Row, counts: &Counts) -> String {
 }
 
 fn total(file: &OsStr, kind: Row, counts: &Counts) -> String {
-    format!("{}: {}", names::input(file), counts.in_words(kind.accepted()))
+    format!("{}: {}", names::input(file), in_words(kind, counts))
+}
+
+/// The opening program's last line; words are read.
+fn in_words(kind: Row, counts: &Counts) -> String {
+    match kind {
+        Row::Capsule => counts.to_string(),
+        _ => format!("total {} {} {} refused {}", counts.total(), kind.accepted(), counts.of(0), counts.refused()),
+    }
 }
 
 /// Whether some row was refused.

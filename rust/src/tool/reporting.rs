@@ -3,17 +3,17 @@
 use std::ffi::OsStr;
 use std::iter;
 
-use shearcotter::{Report, Shape, Station};
+use shearcotter::{Counts, Report, Shape, Station};
 
 use crate::arguments::Given;
 use crate::commands::RECORDS;
 use crate::explain::{self, Row};
 use crate::failure::{self, Failure};
 use crate::files::{Output, STANDARD};
-use crate::rows::{self, Counts, Rows};
+use crate::rows::{self, Rows};
 use crate::status::Status;
 use crate::table::QUIET;
-use crate::{help, keys, opening};
+use crate::{help, keys, names, opening};
 
 const KIND: Row = Row::Capsule;
 
@@ -23,17 +23,19 @@ pub fn report(given: &Given) -> Result<Status, Failure> {
     let (station, shape, _) = keys::published(key)?;
     let rows = Rows::new(file, shape.capsule_length(), KIND.plural(), !given.has(QUIET))?;
     let mut out = given.file(RECORDS).map(Output::create).transpose()?;
-    let records = move |capsules: &[u8]| records(&station, shape, capsules);
+    let records = move |capsules: &[u8]| records(&station, shape, file, capsules);
     let counts = rows::blocks(rows, opening::jobs(given), out.as_mut(), records)?;
-    out.map_or(Ok(()), Output::finish)?;
     say(given, file, &counts)?;
+    out.map_or(Ok(()), Output::finish)?;
     Ok(opening::status(&counts))
 }
 
-/// A record for each capsule; a refused report refuses each of them.
-fn records(station: &Station, shape: Shape, capsules: &[u8]) -> Vec<u8> {
-    let refused = |number| vec![number; shape.capsules_in(capsules.len())];
-    station.report(capsules).map_or_else(|refusal| refused(refusal.number()), Report::into_records)
+/// A record for each capsule; a station that has published refuses no report.
+fn records(station: &Station, shape: Shape, file: &OsStr, capsules: &[u8]) -> Result<Vec<u8>, Failure> {
+    station.report(capsules).map(Report::into_records).map_err(|refusal| {
+        let explained = explain::row(KIND, shape, capsules, refusal);
+        Failure::Refused(names::input(file), explained, Status::Failed)
+    })
 }
 
 /// The table on standard output; where the records stand there, a summary on standard error.
@@ -56,5 +58,25 @@ fn table(counts: &Counts) -> String {
     let width = |column: usize| rows.iter().map(|row| row[column].len()).max().unwrap_or(0);
     let (first, second, third) = (width(0), width(1), width(2));
     let line = |[number, words, count]: &[String; 3]| format!("{number:<first$}  {words:<second$}  {count:>third$}\n");
-    rows.iter().map(line).chain(iter::once(counts.in_words(KIND.accepted()) + "\n")).collect()
+    rows.iter().map(line).chain(iter::once(format!("{counts}\n"))).collect()
+}
+
+#[cfg(test)]
+mod tests {
+    use super::*;
+
+    #[test]
+    fn a_refused_report_is_a_failure() {
+        let file = [4, 6, 0, 1, 0, 9, 0, 13, 0, 15, 0, 14, 0, 11, 0, 1, 0, 0, 0];
+        let (mut station, shape) = (Station::fresh(), Shape::new(4, 6, 1).expect("a shape"));
+        let says = |station: &Station| {
+            let failure = records(station, shape, OsStr::new("card"), &[0x03, 0x00]).expect_err("a failure");
+            (failure.status(), failure.to_string())
+        };
+        assert_eq!(says(&station), (Status::Failed, "card: refused 21: no key".to_owned()));
+        station.load(&file).expect("load accepts");
+        assert_eq!(says(&station), (Status::Failed, "card: refused 24: not published".to_owned()));
+        station.publish().expect("publish accepts");
+        assert_eq!(records(&station, shape, OsStr::new("card"), &[0x03, 0x00]).ok(), Some(vec![0, 13]));
+    }
 }

@@ -15,7 +15,7 @@ use std::sync::Mutex;
 use std::thread::{self, Builder, Scope};
 use std::time::{Duration, Instant};
 
-use shearcotter::raw;
+use shearcotter::{raw, Counts};
 
 use crate::failure::Failure;
 use crate::files::{self, Input, Output, STANDARD};
@@ -67,39 +67,6 @@ pub struct Answer {
     pub number: u8,
 }
 
-/// How many rows were answered with each number.
-pub struct Counts([u64; 256]);
-
-impl Counts {
-    pub fn of(&self, number: u8) -> u64 {
-        self.0[usize::from(number)]
-    }
-
-    pub fn total(&self) -> u64 {
-        self.0.iter().sum()
-    }
-
-    pub fn refused(&self) -> u64 {
-        self.total() - self.of(0)
-    }
-
-    /// The numbers that occur, rising, with their counts.
-    pub fn occurring(&self) -> impl Iterator<Item = (u8, u64)> + '_ {
-        (0..=u8::MAX).map(|number| (number, self.of(number))).filter(|(_, count)| *count > 0)
-    }
-
-    /// The opening program's last line; `done` is what the accepted rows were.
-    pub fn in_words(&self, done: &str) -> String {
-        format!("total {} {done} {} refused {}", self.total(), self.of(0), self.refused())
-    }
-
-    fn add(&mut self, numbers: &[u8]) {
-        for number in numbers {
-            self.0[usize::from(*number)] += 1;
-        }
-    }
-}
-
 /// Writes the answer to each row, given its position from 1, in the rows' order; `jobs` of them at a time.
 pub fn each(rows: Rows, jobs: usize, answer: impl Fn(u64, &[u8]) -> Answer + Sync) -> Result<Counts, Failure> {
     let mut out = files::standard_output()?;
@@ -114,15 +81,19 @@ fn each_to(
     answer: impl Fn(u64, &[u8]) -> Answer + Sync,
 ) -> Result<Counts, Failure> {
     let length = rows.length;
-    batches(streams, rows, jobs, |batch| batch.answer(length, &answer))
+    batches(streams, rows, jobs, |batch| {
+        batch.answer(length, &answer);
+        Ok(())
+    })
 }
 
 /// Writes the records of the rows, a byte for each, in the rows' order; as many blocks of rows at a time as `jobs` says.
+/// A block that fails ends it.
 pub fn blocks(
     rows: Rows,
     jobs: usize,
     out: Option<&mut Output>,
-    records: impl Fn(&[u8]) -> Vec<u8> + Sync,
+    records: impl Fn(&[u8]) -> Result<Vec<u8>, Failure> + Sync,
 ) -> Result<Counts, Failure> {
     let (mut nothing, mut error) = (io::sink(), io::stderr());
     let streams = match out {
@@ -144,7 +115,12 @@ struct Streams<'a> {
     on_terminal: bool,
 }
 
-fn batches(streams: Streams, rows: Rows, jobs: usize, answer: impl Fn(&mut Batch) + Sync) -> Result<Counts, Failure> {
+fn batches(
+    streams: Streams,
+    rows: Rows,
+    jobs: usize,
+    answer: impl Fn(&mut Batch) -> Result<(), Failure> + Sync,
+) -> Result<Counts, Failure> {
     let (report, events) = mpsc::channel();
     let (spare, empty) = mpsc::channel();
     let (work, queue) = mpsc::channel();
@@ -203,9 +179,10 @@ impl Batch {
     }
 
     /// The records are the text, and the numbers.
-    fn record(&mut self, records: &impl Fn(&[u8]) -> Vec<u8>) {
-        self.numbers = records(&self.rows);
+    fn record(&mut self, records: &impl Fn(&[u8]) -> Result<Vec<u8>, Failure>) -> Result<(), Failure> {
+        self.numbers = records(&self.rows)?;
         self.text.extend_from_slice(&self.numbers);
+        Ok(())
     }
 
     fn clear(&mut self) {
@@ -222,6 +199,8 @@ enum Event {
     Read(Batch),
     /// Rows have been answered.
     Answered(Batch),
+    /// Rows could not be answered.
+    Failed(Failure),
     /// No more rows are read.
     End(io::Result<()>),
     /// A thread has panicked.
@@ -321,7 +300,7 @@ fn as_many_as_start(jobs: usize, start: impl Fn() -> io::Result<()>) -> io::Resu
     Ok(1 + (1..jobs).map_while(|_| start().ok()).count())
 }
 
-fn start_worker<'scope, F: Fn(&mut Batch) + Sync>(
+fn start_worker<'scope, F: Fn(&mut Batch) -> Result<(), Failure> + Sync>(
     scope: &'scope Scope<'scope, '_>,
     queue: &'scope Mutex<Receiver<Batch>>,
     answer: &'scope F,
@@ -330,9 +309,9 @@ fn start_worker<'scope, F: Fn(&mut Batch) + Sync>(
     let run = move || {
         while let Some(mut batch) = next_of(queue) {
             let started = Instant::now();
-            answer(&mut batch);
+            let answered = answer(&mut batch);
             batch.took = started.elapsed();
-            if !report.send(Event::Answered(batch)) {
+            if !report.send(answered.map_or_else(Event::Failed, |()| Event::Answered(batch))) {
                 return;
             }
         }
@@ -365,7 +344,7 @@ impl Writer<'_> {
         for _ in 0..batches {
             let _ = self.spare.send(Batch::default());
         }
-        let (mut counts, mut end, mut under_way) = (Counts([0; 256]), None, 0);
+        let (mut counts, mut end, mut under_way) = (Counts::default(), None, 0);
         while end.is_none() || under_way > 0 {
             match self.events.recv() {
                 Ok(Event::Read(batch)) => {
@@ -373,11 +352,12 @@ impl Writer<'_> {
                     let _ = self.work.send(batch);
                 }
                 Ok(Event::Answered(batch)) => {
-                    counts.add(&batch.numbers);
+                    counts.extend(batch.numbers.iter().copied());
                     self.answered.insert(batch.first, batch);
                     let written = self.write_ready();
                     under_way -= written.map_err(|error| Failure::output(self.streams.name.as_deref(), error))?;
                 }
+                Ok(Event::Failed(failure)) => return Err(failure),
                 Ok(Event::End(result)) => end = Some(result),
                 Ok(Event::Lost) | Err(_) => panic::resume_unwind(Box::new("a thread has panicked")),
             }

@@ -8,7 +8,7 @@ use crate::status::Status;
 pub enum Kind {
     /// A file that is read; `-` is standard input.
     Input,
-    /// A file that is written; `-` is standard output.
+    /// A file that is written, by a command that prints nothing; `-` is standard output.
     Output,
     /// A shape of a key.
     Shape,
@@ -50,7 +50,8 @@ pub struct Word {
     pub about: &'static str,
 }
 
-/// What stands behind an option. An output is a file that is written; `-` is standard output.
+/// What stands behind an option. An output is a file that is written beside what the command prints; `-` is standard
+/// output.
 pub enum Takes {
     Nothing,
     OneOf { value: &'static str, words: &'static [Word], default: &'static str },

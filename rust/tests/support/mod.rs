@@ -1,4 +1,5 @@
-//! What the tests share: hexadecimal, the vectors' folder, the raw calls by slices, runs of the tool, terminals, memory.
+//! What the tests share: hexadecimal, buffers, the vectors' folder, the raw calls by slices, runs of the tool, terminals,
+//! memory.
 
 #[cfg(target_os = "linux")]
 pub mod memory;
@@ -6,6 +7,14 @@ pub mod raw_calls;
 pub mod run;
 pub mod terminal;
 pub mod vectors;
+
+/// What every byte of an output is before a call.
+pub const UNTOUCHED: u8 = 0xA5;
+
+/// Whether an output begins with what was to be written, and every byte past that is untouched.
+pub fn only_written(out: &[u8], written: &[u8]) -> bool {
+    out.strip_prefix(written).is_some_and(|rest| rest.iter().all(|byte| *byte == UNTOUCHED))
+}
 
 /// Bytes from hexadecimal; `-` is none.
 pub fn bytes(text: &str) -> Vec<u8> {

@@ -1,12 +1,17 @@
 //! The command `report`: the table, the total and the records, for files of many blocks, tails and pipes.
 
+use std::fs::OpenOptions;
 use std::io::{Read, Write};
+use std::os::fd::OwnedFd;
+use std::os::unix::fs::symlink;
+use std::os::unix::net::UnixStream;
+use std::process::{Output, Stdio};
 use std::time::Duration;
 use std::{fs, thread};
 
 use super::streams::{most_memory, start};
 use super::{accepted, fails, outcome, some_refused, standard, with_k1};
-use crate::support::run::{ended, run, status, text, Folder};
+use crate::support::run::{ended, run, status, text, tool, Folder};
 
 const TABLE: &str = "0   opened                      1\n9   filler bit set              1\n\
                      13  no pattern for the capsule  1\ntotal 3 opened 1 refused 2\n";
@@ -57,6 +62,37 @@ fn records_on_standard_output_stand_there_alone() {
     assert_eq!((status(&output), &output.stdout[..], text(&output.stderr)), (0, &[0, 0][..], ""));
 }
 
+/// A run with standard output where it is said, and nothing on standard input.
+fn run_to(out: impl Into<Stdio>, words: &[&str]) -> Output {
+    tool().args(words).stdin(Stdio::null()).stdout(out).output().expect("the tool ends")
+}
+
+#[test]
+fn records_do_not_go_where_the_table_does() {
+    let (folder, key) = with_k1();
+    let (out, linked, link) = (folder.write("out", b"kept"), folder.at("linked"), folder.at("link"));
+    fs::hard_link(&out, &linked).expect("a second name");
+    symlink("out", &link).expect("a link");
+    let appended = |words: &[&str]| {
+        let output = run_to(OpenOptions::new().append(true).open(&out).expect("the file"), words);
+        (status(&output), text(&output.stderr).to_owned())
+    };
+    for records in [&out, &linked, &link, "/proc/self/fd/1"] {
+        let said = format!("shearcotter: {records} is standard output too; see shearcotter help report\n");
+        assert_eq!(appended(&["report", &key, "--records", records]), (2, said.clone()));
+        assert_eq!(appended(&["report", "--quiet", "--records=-", &key, "--records", records]), (2, said));
+    }
+    assert_eq!(fs::read(&out).expect("the file"), b"kept");
+    let done = (0, String::new());
+    assert_eq!(appended(&["report", &key, "--records", &out, "--records", &folder.at("records")]), done);
+    assert_eq!(fs::read(&out).expect("the table"), b"kepttotal 0 opened 0 refused 0\n");
+    assert_eq!(appended(&["report", "--quiet", &key, "--records", "-"]), done);
+    // Nothing is printed beside a public key.
+    assert_eq!(appended(&["publish", &key, &out]), done);
+    assert_eq!(fs::read(&out).expect("the public key"), [3, 1, 2, 0]);
+    assert_eq!(folder.names(), ["key.bin", "link", "linked", "out", "records"]);
+}
+
 #[test]
 fn a_failure_leaves_the_records() {
     let (folder, key) = with_k1();
@@ -73,6 +109,23 @@ fn a_failure_leaves_the_records() {
     fails(&["report", &key, "--records", "/dev/null"], 2, "not a regular file");
     assert_eq!(fs::read(&records).expect("the records"), b"kept");
     assert_eq!(folder.names(), ["bad.key", "key.bin", "records"]);
+}
+
+#[test]
+fn a_table_that_cannot_be_printed_leaves_the_records() {
+    let (folder, key) = with_k1();
+    let (capsules, old) = (folder.write("capsules", &[0x03]), folder.write("records", b"kept"));
+    for records in [&old, &folder.at("new")] {
+        let words = ["report", &key, &capsules, "--records", records];
+        let full = run_to(OpenOptions::new().write(true).open("/dev/full").expect("the device"), &words);
+        assert_eq!(status(&full), 2);
+        assert!(text(&full.stderr).starts_with("shearcotter: standard output: "), "{}", text(&full.stderr));
+        let (far, _) = UnixStream::pair().expect("two sockets, one of which is closed");
+        let closed = run_to(OwnedFd::from(far), &words);
+        assert_eq!((status(&closed), text(&closed.stderr)), (2, ""));
+    }
+    assert_eq!(fs::read(&old).expect("the records"), b"kept");
+    assert_eq!(folder.names(), ["capsules", "key.bin", "records"]);
 }
 
 #[test]

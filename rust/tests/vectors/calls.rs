@@ -7,9 +7,7 @@ use crate::independent::held::Held;
 use crate::independent::key::Key;
 use crate::independent::{calls, random::Random};
 use crate::support::raw_calls::{drop, fresh, held, holding, load, open, publish, read, report};
-use crate::support::{bytes, vectors::cases};
-
-const UNTOUCHED: u8 = 0xA5;
+use crate::support::{bytes, only_written, vectors::cases, UNTOUCHED};
 
 /// The reply, and the output's bytes.
 fn call(station: Station, case: &[String]) -> (Reply, Vec<u8>) {
@@ -22,7 +20,7 @@ fn call(station: Station, case: &[String]) -> (Reply, Vec<u8>) {
             let (mut out, mut work) = (buffer(1), buffer(2));
             let reply = publish(station, &mut out, &mut work);
             let free = if matches!(reply.refused, 0 | 23) { held(&station).work_length() } else { 0 };
-            assert!(work[free..].iter().all(|byte| *byte == UNTOUCHED), "{case:?}");
+            assert!(only_written(&work[free..], &[]), "{case:?}");
             (reply, out)
         }
         "open" => {
@@ -55,8 +53,7 @@ fn run(station: Station, case: &[String]) -> Station {
             assert!(reply.station == station, "a refusal changed the station: {case:?}");
         }
     }
-    assert_eq!(out[..written.len()], written, "{case:?}");
-    assert!(out[written.len()..].iter().all(|byte| *byte == UNTOUCHED), "{case:?}");
+    assert!(only_written(&out, &written), "{out:02x?} is not {written:02x?}: {case:?}");
     reply.station
 }
 
@@ -103,7 +100,7 @@ fn reports_between_the_calls_change_nothing() {
         let reported = report(station, &capsules, &mut records);
         let expected = calls::report(station.state, &Held::new(held(&station)), &capsules, room);
         assert_eq!((reported.refused, reported.counts), (expected.number, calls::counts(&expected.written)));
-        assert!(records.starts_with(&expected.written));
+        assert!(only_written(&records, &expected.written), "{records:02x?} is not {expected:02x?}");
         numbers.push(reported.refused);
         reported.station
     });

@@ -10,8 +10,8 @@ mod words;
 use shearcotter::{raw, Pattern, Refusal, Station};
 
 use crate::independent;
-use crate::support::bytes;
 use crate::support::raw_calls::{self, held};
+use crate::support::{bytes, UNTOUCHED};
 
 /// What a case says: `ok` and its fields, or `refused` and the number.
 fn expected(case: &[String]) -> Result<Vec<&str>, u8> {
@@ -47,7 +47,7 @@ fn same_records(station: &raw::Station, cases: &[Vec<String>]) -> usize {
     let short = other.into_iter().filter(|(capsule, _)| (1..length).contains(&capsule.len()));
     for (tail, last) in short.chain([(vec![], 0)]) {
         let expected: Vec<u8> = numbers.iter().copied().chain((!tail.is_empty()).then_some(last)).collect();
-        let mut records = vec![0xA5; expected.len()];
+        let mut records = vec![UNTOUCHED; expected.len()];
         let reported = raw_calls::report(*station, &[capsules.concat(), tail].concat(), &mut records);
         assert_eq!((reported.refused, &records), (0, &expected));
         assert_eq!(reported.counts, independent::calls::counts(&expected));

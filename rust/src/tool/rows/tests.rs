@@ -109,7 +109,7 @@ fn lines_in_order_on_any_number_of_threads() {
         });
         let counts = counts.ok().expect("all is written");
         assert!(out == text, "{jobs} jobs");
-        let of = |number| expected.iter().filter(|answer| answer.number == number).count() as u64;
+        let of = |number| expected.iter().filter(|answer| answer.number == number).count();
         assert_eq!([0, 1, 2, 3].map(|number| counts.of(number)), [0, 1, 2, 3].map(of));
         assert_eq!((counts.total(), counts.refused()), (1667, of(1) + of(2)));
     }
@@ -195,17 +195,33 @@ fn records_of_blocks_in_order_on_any_number_of_threads() {
             batch.record(&|block: &[u8]| {
                 most.fetch_max(block.len(), Ordering::Relaxed);
                 thread::sleep(2 * SHORT);
-                block.chunks(3).map(record).collect()
-            });
+                Ok(block.chunks(3).map(record).collect())
+            })
         });
         let counts = counts.ok().expect("all is written");
         assert!(out == expected, "{jobs} jobs");
         assert_eq!(counts.total(), 16_667);
-        let of = |value: u8| (value, expected.iter().filter(|record| **record == value).count() as u64);
-        let occurring: Vec<(u8, u64)> = (0..=5).map(of).filter(|(_, count)| *count > 0).collect();
+        let of = |value: u8| (value, expected.iter().filter(|record| **record == value).count());
+        let occurring: Vec<(u8, usize)> = (0..=5).map(of).filter(|(_, count)| *count > 0).collect();
         assert_eq!(counts.occurring().collect::<Vec<_>>(), occurring);
         // Though each block takes longer than lines may, it has many rows.
         assert!(most.into_inner() > 100, "{jobs} jobs");
+    }
+}
+
+#[test]
+fn a_block_that_fails_ends_it_though_the_reader_waits() {
+    for jobs in [1, 4] {
+        let result = ends(move || {
+            let mut out = vec![];
+            let streams = Streams { out: &mut out, name: None, error: &mut io::sink(), on_terminal: false };
+            let rows = rows(Pieces([vec![0; 100], vec![7]].concat()).chain(Silent), 1);
+            let refused = || Err(Failure::usage("made for this test"));
+            let records = |block: &[u8]| if block.contains(&7) { refused() } else { Ok(block.to_vec()) };
+            let result = batches(streams, rows, jobs, |batch| batch.record(&records));
+            (result.err().map(|failure| failure.to_string()), out.contains(&7))
+        });
+        assert_eq!(result, Ok((Some("made for this test; see shearcotter help".to_owned()), false)));
     }
 }
 
@@ -224,7 +240,7 @@ fn a_failing_output_has_its_name() {
         let name = name.map(PathBuf::from);
         let streams = Streams { out: &mut Full, name, error: &mut io::sink(), on_terminal: false };
         let result = each_to(streams, rows(io::repeat(7), 1), 2, line);
-        let failure = result.err().expect("a failure").to_string();
+        let failure = result.expect_err("a failure").to_string();
         assert!(failure.starts_with(said), "{failure}");
     }
 }
@@ -236,7 +252,7 @@ fn a_failing_read_comes_behind_the_rows_before_it() {
         thread::sleep(SHORT);
         line(position, row)
     });
-    let failure = result.err().expect("a failure").to_string();
+    let failure = result.expect_err("a failure").to_string();
     assert!(failure.starts_with("input: "), "{failure}");
     let expected: String = (1..=17).map(|position| format!("{position} [7, 7]\n")).collect();
     assert_eq!(String::from_utf8(out), Ok(expected));
