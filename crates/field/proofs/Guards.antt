@@ -2,16 +2,17 @@
 use mathlib.Core.Path.{_≡_, refl, ap, _∙_}
 use mathlib.Core.Bool.{Bool, true, false, not, cond, _&&_}
 use mathlib.Core.List.{List, [], _∷_}
-use Prim.Native.Nat.{ℕ, zero, suc, _≤_, _<_, _^_}
+use Prim.Native.Nat.{ℕ, zero, suc, _≤_, _<_, _%_, _^_}
 use native.Mathlib.Omega.{arith}
-use native.Mathlib.Nat.{le-of-suc-le-suc}
+use native.Mathlib.Nat.{le-of-suc-le-suc, mod-eq-of-lt}
+use lib.Dec.{eqb, ltb}
 use lib.Pow.{pow-mono}
 use borrow.Author.Tests.{lt-ltb, le-ltb, ltb-true}
 use Rattle.bits.specs.Bits.{every}
 use Rattle.field.specs.Numbers.{firstOf}
-use Rattle.field.specs.Field.{isWidth, isElement}
+use Rattle.field.specs.Field.{isWidth, isElement, inv}
 use Rattle.field.specs.Verdicts.{verdictOf, numberOf}
-use Rattle.field.specs.Answers.{elementsNumber, answer}
+use Rattle.field.specs.Answers.{elementsNumber, answer, isUnit, inverseNumber, inverseOf, invertNumber, invertOf}
 use Rattle.field.specs.declared.Verdict.{Verdict}
 use Rattle.field.specs.declared.Verdict.the-variants as verdicts
 use Rattle.field.specs.declared.Answer.the-variants.{Value, Refused}
@@ -81,3 +82,36 @@ pub allowed : (q : ℕ) {u v : ℕ} → q ≡ 0 → u ≡ v → Value u ≡ answ
 unfolding answer
 allowed zero z h = ap Value h
 allowed (suc q) z h = absurd (omega arith)
+
+-- the public inverse: an element's own refusal, or else the inner answer, since the low digits of an element are its own
+module _ (m a : ℕ) where
+  number-lt : elementsNumber m (a ∷ []) ≡ 0 → a < 2 ^ m
+  unfolding elementsNumber firstOf every isElement
+  number-lt = go (isWidth m) (ltb a (2 ^ m)) refl
+    where
+      go : (w e : Bool) → ltb a (2 ^ m) ≡ e → number w (e && true) ≡ 0 → a < 2 ^ m
+      go false e q z = absurd (omega arith)
+      go true false q z = absurd (omega arith)
+      go true true q z = ltb-true a (2 ^ m) q
+
+  pub invert-refused : (elementsNumber m (a ∷ []) ≡ 0 → ⊥) → elementsNumber m (a ∷ []) ≡ invertNumber m a
+  unfolding elementsNumber invertNumber firstOf every
+  invert-refused = go (isWidth m) (isElement m a) (eqb a 0)
+    where
+      go : (w e z : Bool) → (number w (e && true) ≡ 0 → ⊥) → number w (e && true) ≡ firstOf ((not w, 1) ∷ (not e, 4) ∷ (z, 32) ∷ [])
+      go false e z n = refl
+      go true false z n = refl
+      go true true z n = absurd (n refl)
+
+  pub invert-allowed : elementsNumber m (a ∷ []) ≡ 0 → inverseOf m a ≡ invertOf m a
+  unfolding elementsNumber inverseOf invertOf inverseNumber invertNumber firstOf every isUnit
+  invert-allowed h =
+      ap (λ (q : ℕ). answer q (inv m a))
+      (ap (λ (x : ℕ). firstOf ((not (isWidth m), 1) ∷ (not (not (eqb x 0) && true), 32) ∷ [])) (mod-eq-of-lt (number-lt h)) ∙ go (isWidth m) (isElement m a) (eqb a 0) h)
+    where
+      go : (w e z : Bool) → number w (e && true) ≡ 0
+          → firstOf ((not w, 1) ∷ (not (not z && true), 32) ∷ []) ≡ firstOf ((not w, 1) ∷ (not e, 4) ∷ (z, 32) ∷ [])
+      go false e z k = absurd (omega arith)
+      go true false z k = absurd (omega arith)
+      go true true true k = refl
+      go true true false k = refl

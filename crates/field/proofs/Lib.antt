@@ -9,6 +9,7 @@ pub mod Numbers
 pub mod Products
 pub mod Machine
 pub mod Verdicts
+pub mod Units
 pub mod Guards
 pub mod Places
 pub mod PointTable

@@ -1,7 +1,8 @@
 -- What the public calls add, multiply and invert answer. Assumes nothing.
-use Prim.Native.Nat.{ℕ, zero, suc}
-use mathlib.Core.Bool.{not}
-use mathlib.Core.List.{List, [], _∷_}
+use Prim.Native.Nat.{ℕ, zero, suc, _%_, _^_}
+use mathlib.Core.Bool.{Bool, not, cond}
+use mathlib.Core.List.{List, [], _∷_, map}
+use lib.Dec.{eqb}
 use Rattle.bits.specs.Xor.{_⊕_}
 use Rattle.bits.specs.Bits.{every}
 use Rattle.field.specs.Numbers.{firstOf}
@@ -26,6 +27,28 @@ addOf m a b = answer (elementsNumber m (a ∷ b ∷ [])) (a ⊕ b)
 unfoldable pub multiplyOf : ℕ → ℕ → ℕ → Answer
 multiplyOf m a b = answer (elementsNumber m (a ∷ b ∷ [])) (mul m a b)
 
--- the inverse, 0 for 0
+-- 1, 4, and 32: the inverse of 0
+unfoldable pub invertNumber : ℕ → ℕ → ℕ
+invertNumber m a = firstOf ((not (isWidth m), 1) ∷ (not (isElement m a), 4) ∷ (eqb a 0, 32) ∷ [])
+
+-- the inverse
 unfoldable pub invertOf : ℕ → ℕ → Answer
-invertOf m a = answer (elementsNumber m (a ∷ [])) (inv m a)
+invertOf m a = answer (invertNumber m a) (inv m a)
+
+-- Below the public calls a number stands for its m low digits.
+
+-- they are not all 0: at a width, there is an inverse
+unfoldable pub isUnit : ℕ → ℕ → Bool
+isUnit m a = not (eqb (a % 2 ^ m) 0)
+
+-- 1: no width; 32: the inverse of 0, for a member of the list
+unfoldable pub inverseNumber : ℕ → List ℕ → ℕ
+inverseNumber m xs = firstOf ((not (isWidth m), 1) ∷ (not (every (isUnit m) xs), 32) ∷ [])
+
+-- the inverse of a number
+unfoldable pub inverseOf : ℕ → ℕ → Answer
+inverseOf m a = answer (inverseNumber m (a ∷ [])) (inv m a)
+
+-- the inverse at each place; the list itself on refusal
+unfoldable pub inversesOf : ℕ → List ℕ → List ℕ
+inversesOf m xs = cond (eqb (inverseNumber m xs) 0) (map (inv m) xs) xs

@@ -1,12 +1,13 @@
 // The fields GF(2^m) for m of 4, 12 and 13 (document 01, 'Field').
 ghost use mathlib.Core.Path.{_≡_};
+ghost use mathlib.Core.Bool.{true};
 ghost use mathlib.Core.List.{[], _∷_};
 ghost use Prim.Native.Nat.{suc, _^_, _<_, _≤_};
 ghost use lib.Dec.{ltb};
 ghost use Rattle.bits.specs.Bits.{every};
-ghost use Rattle.field.specs.Field.{isElement, modulusOf, mulMod, productBy, mul, inv};
+ghost use Rattle.field.specs.Field.{isWidth, isElement, modulusOf, mulMod, productBy, mul, inv};
 ghost use Rattle.field.specs.Verdicts.{verdictOf, numberOf};
-ghost use Rattle.field.specs.Answers.{elementsNumber, addOf, multiplyOf, invertOf};
+ghost use Rattle.field.specs.Answers.{elementsNumber, addOf, multiplyOf, invertOf, inverseNumber, inverseOf};
 
 // What a check answers, here and in the crates above: accepted, or the number of a refusal.
 pub enum Verdict {
@@ -82,19 +83,49 @@ pub fn lane_product(m: u8, f: u16, a: u16, b: u16) -> u16
     product(m, f, a & mask, b & mask, 13)
 }
 
-// The inverse of a's m low digits in the field of width m, 0 for 0; 0 where m is no width. It is a^(2^m - 2): the exponent
-// has m - 1 ones and a 0 in binary.
-pub fn inverse(m: u8, a: u16) -> u16
+// a^(2^m - 2): from a^2 on, multiplied by a and squared, a^(2^k - 2) becomes a^(2^(k+1) - 2).
+fn inverse_power(m: u8, a: u16) -> u16
+    requires { ⌜ isWidth m ≡ true ⌝ }
     ensures { λ r. ⌜ r ≡ inv m a ⌝ }
 {
-    let mut r: u16 = 1;
-    let mut k = 1;
+    let mut r = times(m, a, a);
+    let mut k = 2;
     while k < m {
-        let s = times(m, r, r);
-        r = times(m, s, a);
+        let p = times(m, r, a);
+        r = times(m, p, p);
         k += 1;
     }
-    times(m, r, r)
+    r
+}
+
+// Whether every number has an inverse: 1 where m is no width, 32 where the m low digits of one are 0.
+pub fn check_units(m: u8, s: &[u16]) -> Verdict
+    ensures { λ r. ⌜ r ≡ verdictOf (inverseNumber m (now (s .entry))) ⌝ }
+{
+    if modulus(m) == 0 {
+        return Verdict::Refused(1);
+    }
+    let mask: u16 = (1 << m) - 1;
+    let mut i = 0;
+    while i < s.len() {
+        if s[i] & mask == 0 {
+            return Verdict::Refused(32);
+        }
+        i += 1;
+    }
+    Verdict::Accepted
+}
+
+// The inverse of a's m low digits; 1 or 32 on refusal.
+pub fn inverse(m: u8, a: u16) -> Answer
+    ensures { λ r. ⌜ r ≡ inverseOf m a ⌝ }
+{
+    let one = [a];
+    let x = check_units(m, &one);
+    let Verdict::Accepted = x else {
+        return Answer::Refused(number(x));
+    };
+    Answer::Value(inverse_power(m, a))
 }
 
 // Every number is below 2^m.
@@ -168,7 +199,7 @@ pub fn multiply(m: u8, a: u32, b: u32) -> Answer
     Answer::Value(times(m, a as u16, b as u16))
 }
 
-// The inverse of an element, and 0 for 0.
+// The inverse of an element other than 0.
 pub fn invert(m: u8, a: u32) -> Answer
     ensures { λ r. ⌜ r ≡ invertOf m a ⌝ }
 {
@@ -176,5 +207,5 @@ pub fn invert(m: u8, a: u32) -> Answer
     let Verdict::Accepted = x else {
         return Answer::Refused(number(x));
     };
-    Answer::Value(inverse(m, a as u16))
+    inverse(m, a as u16)
 }
