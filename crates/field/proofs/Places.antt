@@ -3,12 +3,13 @@ use mathlib.Core.Path.{_≡_, refl, sym, ap, _∙_, fun-ext}
 use mathlib.Core.Bool.{false}
 use mathlib.Core.List.{List, [], _∷_, map}
 use Prim.Native.Nat.{ℕ, zero, suc, _≤_, _<_, suc-le-suc}
+use native.Mathlib.Omega.{arith}
 use native.Mathlib.Nat.{zero-lt-suc, le-of-suc-le-suc, not-suc-le-zero}
-use lib.ListN.{length, getD, take, replicate, length-replicate}
+use lib.ListN.{length, getD, take, replicate, length-map, length-replicate}
 use Rattle.bits.specs.Xor.{_⊕_}
 use Rattle.bits.specs.Bits.{eachWith}
 use Rattle.bits.proofs.Lists.{cons-eq}
-use Rattle.bits.proofs.Each.{length-eachWith, eachWith-at, eachWith-again}
+use Rattle.bits.proofs.Each.{length-eachWith, eachWith-at, eachWith-take, eachWith-again}
 use Rattle.bits.proofs.Xor.{xor-zero}
 use Rattle.field.specs.Field.{isWidth, mul}
 use Rattle.field.specs.Poly.{hornerEach, ofEach}
@@ -28,6 +29,14 @@ module _ (m c : ℕ) (r s : List ℕ) where
 
   pub hornerEach-at : Width m → (i : ℕ) → i < length r → i < length s → getD (hornerEach m c r s) i 0 ≡ mul m (getD r i 0) (getD s i 0) ⊕ c
   hornerEach-at w i h k = rw (hornerEach-width w) (eachWith-at (λ x y. mul m x y ⊕ c) r s i h k)
+
+-- a place that is not reached yet
+pub each-later : (f : ℕ → ℕ → ℕ) (d s : List ℕ) (i : ℕ) → getD (eachWith f d (take i s)) i 0 ≡ getD d i 0
+unfolding eachWith
+each-later f [] s i = refl
+each-later f (x ∷ d) s zero = refl
+each-later f (x ∷ d) [] (suc i) = refl
+each-later f (x ∷ d) (y ∷ s) (suc i) = each-later f d s i
 
 -- a function h of a list's numbers, followed by f with the same numbers
 module _ (h : ℕ → ℕ) where
@@ -58,6 +67,25 @@ module _ (h : ℕ → ℕ) where
   take-each n [] l = refl
   take-each zero (a ∷ s) l = absurd (not-suc-le-zero l)
   take-each (suc n) (a ∷ s) l = ap (_∷_ (h a)) (take-each n s (le-of-suc-le-suc l))
+
+-- the squares, and the products with a list that may go on
+each-self : (f : ℕ → ℕ → ℕ) (s : List ℕ) → eachWith f s s ≡ map (λ a. f a a) s
+unfolding eachWith
+each-self f [] = refl
+each-self f (a ∷ s) = ap (_∷_ (f a a)) (each-self f s)
+
+module _ (m : ℕ) (w : Width m) where
+  pub horner-self : (s : List ℕ) → hornerEach m 0 s s ≡ map (λ a. mul m a a) s
+  horner-self s = hornerEach-width m 0 s s w ∙ each-self (λ x y. mul m x y ⊕ 0) s ∙ ap (λ f. map f s) (fun-ext (λ a. xor-zero (mul m a a)))
+
+  pub horner-list : (h : ℕ → ℕ) (s t : List ℕ) → take (length s) t ≡ s → hornerEach m 0 (map h s) t ≡ map (λ a. mul m (h a) a) s
+  horner-list h s t e =
+      let n : length (map h s) ≡ length s = length-map s h in
+      hornerEach-width m 0 (map h s) t w
+      ∙ sym (eachWith-take (λ x y. mul m x y ⊕ 0) (map h s) t (length s) (λ k. omega arith))
+      ∙ ap (eachWith (λ x y. mul m x y ⊕ 0) (map h s)) e
+      ∙ each-map h (λ x y. mul m x y ⊕ 0) s
+      ∙ ap (λ f. map f s) (fun-ext (λ a. xor-zero (mul m (h a) a)))
 
 module _ (m : ℕ) (h : ℕ → ℕ) (s : List ℕ) where
   pub ofEach-none : isWidth m ≡ false → ofEach m h s ≡ replicate 8192 1

@@ -1,11 +1,15 @@
-// Products and inverses in GF(2^m) at each place of a list. The loop over places vectorises.
+// Products, squares and inverses in GF(2^m) at each place of a list. The loop over places vectorises.
+use field::Verdict;
 ghost use mathlib.Core.Path.{_≡_};
 ghost use mathlib.Core.Bool.{true};
-ghost use Prim.Native.Nat.{_*_, _%_, _<_};
-ghost use lib.ListN.{take};
+ghost use mathlib.Core.List.{map};
+ghost use Prim.Native.Nat.{_*_, _%_, _≤_, _<_};
+ghost use lib.ListN.{length, take};
 ghost use Rattle.bits.specs.Bits.{padded};
 ghost use Rattle.field.specs.Field.{isWidth, inv};
-ghost use Rattle.field.specs.Poly.{hornerEach, ofEach};
+ghost use Rattle.field.specs.Poly.{hornerEach};
+ghost use Rattle.field.specs.Verdicts.{verdictOf};
+ghost use Rattle.field.specs.Answers.{inverseNumber, inversesOf};
 ghost use Rattle.field.specs.PointTable.{multiplesOf, combination, combineEach};
 
 // One step of Horner's rule at each place, r[i] := r[i]·a[i] + c, as far as both go; nothing where m is no width.
@@ -24,23 +28,68 @@ pub fn horner_each(m: u8, r: &mut [u16], a: &[u16], c: u16)
     }
 }
 
-// 1/a for each a of v, of at most 8192, 0 for 0; 1 past them, and everywhere where m is no width. It is a^(2^m - 2), as
-// `field::inverse` has it: r is squared, then multiplied by v.
-pub fn inverse_each(m: u8, v: &[u16]) -> [u16; 8192]
-    ensures { λ r. ⌜ r ≡ ofEach m (inv m) (now (v .entry)) ⌝ }
+// v[i] := v[i]² at each place; nothing where m is no width.
+pub fn square_each(m: u8, v: &mut [u16])
+    ensures { λ _. ⌜ now (v .exit) ≡ hornerEach m 0 (now (v .entry)) (now (v .entry)) ⌝ }
 {
-    let n = bits::smaller(v.len(), 8192);
-    let mut r = [1u16; 8192];
-    let mut k = 1;
+    let f = field::modulus(m);
+    if f == 0 {
+        return;
+    }
+    let mut i = 0;
+    while i < v.len() {
+        v[i] = field::lane_product(m, f, v[i], v[i]);
+        i += 1;
+    }
+}
+
+// The numbers of v, with zeros behind them.
+fn block(v: &[u16]) -> [u16; 512]
+    requires { ⌜ length (now v) ≤ 512 ⌝ }
+    ensures { λ r. ⌜ r ≡ padded 512 (now (v .entry)) ⌝ }
+{
+    let mut a = [0u16; 512];
+    let mut i = 0;
+    while i < v.len() {
+        a[i] = v[i];
+        i += 1;
+    }
+    a
+}
+
+// a^(2^m - 2) for each a of v, as `field::inverse` has it.
+fn inverse_block(m: u8, v: &mut [u16])
+    requires { ⌜ (isWidth m ≡ true) × (length (now v) ≤ 512) ⌝ }
+    ensures { λ _. ⌜ now (v .exit) ≡ map (inv m) (now (v .entry)) ⌝ }
+{
+    let a = block(v);
+    square_each(m, v);
+    let mut k = 2;
     while k < m {
-        let s = r;
-        horner_each(m, &mut r, &s[..n], 0);
-        horner_each(m, &mut r, v, 0);
+        horner_each(m, v, &a, 0);
+        square_each(m, v);
         k += 1;
     }
-    let s = r;
-    horner_each(m, &mut r, &s[..n], 0);
-    r
+}
+
+// 1/a for each a of v, in blocks of 512 places; nothing on refusal, with 1 where m is no width or 32 where the m low digits
+// of some a are 0.
+pub fn inverse_each(m: u8, v: &mut [u16]) -> Verdict
+    ensures answer { λ r. ⌜ r ≡ verdictOf (inverseNumber m (now (v .entry))) ⌝ }
+    ensures output { λ _. ⌜ now (v .exit) ≡ inversesOf m (now (v .entry)) ⌝ }
+{
+    let x = field::check_units(m, v);
+    let Verdict::Accepted = x else {
+        return x;
+    };
+    let n = v.len();
+    let mut at = 0;
+    while at < n {
+        let e = at + bits::smaller(n - at, 512);
+        inverse_block(m, &mut v[at..e]);
+        at = e;
+    }
+    x
 }
 
 // v where d's lowest digit is 1, else 0.

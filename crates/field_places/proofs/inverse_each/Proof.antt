@@ -1,106 +1,99 @@
--- The loop's invariant: r is a^(2^(k-1) - 1) for each a of v. Assumes nothing.
-use mathlib.Core.Path.{_≡_, sym, ap, _∙_}
-use mathlib.Core.List.{List}
-use Prim.Native.Nat.{ℕ, _-_, _≤_, _<_}
+-- The loop's invariant: the first `at` places are done. Assumes nothing.
+use mathlib.Core.Path.{_≡_, refl, sym, ap, _∙_}
+use Prim.Native.Nat.{_+_, _-_, _≤_}
 use native.Mathlib.Omega.{arith}
 use borrow.Author.Needs.{needs}
-use lib.ListN.{length, take}
-use lib.Seq.{length-take-le}
-use Rattle.field.specs.Poly.{hornerEach, ofEach}
-use Rattle.field.proofs.Table.{Width, width-pos}
-use Rattle.field.proofs.Places.{length-hornerEach, length-ofEach, ofEach-square}
-use Rattle.field.proofs.Reciprocals.{partPower, inverses-start, inverses-next, inverses-last}
+use borrow.Rule.Slice.PartMut.{midOf, mid-len, same-len-mid}
+use lib.ListN.{length}
+use Rattle.field.specs.Field.{inv}
+use Rattle.field.proofs.Verdicts.{verdict-accepted, verdict-refused}
+use Rattle.field.proofs.Units.{accepted-width, inverses-made, inverses-kept}
+use Rattle.field_places.proofs.Blocks.{mappedTo, mapped-start, mapped-next, mapped-all}
 use Rattle.field_places.proofs.inverse_each.Statement.{statement}
 use Rattle.field_places.proofs.inverse_each.Tie as tie
 
 abbrev Inv-loop : tie.InvT-loop
-Inv-loop m v n r₀ k₀ r k = (0 < k) × (Width m → k ≤ m) × (r ≡ ofEach m (partPower m k) v)
+Inv-loop m v₀ x n at₀ v at = (at ≤ n) × (length v ≡ n) × (v ≡ mappedTo (inv m) v₀ at)
 
 abbrev μ-loop : tie.MeasureT-loop
-μ-loop m v n r₀ k₀ r k = m - k
+μ-loop m v₀ x n at₀ v at = n - at
+
+check-units-requires : tie.Need-check-units-requires Inv-loop μ-loop
+check-units-requires c κs = search needs
+
+enum-told : tie.Need-enum-told Inv-loop μ-loop
+enum-told c = search needs
+
+enum-told-2 : tie.Need-enum-told-2 Inv-loop μ-loop
+enum-told-2 c = search needs
+
+same-length : tie.Need-same-length Inv-loop μ-loop
+same-length c = search needs
+
+returns : tie.Need-returns Inv-loop μ-loop
+returns c =
+    let e = c .before .before .check-units .ensures in
+    (e, inverses-kept _ _ (verdict-refused _ e (c .enum-told2 .given .1)))
+
+loop-holds : tie.Need-loop-holds Inv-loop μ-loop
+loop-holds c = (omega arith, refl, mapped-start (inv _) _)
+
+sub-smaller : tie.Need-sub-smaller Inv-loop μ-loop
+sub-smaller c = omega arith
 
 smaller-requires : tie.Need-smaller-requires Inv-loop μ-loop
 smaller-requires c κs = search needs
 
-loop-holds : tie.Need-loop-holds Inv-loop μ-loop
-loop-holds c =
-    let a = c .before .before .args in (omega arith, width-pos _, inverses-start (a .m) (a .v .now))
+add-e : tie.Need-add-e Inv-loop μ-loop
+add-e c = omega arith
 
-slice-aggregate-horner-each : tie.Need-slice-aggregate-horner-each Inv-loop μ-loop
-slice-aggregate-horner-each c = sym (ap length (c .before .before .loop .inv .2) ∙ length-ofEach _ _ _)
+mul-inverse-block : tie.Need-mul-inverse-block Inv-loop μ-loop
+mul-inverse-block c = omega arith
 
-array-share-prefix-s : tie.Need-array-share-prefix-s Inv-loop μ-loop
-array-share-prefix-s c =
-    let e : length (c .before .before .loop .r) ≡ 8192 = ap length (c .before .before .loop .inv .2) ∙ length-ofEach _ _ _ in
-    omega arith
+sub-inverse-block : tie.Need-sub-inverse-block Inv-loop μ-loop
+sub-inverse-block c = omega arith
 
-slice-aggregate-horner-each-2 : tie.Need-slice-aggregate-horner-each-2 Inv-loop μ-loop
-slice-aggregate-horner-each-2 c =
-    let e : length (c .before .before .before .loop .r) ≡ 8192 = ap length (c .before .before .before .loop .inv .2) ∙ length-ofEach _ _ _ in
-    sym (length-take-le _ _ (omega arith))
+part-inverse-block-start : tie.Need-part-inverse-block-start Inv-loop μ-loop
+part-inverse-block-start c = omega arith
 
-horner-each-requires : tie.Need-horner-each-requires Inv-loop μ-loop
-horner-each-requires c κs = tt
+part-inverse-block-end : tie.Need-part-inverse-block-end Inv-loop μ-loop
+part-inverse-block-end c = omega arith
 
-slice-aggregate-horner-each-3 : tie.Need-slice-aggregate-horner-each-3 Inv-loop μ-loop
-slice-aggregate-horner-each-3 c =
-    let l = c .before .before .before .before .before .before .loop in
-    sym (ap length (c .before .before .horner-each .ensures) ∙ length-hornerEach _ _ _ _ ∙ ap length (l .inv .2) ∙ length-ofEach _ _ _)
-
-horner-each-requires-2 : tie.Need-horner-each-requires-2 Inv-loop μ-loop
-horner-each-requires-2 c κs = tt
-
-add-k : tie.Need-add-k Inv-loop μ-loop
-add-k c = omega arith
+inverse-block-requires : tie.Need-inverse-block-requires Inv-loop μ-loop
+inverse-block-requires c κs =
+    let l = c .before .before .before .loop in
+    let u = c .before .before .before .before in
+    let q = c .before .smaller .result in
+    let w = accepted-width _ _ (verdict-accepted _ (u .before .before .check-units .ensures) (u .enum-told .given .1)) in
+    let k : length (midOf (l .at) (l .at + q - l .at) (l .v)) ≡ l .at + q - l .at = mid-len (l .at) (l .at + q) (l .v) (omega arith) in
+    (w, omega arith)
 
 loop-less : tie.Need-loop-less Inv-loop μ-loop
 loop-less c = omega arith
 
 loop-again : tie.Need-loop-again Inv-loop μ-loop
 loop-again c =
-    let b = c .before .before .before .before .before .before .before .before in
-    let l = b .loop in
-    let a = b .before .before .before .args in
-    let v : List ℕ = a .v .now in
-    let n : ℕ = b .before .smaller .result in
-    let h : ℕ → ℕ = partPower (a .m) (l .k) in (
+    let l = c .before .before .before .before .before .before .loop in
+    let u = c .before .before .before .before .before .before .before in
+    let a = u .before .before .before .before .before .args in
+    let h = c .before .before .inverse-block in
+    let q = c .before .before .before .before .smaller .result in (
       omega arith,
-      (λ w. omega arith),
-      c .before .horner-each2 .ensures
-          ∙ ap (λ (r : List ℕ). hornerEach (a .m) 0 r v)
-          (c .before .before .before .before .horner-each .ensures
-          ∙ ap (λ (r : List ℕ). hornerEach (a .m) 0 r (take n r)) (l .inv .2)
-          ∙ ofEach-square (a .m) h v n (omega arith) (λ k. omega arith))
-          ∙ inverses-next (a .m) v (l .k) (l .inv .0),
+      same-len-mid (l .at) (l .at + q - l .at) (l .v) (h .last .1 .0) (h .kept .1 .0) ∙ l .inv .1,
+      mapped-next (inv (a .m)) (a .v .now) (l .at) (omega arith) (l .v) (l .inv .2) (l .at + q) (omega arith) (h .last .1 .0) (h .ensures),
     )
 
-slice-aggregate-horner-each-4 : tie.Need-slice-aggregate-horner-each-4 Inv-loop μ-loop
-slice-aggregate-horner-each-4 c = sym (ap length (c .before .before .loop .inv .2) ∙ length-ofEach _ _ _)
+same-length-2 : tie.Need-same-length-2 Inv-loop μ-loop
+same-length-2 c = c .before .loop .inv .1
 
-array-share-prefix-s-2 : tie.Need-array-share-prefix-s-2 Inv-loop μ-loop
-array-share-prefix-s-2 c =
-    let e : length (c .before .before .loop .r) ≡ 8192 = ap length (c .before .before .loop .inv .2) ∙ length-ofEach _ _ _ in
-    omega arith
-
-slice-aggregate-horner-each-5 : tie.Need-slice-aggregate-horner-each-5 Inv-loop μ-loop
-slice-aggregate-horner-each-5 c =
-    let e : length (c .before .before .before .loop .r) ≡ 8192 = ap length (c .before .before .before .loop .inv .2) ∙ length-ofEach _ _ _ in
-    sym (length-take-le _ _ (omega arith))
-
-horner-each-requires-3 : tie.Need-horner-each-requires-3 Inv-loop μ-loop
-horner-each-requires-3 c κs = tt
-
-returns : tie.Need-returns Inv-loop μ-loop
-returns c =
-    let b = c .before .before .before .before .before in
-    let l = b .loop in
-    let a = b .before .before .before .args in
-    let v : List ℕ = a .v .now in
-    let n : ℕ = b .before .smaller .result in
-    c .before .horner-each3 .ensures
-    ∙ ap (λ (r : List ℕ). hornerEach (a .m) 0 r (take n r)) (l .inv .2)
-    ∙ ofEach-square (a .m) (partPower (a .m) (l .k)) v n (omega arith) (λ k. omega arith)
-    ∙ inverses-last (a .m) v (l .k) (l .inv .0) (λ w. let k : l .k ≤ a .m = l .inv .1 w in omega arith)
+returns-2 : tie.Need-returns-2 Inv-loop μ-loop
+returns-2 c =
+    let l = c .before .loop in
+    let u = c .before .before in
+    let a = u .before .before .before .before .before .args in
+    let e = u .before .before .check-units .ensures in
+    let z = verdict-accepted _ e (u .enum-told .given .1) in
+    (e, inverses-made _ _ z (l .inv .2 ∙ mapped-all (inv (a .m)) (a .v .now) (l .at) (omega arith)))
 
 pub inverse-each-spec : {M : Type 1} → statement M
 inverse-each-spec =
@@ -108,19 +101,21 @@ inverse-each-spec =
     (tie.spec
     Inv-loop
     μ-loop
-    smaller-requires
+    check-units-requires
+    enum-told
+    enum-told-2
+    same-length
+    returns
     loop-holds
-    slice-aggregate-horner-each
-    array-share-prefix-s
-    slice-aggregate-horner-each-2
-    horner-each-requires
-    slice-aggregate-horner-each-3
-    horner-each-requires-2
-    add-k
+    sub-smaller
+    smaller-requires
+    add-e
+    mul-inverse-block
+    sub-inverse-block
+    part-inverse-block-start
+    part-inverse-block-end
+    inverse-block-requires
     loop-less
     loop-again
-    slice-aggregate-horner-each-4
-    array-share-prefix-s-2
-    slice-aggregate-horner-each-5
-    horner-each-requires-3
-    returns)
+    same-length-2
+    returns-2)

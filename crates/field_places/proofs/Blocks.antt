@@ -1,0 +1,45 @@
+-- A function at each place of a list, block after block in place. Assumes nothing.
+use mathlib.Core.Path.{_≡_, refl, sym, ap, ap₂, _∙_}
+use mathlib.Core.List.{List, [], _∷_, _++_, map, map-append, append-assoc, append-nil}
+use Prim.Native.Nat.{ℕ, _+_, _-_, _≤_}
+use native.Mathlib.Omega.{arith}
+use lib.ListN.{length, take, drop, length-map, drop-of-length-le}
+use lib.Seq.{length-take-le, take-all, take-add, take-at, drop-at, drop-drop}
+use borrow.Rule.Slice.PartMut.{midOf, putMid}
+
+module _ (h : ℕ → ℕ) (s : List ℕ) where
+  -- the first `at` places are done
+  unfoldable pub mappedTo : ℕ → List ℕ
+  mappedTo at = map h (take at s) ++ drop at s
+
+  pub mapped-start : s ≡ mappedTo 0
+  unfolding mappedTo
+  mapped-start = refl
+
+  pub mapped-all : (at : ℕ) → length s ≤ at → mappedTo at ≡ map h s
+  unfolding mappedTo
+  mapped-all at l = ap₂ (λ (x y : List ℕ). map h x ++ y) (take-all at s l) (drop-of-length-le s l) ∙ append-nil (map h s)
+
+  module _ (at : ℕ) (l : at ≤ length s) (v : List ℕ) (ev : v ≡ mappedTo at) where
+    done : length (map h (take at s)) ≡ at
+    done = length-map (take at s) h ∙ length-take-le at s l
+
+    before : take at v ≡ map h (take at s)
+    unfolding mappedTo
+    before = ap (take at) ev ∙ take-at (map h (take at s)) (drop at s) at done
+
+    pub behind : drop at v ≡ drop at s
+    unfolding mappedTo
+    behind = ap (drop at) ev ∙ drop-at (map h (take at s)) (drop at s) at done
+
+    pub mapped-next : (e : ℕ) → at ≤ e → (y : List ℕ) → y ≡ map h (midOf at (e - at) v) → putMid at (e - at) v y ≡ mappedTo e
+    unfolding mappedTo
+    mapped-next e i y ey =
+        let k : at + (e - at) ≡ e = omega arith in
+        let x : List ℕ = take (e - at) (drop at s) in
+        let z : List ℕ = drop (e - at) (drop at s) in
+        ap₂ (λ (b r : List ℕ). b ++ (r ++ drop (e - at) (drop at v))) before (ey ∙ ap (λ (d : List ℕ). map h (take (e - at) d)) behind)
+        ∙ ap (λ (d : List ℕ). map h (take at s) ++ (map h x ++ drop (e - at) d)) behind
+        ∙ sym (append-assoc (map h (take at s)) (map h x) z)
+        ∙ ap₂ _++_ (sym (map-append h (take at s) x) ∙ ap (map h) (sym (take-add at (e - at) s) ∙ ap (λ (n : ℕ). take n s) k))
+        (drop-drop (e - at) at s ∙ ap (λ (n : ℕ). drop n s) k)
