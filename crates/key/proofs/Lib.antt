@@ -7,6 +7,7 @@ pub mod Parse
 pub mod Accepted
 pub mod Parts
 pub mod Goppa
+pub mod Units
 pub mod Scan
 pub mod Seen
 pub mod Values
