@@ -4,8 +4,8 @@ ghost use mathlib.Core.Bool.{true};
 ghost use mathlib.Core.List.{map};
 ghost use Prim.Native.Nat.{_+_, _*_, _<_, _≤_};
 ghost use lib.ListN.{length};
-ghost use Rattle.bits.specs.Bits.{padded};
-ghost use Rattle.field.specs.Field.{isWidth, mul};
+ghost use Rattle.bits.specs.Bits.{every, padded};
+ghost use Rattle.field.specs.Field.{isWidth, isElement, mul};
 ghost use Rattle.euclid.specs.Euclid.{
   size as sizeOf,
   started,
@@ -142,7 +142,7 @@ fn add_shifted(
 // One step: b's top coefficient is 0 and is left out; or a has fewer coefficients than b, and they change places; or a loses
 // its top coefficient.
 fn step(m: u8, p: Pair) -> Pair
-    requires { ⌜ (isWidth m ≡ true) × (0 < p .db) × (p .da ≤ 129) × (p .db ≤ 129) ⌝ }
+    requires { ⌜ (isWidth m ≡ true) × (0 < p .db) × (p .da ≤ 129) × (p .db ≤ 129) × (every (isElement m) (p .b) ≡ true) ⌝ }
     ensures { λ r. ⌜ r ≡ stepOf m p ⌝ }
 {
     let a = p.a;
@@ -178,7 +178,7 @@ fn step(m: u8, p: Pair) -> Pair
 
 // Steps until b has no coefficient.
 fn steps(m: u8, p: Pair) -> Pair
-    requires { ⌜ (isWidth m ≡ true) × (p .da ≤ 129) × (p .db ≤ 129) ⌝ }
+    requires { ⌜ (isWidth m ≡ true) × (p .da ≤ 129) × (p .db ≤ 129) × (every (isElement m) (p .a) ≡ true) × (every (isElement m) (p .b) ≡ true) ⌝ }
     ensures { λ r. ⌜ r ≡ stepsOf m (p .da + 2 * p .db) p ⌝ }
 {
     let mut q = p;
