@@ -1,16 +1,19 @@
--- The coefficients are elements before the first step and after each. Assumes nothing.
+-- The coefficients are elements before the first step and after each, so what a step divides by has an inverse. Assumes nothing.
 use mathlib.Core.Path.{_≡_}
 use mathlib.Core.Bool.{true}
 use mathlib.Core.List.{List}
 use Prim.Native.Nat.{ℕ, _-_}
+use lib.ListN.{getD}
 use Rattle.bits.specs.Bits.{every, padded}
 use Rattle.field.specs.Field.{isElement}
+use Rattle.field.specs.Answers.{isUnit}
+use Rattle.field.proofs.Units.{element-unit}
 use Rattle.field.proofs.Arrays.{every-elements, elements-every}
 use Rattle.euclid.specs.declared.common.Pair.{Pair}
 use Rattle.euclid.specs.Euclid.{started, quotient, reduced, step, accepted}
 use Rattle.euclid.proofs.Coefficients.{padded-elements, added-elements}
 use Rattle.euclid.proofs.Answers.{accepted-parts}
-use Rattle.euclid.proofs.Steps.{by-step}
+use Rattle.euclid.proofs.Steps.{Low, by-step}
 
 -- the coefficients of both polynomials are elements
 abbrev pub OfElements : ℕ → Pair → Type 0
@@ -32,3 +35,7 @@ module _ (m : ℕ) where
     where
       reduced-a : every (isElement m) (reduced m p .a) ≡ true
       reduced-a = elements-every m _ (added-elements m (quotient m p) (p .da - p .db) (p .da) (p .a) (p .b) (every-elements m (p .a) (e .0)))
+
+-- the divisor of a step
+pub leading-unit : (m : ℕ) (p : Pair) → every (isElement m) (p .b) ≡ true → ¬ Low p → isUnit m (getD (p .b) (p .db - 1) 0) ≡ true
+leading-unit m p e n = element-unit m _ (every-elements m (p .b) e (p .db - 1)) n

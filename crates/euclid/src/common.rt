@@ -1,4 +1,5 @@
 // A greatest common divisor of two polynomials: Euclid's algorithm.
+use field::Answer;
 ghost use mathlib.Core.Path.{_≡_};
 ghost use mathlib.Core.Bool.{true};
 ghost use mathlib.Core.List.{map};
@@ -166,10 +167,15 @@ fn step(m: u8, p: Pair) -> Pair
             db: da,
         };
     }
-    let c = field::times(m, a[da - 1], field::inverse(m, top));
-    let r = add_shifted(da - db, da, a, multiple(m, c, b));
+    let lead = a[da - 1];
+    let i = field::inverse(m, top);
+    // Not refused: an element other than 0.
+    let Answer::Value(v) = i else {
+        return p;
+    };
+    let c = field::times(m, lead, v);
     Pair {
-        a: r,
+        a: add_shifted(da - db, da, a, multiple(m, c, b)),
         b,
         da: da - 1,
         db,
