@@ -17,7 +17,7 @@ use Rattle.bits.specs.Xor.{_⊕_}
 use Rattle.bits.specs.Bits.{from, eachWith, xorRow, padded}
 use Rattle.bits.proofs.Xor.{xor-zero, xor-lt}
 use Rattle.bits.proofs.Lists.{cons-eq, length-map-from, from-add, map-append, take-below, map-from-at, map-from-past}
-use Rattle.bits.proofs.Rows.{xorRow-zeros, xorRow-suc, length-xorRow, getD-xorRow}
+use Rattle.bits.proofs.Rows.{xorRow-zeros, xorRow-suc, length-xorRow}
 use Rattle.algebra.proofs.Ring.{add-pair}
 use Rattle.algebra.proofs.Series.{Operations, operations, shift, shift-mul}
 use Rattle.algebra.proofs.Derivative.{D}
@@ -160,6 +160,17 @@ terms-elements m c zero b k = products-elements m c b k
 terms-elements m c (suc y) b zero = pow-pos m
 terms-elements m c (suc y) b (suc k) = terms-elements m c y b k
 
+sum-elements : (m : ℕ) (a b : List ℕ) → Elements m a → Elements m b → Elements m (xorRow a b)
+unfolding xorRow eachWith
+sum-elements m [] b e f k = pow-pos m
+sum-elements m (x ∷ a) [] e f k = e k
+sum-elements m (x ∷ a) (y ∷ b) e f zero = xor-lt m (e 0) (f 0)
+sum-elements m (x ∷ a) (y ∷ b) e f (suc k) = sum-elements m a b (λ i. e (suc i)) (λ i. f (suc i)) k
+
+pub added-elements : (m c y n : ℕ) (a b : List ℕ) → Elements m a → Elements m (added y n a (map (mul m c) b))
+unfolding added
+added-elements m c y n a b e = let s : List ℕ = replicate y 0 ++ map (mul m c) b in sum-elements m a (take n s) e (take-below (2 ^ m) n s (terms-elements m c y b))
+
 module _ (m : ℕ) (W : Width m) where
   open Operations (operations (laws m W)) using (_⊞_, _⊠_, C)
 
@@ -202,10 +213,6 @@ module _ (m : ℕ) (W : Width m) where
 
     short : length (take n terms) ≤ length a
     short = omega (arith, length-take n terms, min-le-left n (length terms))
-
-    pub added-elements : Elements m a → Elements m (added y n a (map (mul m c) b))
-    unfolding added terms
-    added-elements e k = rw (getD-xorRow a (take n terms) k short) (xor-lt m (e k) (take-below (2 ^ m) n terms (terms-elements m c y b) k))
 
     terms-poly : poly m terms ≡ shift (laws m W) y (C (val m c)) ⊠ poly m b
     unfolding terms

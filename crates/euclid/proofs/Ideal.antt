@@ -183,7 +183,7 @@ module _ (m : ℕ) (W : Width m) (P Q : Series (Elem m)) where
       side-a = record {
         places = length-added y (p .da) (p .a) _ ∙ k .side-a .places;
         fit = omega (arith, k .side-a .fit);
-        elements = added-elements m W (quotient m p) y (p .da) (p .a) (p .b) fit (k .side-a .elements);
+        elements = added-elements m (quotient m p) y (p .da) (p .a) (p .b) (k .side-a .elements);
         below = subst (Below L (p .da - 1)) (sym sum) sum-below;
       };
       side-b = k .side-b;

@@ -4,5 +4,6 @@ pub mod Coefficients
 pub mod Answers
 pub mod Combination
 pub mod Steps
+pub mod Elements
 pub mod Ideal
 pub mod Squares

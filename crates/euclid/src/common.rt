@@ -1,11 +1,12 @@
 // A greatest common divisor of two polynomials: Euclid's algorithm.
+use field::Answer;
 ghost use mathlib.Core.Path.{_≡_};
 ghost use mathlib.Core.Bool.{true};
 ghost use mathlib.Core.List.{map};
 ghost use Prim.Native.Nat.{_+_, _*_, _<_, _≤_};
 ghost use lib.ListN.{length};
-ghost use Rattle.bits.specs.Bits.{padded};
-ghost use Rattle.field.specs.Field.{isWidth, mul};
+ghost use Rattle.bits.specs.Bits.{every, padded};
+ghost use Rattle.field.specs.Field.{isWidth, isElement, mul};
 ghost use Rattle.euclid.specs.Euclid.{
   size as sizeOf,
   started,
@@ -142,7 +143,7 @@ fn add_shifted(
 // One step: b's top coefficient is 0 and is left out; or a has fewer coefficients than b, and they change places; or a loses
 // its top coefficient.
 fn step(m: u8, p: Pair) -> Pair
-    requires { ⌜ (isWidth m ≡ true) × (0 < p .db) × (p .da ≤ 129) × (p .db ≤ 129) ⌝ }
+    requires { ⌜ (isWidth m ≡ true) × (0 < p .db) × (p .da ≤ 129) × (p .db ≤ 129) × (every (isElement m) (p .b) ≡ true) ⌝ }
     ensures { λ r. ⌜ r ≡ stepOf m p ⌝ }
 {
     let a = p.a;
@@ -166,10 +167,15 @@ fn step(m: u8, p: Pair) -> Pair
             db: da,
         };
     }
-    let c = field::times(m, a[da - 1], field::inverse(m, top));
-    let r = add_shifted(da - db, da, a, multiple(m, c, b));
+    let lead = a[da - 1];
+    let i = field::inverse(m, top);
+    // Not refused: an element other than 0.
+    let Answer::Value(v) = i else {
+        return p;
+    };
+    let c = field::times(m, lead, v);
     Pair {
-        a: r,
+        a: add_shifted(da - db, da, a, multiple(m, c, b)),
         b,
         da: da - 1,
         db,
@@ -178,7 +184,7 @@ fn step(m: u8, p: Pair) -> Pair
 
 // Steps until b has no coefficient.
 fn steps(m: u8, p: Pair) -> Pair
-    requires { ⌜ (isWidth m ≡ true) × (p .da ≤ 129) × (p .db ≤ 129) ⌝ }
+    requires { ⌜ (isWidth m ≡ true) × (p .da ≤ 129) × (p .db ≤ 129) × (every (isElement m) (p .a) ≡ true) × (every (isElement m) (p .b) ≡ true) ⌝ }
     ensures { λ r. ⌜ r ≡ stepsOf m (p .da + 2 * p .db) p ⌝ }
 {
     let mut q = p;

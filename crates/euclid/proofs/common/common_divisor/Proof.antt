@@ -6,6 +6,7 @@ use Rattle.euclid.specs.declared.common.Pair.{Pair}
 use Rattle.euclid.specs.Euclid.{started, steps}
 use Rattle.euclid.proofs.Size.{started-fit}
 use Rattle.euclid.proofs.Answers.{accepted-parts, divisor-not-a, divisor-not-b, divisor-found}
+use Rattle.euclid.proofs.Elements.{OfElements, started-elements}
 use Rattle.euclid.proofs.common.common_divisor.Statement.{statement}
 use Rattle.euclid.proofs.common.common_divisor.Tie as tie
 
@@ -34,10 +35,14 @@ steps-requires : tie.Need-steps-requires
 steps-requires c κs =
     let j = c .before in
     let i = j .before .before in
-    let a = accepted-parts _ _ (sym (i .before .accepted .ensures) ∙ not-false _ (i .if1 .left)) in
-    let b = accepted-parts _ _ (sym (j .before .accepted2 .ensures) ∙ not-false _ (j .if2 .left)) in
-    let f = subst (λ (p : Pair). (p .da ≤ 129) × (p .db ≤ 129)) (sym (c .start .ensures)) (started-fit _ _ (a .1) (b .1)) in
-    (a .0, f .0, f .1)
+    let ea = sym (i .before .accepted .ensures) ∙ not-false _ (i .if1 .left) in
+    let eb = sym (j .before .accepted2 .ensures) ∙ not-false _ (j .if2 .left) in
+    let a = accepted-parts _ _ ea in
+    let m = i .before .before .before .before .args .m in
+    let f = started-fit _ _ (a .1) (accepted-parts _ _ eb .1) in
+    let e = started-elements m _ _ ea eb in
+    let g = subst (λ (p : Pair). ((p .da ≤ 129) × (p .db ≤ 129)) × OfElements m p) (sym (c .start .ensures)) (f, e) in
+    (a .0, g .0 .0, g .0 .1, g .1 .0, g .1 .1)
 
 returns-3 : tie.Need-returns-3
 unfolding started
