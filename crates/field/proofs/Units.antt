@@ -3,21 +3,21 @@ use mathlib.Core.Path.{_≡_, refl, sym, ap, _∙_}
 use mathlib.Core.Bool.{Bool, true, false, not, cond}
 use mathlib.Core.List.{List, [], _∷_, map}
 use Prim.Native.Nat.{ℕ, zero, suc, _%_, _^_, _<_}
-use native.Mathlib.Nat.{mod-eq-of-lt}
+use native.Mathlib.Nat.{mod-eq-of-lt, pos-of-ne-zero}
 use native.Mathlib.Omega.{arith}
-use borrow.Author.Tests.{eqb-true, eqb-false, eq-eqb, ne-eqb, not-true, not-false}
-use lib.Dec.{eqb}
+use borrow.Author.Tests.{eqb-true, eqb-false, eq-eqb, ne-eqb, ltb-true, not-true, not-false}
+use lib.Dec.{eqb, ltb}
 use Rattle.bits.specs.Bits.{every}
-use Rattle.field.specs.Field.{isWidth, mul, inv}
+use Rattle.field.specs.Field.{isWidth, isElement, mul, inv}
 use Rattle.field.specs.Numbers.{firstOf}
 use Rattle.field.specs.Verdicts.{verdictOf}
-use Rattle.field.specs.Answers.{answer, isUnit, inverseNumber, inverseOf, inversesOf}
+use Rattle.field.specs.Answers.{answer, isUnit, inverseNumber, inverseOf, inversesOf, invertNumber, invertOf}
 use Rattle.field.specs.declared.Answer.{Answer}
 use Rattle.field.specs.declared.Answer.the-variants.{Value, Refused}
 use Rattle.field.specs.declared.Verdict.{Verdict}
 use Rattle.field.specs.declared.Verdict.the-variants as verdicts
 use Rattle.field.proofs.Table.{Width}
-use Rattle.field.proofs.Laws.{mul-low, zero-mul, mul-inv-low}
+use Rattle.field.proofs.Laws.{mul-low, zero-mul, mul-inv, mul-inv-low, inv-unique}
 use Rattle.field.proofs.Verdicts.{verdict-refused}
 
 module _ (m a : ℕ) where
@@ -104,3 +104,47 @@ module _ (m a : ℕ) {r : Answer} {x : ℕ} where
       go : (q : ℕ) → q ≡ 0 → Refused x ≡ answer q (inv m a) → ⊥
       go zero z k = let d : _≡_ {A = ℕ} 0 1 = cc in omega arith
       go (suc q) z k = omega arith
+
+-- the public inverse: the value is the only element whose product with a is 1, and 32 says that there is none
+module _ (m a : ℕ) where
+  -- what a value says of the three conditions
+  record Inverted (x : ℕ) : Type 0 where
+    width : Width m
+    element : a < 2 ^ m
+    nonzero : a ≡ 0 → ⊥
+    value : x ≡ inv m a
+
+  inverted : {x : ℕ} → invertOf m a ≡ Value x → Inverted x
+  unfolding invertOf invertNumber firstOf isElement answer
+  inverted {x} = go (isWidth m) (ltb a (2 ^ m)) (eqb a 0) refl refl refl
+    where
+      other : {n v : ℕ} → Refused n ≡ Value v → ⊥
+      other e = let d : _≡_ {A = ℕ} 0 1 = cc in omega arith
+
+      go : (w e z : Bool) → isWidth m ≡ w → ltb a (2 ^ m) ≡ e → eqb a 0 ≡ z
+          → answer (firstOf ((not w, 1) ∷ (not e, 4) ∷ (z, 32) ∷ [])) (inv m a) ≡ Value x → Inverted x
+      go false e z p q r h = absurd (other h)
+      go true false z p q r h = absurd (other h)
+      go true true true p q r h = absurd (other h)
+      go true true false p q r h = record { width = p; element = ltb-true a (2 ^ m) q; nonzero = eqb-false a 0 r; value = cc }
+
+  pub invert-product : {x : ℕ} → invertOf m a ≡ Value x → mul m a x ≡ 1
+  invert-product h = let i = inverted h in ap (mul m a) (i .value) ∙ mul-inv m (i .width) (i .element) (pos-of-ne-zero (i .nonzero))
+
+  pub invert-only : {x : ℕ} → invertOf m a ≡ Value x → (b : ℕ) → b < 2 ^ m → mul m a b ≡ 1 → b ≡ x
+  invert-only h b l e = let i = inverted h in inv-unique m a b l e ∙ sym (i .value)
+
+  pub invert-none : invertOf m a ≡ Refused 32 → (b : ℕ) → mul m a b ≡ 1 → ⊥
+  unfolding invertOf invertNumber firstOf answer
+  invert-none = go (isWidth m) (isElement m a) (eqb a 0) refl
+    where
+      refusal : {n v : ℕ} → Refused n ≡ Refused v → n ≡ v
+      refusal e = cc
+
+      go : (w e z : Bool) → eqb a 0 ≡ z → answer (firstOf ((not w, 1) ∷ (not e, 4) ∷ (z, 32) ∷ [])) (inv m a) ≡ Refused 32
+          → (b : ℕ) → mul m a b ≡ 1 → ⊥
+      go false e z r h b k = let d = refusal h in omega arith
+      go true false z r h b k = let d = refusal h in omega arith
+      go true true true r h b k =
+          let o : mul m a b ≡ 0 = ap (λ (x : ℕ). mul m x b) (eqb-true a 0 r) ∙ zero-mul m b in omega arith
+      go true true false r h b k = let d : _≡_ {A = ℕ} 0 1 = cc in omega arith
