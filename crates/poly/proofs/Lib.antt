@@ -2,6 +2,7 @@ pub mod Examples
 pub mod Laws
 pub mod AtPoints
 pub mod Steps
+pub mod Units
 pub mod Answers
 pub mod RegisterLaws
 pub mod Product

@@ -1,23 +1,24 @@
 -- The entries α^i / g(α) at all places, from one i to the next, and the rows of H that their digits are. Assumes nothing.
 use mathlib.Core.Path.{_≡_, sym, ap, ap₂, _∙_, fun-ext}
+use mathlib.Core.Bool.{true}
 use mathlib.Core.List.{List, _++_, map, map-map, map-append}
 use Prim.Native.Nat.{ℕ, _+_, _*_, _/_, _%_, _^_, _≤_}
 use native.Mathlib.Nat.{zero-add, zero-mul, mul-comm}
 use native.Mathlib.Numerals.{add-one}
-use native.Mathlib.Omega.{arith}
-use lib.ListN.{length, take, length-map}
+use lib.ListN.{length, take}
 use Rattle.bits.specs.Xor.{_⊕_}
-use Rattle.bits.specs.Bits.{from, eachWith}
+use Rattle.bits.specs.Bits.{from, every, eachWith}
 use Rattle.bits.proofs.Xor.{xor-zero}
 use Rattle.bits.proofs.Lists.{from-add, map-from}
 use Rattle.bits.proofs.Each.{take-eachWith}
 use Rattle.field.specs.Field.{mul, power, inv}
-use Rattle.field.specs.Poly.{value, hornerEach, ofEach}
+use Rattle.field.specs.Answers.{isUnit}
+use Rattle.field.specs.Poly.{hornerEach}
 use Rattle.field.proofs.Table.{Width}
 use Rattle.field.proofs.Laws.{mul-assoc, one-mul, power-zero, power-suc, inv-lt}
 use Rattle.field.proofs.Laws as field
-use Rattle.field.proofs.Places.{hornerEach-width, each-map, take-ofEach}
-use Rattle.poly.specs.Polynomials.{monic, valuesAt}
+use Rattle.field.proofs.Places.{hornerEach-width, each-map}
+use Rattle.poly.specs.Polynomials.{valuesAt}
 use Rattle.poly.proofs.AtPoints.{take-values}
 use Rattle.key.specs.Keys.{Key, goppaAt, keyOf}
 use Rattle.code.specs.Code.{entry, parityRow, parityRows}
@@ -42,15 +43,20 @@ module _ (k : Key) where
       ∙ ap (λ (x : ℕ). mul m x v) (sym (power-suc m a i) ∙ ap (power m a) (sym (add-one i)))
 
 module _ (m : ℕ) (w : Width m) (s g : List ℕ) where
-  -- 1/g(α) at all places, and the next power of α
-  pub entries-start : length s ≤ 8192 → take (length s) (ofEach m (inv m) (take (length s) (valuesAt m g s))) ≡ map (entry (keyOf m s g) 0) s
+  -- g at all places
+  values-goppa : length s ≤ 8192 → take (length s) (valuesAt m g s) ≡ map (goppaAt (keyOf m s g)) s
   unfolding keyOf goppaAt
+  values-goppa l = take-values m w g s l
+
+  pub values-units : length s ≤ 8192 → every (isUnit m) (map (goppaAt (keyOf m s g)) s) ≡ true → every (isUnit m) (take (length s) (valuesAt m g s)) ≡ true
+  values-units l u = rw (values-goppa l) u
+
+  -- 1/g(α) at all places, and the next power of α
+  pub entries-start : length s ≤ 8192 → map (inv m) (take (length s) (valuesAt m g s)) ≡ map (entry (keyOf m s g) 0) s
+  unfolding keyOf
   entries-start l =
-      let u : List ℕ = map (value m (monic g)) s in
-      let e : length u ≡ length s = length-map s (value m (monic g)) in
-      ap₂ (λ (n : ℕ) (v : List ℕ). take n (ofEach m (inv m) v)) (sym e) (take-values m w g s l)
-      ∙ take-ofEach m (inv m) u w (omega arith)
-      ∙ map-map (inv m) (value m (monic g)) s
+      ap (map (inv m)) (values-goppa l)
+      ∙ map-map (inv m) (goppaAt (keyOf m s g)) s
       ∙ ap (λ f. map f s) (fun-ext (entry-zero (keyOf m s g) w))
 
   pub entries-next : (i : ℕ) (p : List ℕ) → take (length s) p ≡ map (entry (keyOf m s g) i) s

@@ -1,12 +1,15 @@
 // Rows of H in a lent workspace.
+use field::Verdict;
 use key::kept::Key;
 ghost use mathlib.Core.Path.{_≡_};
 ghost use mathlib.Core.Bool.{true};
+ghost use mathlib.Core.List.{map};
 ghost use Prim.Native.Nat.{_*_, _≤_, _<_};
 ghost use lib.ListN.{length, take, drop};
-ghost use Rattle.bits.specs.Bits.{bytesFor, putBits};
+ghost use Rattle.bits.specs.Bits.{every, bytesFor, putBits};
 ghost use Rattle.field.specs.Field.{isWidth};
-ghost use Rattle.key.specs.Keys.{keyOf};
+ghost use Rattle.field.specs.Answers.{isUnit};
+ghost use Rattle.key.specs.Keys.{keyOf, goppaAt, keyNumber};
 ghost use Rattle.code.specs.Code.{parityRows};
 ghost use Rattle.code.specs.Lock.{rowsOf};
 ghost use Rattle.publishing.specs.Rows.{digitRow, digitRows};
@@ -42,7 +45,8 @@ fn digit_rows(out: &mut [u8], p: &[u16], n: usize, m: u8)
 // H: for each s from 0 on, the rows of the digits of α^s / g(α), α from the support.
 fn parity_rows(work: &mut [u8], m: u8, support: &[u16], g: &[u16])
     requires { ⌜ (isWidth m ≡ true) × (length (now support) ≤ 8192)
-        × (m * length (now g) * bytesFor (length (now support)) ≤ length (now work)) ⌝ }
+        × (m * length (now g) * bytesFor (length (now support)) ≤ length (now work))
+        × (every (isUnit m) (map (goppaAt (keyOf m (now support) (now g))) (now support)) ≡ true) ⌝ }
     ensures rows { λ _. ⌜ rowsOf (m * length (now (g .entry))) (length (now (support .entry))) (now (work .exit))
         ≡ parityRows (keyOf m (now (support .entry)) (now (g .entry))) ⌝ }
     ensures rest { λ _. ⌜ drop (m * length (now (g .entry)) * bytesFor (length (now (support .entry)))) (now (work .exit))
@@ -50,8 +54,12 @@ fn parity_rows(work: &mut [u8], m: u8, support: &[u16], g: &[u16])
 {
     let n = support.len();
     let size = (m as usize) * bits::bytes_for(n);
-    let values = poly::values(m, g, support);
-    let mut p = field_places::inverse_each(m, &values[..n]);
+    let mut p = poly::values(m, g, support);
+    let x = field_places::inverse_each(m, &mut p[..n]);
+    // Not refused: g has no root in the support.
+    let Verdict::Accepted = x else {
+        return;
+    };
     let mut at = 0;
     let mut s = 0;
     while s < g.len() {
@@ -71,7 +79,8 @@ pub fn key_rows<'a>(
     support: &'a [u16; Key::MOST_PLACES],
     g: &'a [u16; Key::MOST_ERRORS],
 )
-    requires { ⌜ (isWidth m ≡ true) × (n ≤ 8192) × (t ≤ 128) × (m * t * bytesFor n ≤ length (now work)) ⌝ }
+    requires { ⌜ (n ≤ 8192) × (t ≤ 128) × (m * t * bytesFor n ≤ length (now work))
+        × (keyNumber (keyOf m (take n (now support)) (take t (now g))) ≡ 0) ⌝ }
     ensures rows { λ _. ⌜ rowsOf (m * t) n (now (work .exit)) ≡ parityRows (keyOf m (take n (now (support .entry))) (take t (now (g .entry)))) ⌝ }
     ensures rest { λ _. ⌜ drop (m * t * bytesFor n) (now (work .exit)) ≡ drop (m * t * bytesFor n) (now (work .entry)) ⌝ }
 {

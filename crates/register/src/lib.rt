@@ -1,4 +1,5 @@
 // The shortest register for a list of elements: document 004's Figure 1.
+use field::Answer;
 use field::Verdict;
 ghost use mathlib.Core.Path.{_≡_};
 ghost use mathlib.Core.Bool.{true};
@@ -6,8 +7,9 @@ ghost use mathlib.Core.List.{_++_, map};
 ghost use Prim.Native.Nat.{_+_, _≤_, _<_};
 ghost use lib.ListN.{length, getD, replicate};
 ghost use Rattle.bits.specs.Xor.{_⊕_};
-ghost use Rattle.bits.specs.Bits.{from, xorRow};
-ghost use Rattle.field.specs.Field.{isWidth};
+ghost use Rattle.bits.specs.Bits.{from, every, xorRow};
+ghost use Rattle.field.specs.Field.{isWidth, isElement};
+ghost use Rattle.field.specs.Answers.{isUnit};
 ghost use Rattle.field.specs.Verdicts.{verdictOf};
 ghost use Rattle.poly.specs.Polynomials.{sum};
 ghost use Rattle.poly.specs.Register.{
@@ -86,7 +88,7 @@ fn check(m: u8, s: &[u16]) -> Verdict
 
 // Figure 1 over the whole list.
 fn run(m: u8, s: &[u16]) -> State
-    requires { ⌜ (isWidth m ≡ true) × (length (now s) ≤ 256) ⌝ }
+    requires { ⌜ (isWidth m ≡ true) × (length (now s) ≤ 256) × (every (isElement m) (now s) ≡ true) ⌝ }
     ensures { λ r. ⌜ figure r ≡ registerOf m (now (s .entry)) ⌝ }
 {
     let mut r = start();
@@ -157,7 +159,7 @@ fn total(x: u16, p: [u16; Registered::COEFFICIENTS], l: usize) -> u16
 
 // Lines 4 to 16.
 fn turn(m: u8, d: u16, n: usize, r: State) -> State
-    requires { ⌜ (isWidth m ≡ true) × (r .l ≤ n) × (r .y ≤ n + 1) × (n < 256) ⌝ }
+    requires { ⌜ (isWidth m ≡ true) × (r .l ≤ n) × (r .y ≤ n + 1) × (n < 256) × (isUnit m (r .d) ≡ true) ⌝ }
     ensures { λ t. ⌜ figure t ≡ turnOf m d n (figure r) ⌝ }
 {
     if d == 0 {
@@ -194,14 +196,19 @@ fn turn(m: u8, d: u16, n: usize, r: State) -> State
 
 // Lines 7 and 11: C(x) - d·d_m^(-1)·x^y·B(x), the multiple of B(x) over all places at once.
 fn corrected(m: u8, r: State, d: u16) -> [u16; Registered::COEFFICIENTS]
-    requires { ⌜ (isWidth m ≡ true) × (r .y ≤ 256) ⌝ }
+    requires { ⌜ (isWidth m ≡ true) × (r .y ≤ 256) × (isUnit m (r .d) ≡ true) ⌝ }
     ensures { λ c. ⌜ c ≡ correctedOf m (figure r) d ⌝ }
 {
-    let f = field::times(m, d, field::inverse(m, r.d));
+    let c = r.c;
+    let i = field::inverse(m, r.d);
+    // Not refused: d_m is a unit.
+    let Answer::Value(v) = i else {
+        return c;
+    };
+    let f = field::times(m, d, v);
     let factor = [f; Registered::COEFFICIENTS];
     let mut p = r.b;
     field_places::horner_each(m, &mut p, &factor, 0);
-    let c = r.c;
     added(c, p, r.y)
 }
 

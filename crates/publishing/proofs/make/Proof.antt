@@ -8,6 +8,7 @@ use borrow.Author.Tests.{not-true, not-false}
 use lib.ListN.{length}
 use Rattle.bits.specs.Bits.{bytesFor, over}
 use Rattle.field.proofs.Verdicts.{refuses, accepts}
+use Rattle.key.specs.Keys.{keyNumber}
 use Rattle.key.specs.Kept.{kept, parts}
 use Rattle.key.proofs.Parts.{keyOf-kept}
 use Rattle.code.specs.Code.{parityRows}
@@ -36,7 +37,7 @@ key-rows-requires c κs =
     let k = parts (a .m) (a .n) (a .t) (a .support .now) (a .g .now) in
     let f = checks-clear (kept k) _ _ (b .pre) in
     let z : Sizes (kept k) = sizes (kept k) (f .0) in
-    (z .width, z .columns, z .degree, f .2)
+    (z .columns, z .degree, f .2, ap keyNumber (keyOf-kept k (f .0)) ∙ f .0)
 
 eliminate-requires : tie.Need-eliminate-requires
 eliminate-requires c κs = tt

@@ -6,6 +6,9 @@ use borrow.Author.Needs.{needs}
 use lib.ListN.{length, drop}
 use lib.Seq.{length-take-le}
 use Rattle.bits.specs.Bits.{bytesFor}
+use Rattle.key.specs.Keys.{keyOf}
+use Rattle.key.proofs.Accepted.{accepted}
+use Rattle.key.proofs.Units.{goppa-units}
 use Rattle.code.specs.Lock.{rowsOf}
 use Rattle.publishing.proofs.parity.key_rows.Statement.{statement}
 use Rattle.publishing.proofs.parity.key_rows.Tie as tie
@@ -23,6 +26,7 @@ slice-aggregate-parity-rows-2 c =
     sym (length-take-le (a .t) (a .g .now) (omega arith))
 
 parity-rows-requires : tie.Need-parity-rows-requires
+unfolding keyOf
 parity-rows-requires c κs =
     let b = c .before .before .before .before .before .before in
     let a = b .args in
@@ -30,7 +34,8 @@ parity-rows-requires c κs =
     let lg : length (a .g .now) ≡ 128 = search needs in
     let s = length-take-le (a .n) (a .support .now) (omega arith) in
     let g = length-take-le (a .t) (a .g .now) (omega arith) in
-    (b .pre .0, omega arith, rw (s, g) (b .pre .3))
+    let A = accepted _ (b .pre .3) in
+    (A .width, omega arith, rw (s, g) (b .pre .2), goppa-units _ A)
 
 same-length : tie.Need-same-length
 same-length c = search needs

@@ -5,16 +5,17 @@ use mathlib.Core.List.{List, _++_, map}
 use Prim.Native.Nat.{ℕ, _+_, _-_, _*_, _≤_}
 use native.Mathlib.Nat.{zero-mul, mul-comm, mul-le-mul}
 use native.Mathlib.Omega.{arith}
+use borrow.Author.Needs.{needs}
 use borrow.Rule.Slice.PartMut.{putMid, same-len-mid}
-use lib.ListN.{length, take, drop, length-drop}
-use lib.Seq.{length-take-le}
+use lib.ListN.{length, take, drop, length-drop, length-append, length-map}
+use lib.Seq.{take-at, length-take-le}
 use Rattle.bits.specs.Bits.{from, bytesFor}
 use Rattle.bits.proofs.Parts.{next-row, row-size, part-all, part-back}
 use Rattle.field.specs.Field.{inv}
-use Rattle.field.specs.Poly.{ofEach}
-use Rattle.field.proofs.Places.{length-hornerEach, length-ofEach}
+use Rattle.field.proofs.Places.{length-hornerEach}
 use Rattle.field.proofs.Table.{width-narrow}
-use Rattle.poly.specs.Polynomials.{valuesAt}
+use Rattle.field.proofs.Verdicts.{verdict-accepted}
+use Rattle.field.proofs.Units.{inverses-given, inverses-not-refused}
 use Rattle.poly.proofs.AtPoints.{length-values}
 use Rattle.key.specs.Keys.{keyOf}
 use Rattle.code.specs.PublicKey.{Matrix}
@@ -22,7 +23,7 @@ use Rattle.code.specs.Code.{entry, parityRow}
 use Rattle.code.specs.Lock.{rowsOf}
 use Rattle.publishing.specs.Rows.{digitRows}
 use Rattle.publishing.proofs.DigitRows.{part-rest, rows-placed, group-next, group-in}
-use Rattle.publishing.proofs.Entries.{entries-start, entries-next, parity-none, parity-next, parity-all}
+use Rattle.publishing.proofs.Entries.{values-units, entries-start, entries-next, parity-none, parity-next, parity-all}
 use Rattle.publishing.proofs.parity.parity_rows.Statement.{statement}
 use Rattle.publishing.proofs.parity.parity_rows.Tie as tie
 
@@ -50,8 +51,8 @@ mul-size c =
 values-requires : tie.Need-values-requires Inv-loop μ-loop
 values-requires c κs = tt
 
-array-share-prefix-values : tie.Need-array-share-prefix-values Inv-loop μ-loop
-array-share-prefix-values c =
+array-borrow-prefix-p : tie.Need-array-borrow-prefix-p Inv-loop μ-loop
+array-borrow-prefix-p c =
     let e : length (c .values .result) ≡ 8192 = ap length (c .values .ensures) ∙ length-values _ _ _ in
     omega arith
 
@@ -63,39 +64,63 @@ slice-aggregate-inverse-each c =
 inverse-each-requires : tie.Need-inverse-each-requires Inv-loop μ-loop
 inverse-each-requires c κs = tt
 
+enum-told : tie.Need-enum-told Inv-loop μ-loop
+enum-told c = search needs
+
+enum-told-2 : tie.Need-enum-told-2 Inv-loop μ-loop
+enum-told-2 c = search needs
+
+-- g has no root in the support, so that its values have inverses
+returns : tie.Need-returns Inv-loop μ-loop
+returns c =
+    let i = c .before .before .before in
+    let v = i .before .before in
+    let b = v .before .before .before .before .before in
+    let a = b .args in
+    let u = values-units (a .m) (b .pre .0) (a .support .now) (a .g .now) (b .pre .1) (b .pre .3) in
+    absurd (inverses-not-refused _ _ (b .pre .0) (rw (v .values .ensures) u) (i .inverse-each .ensures .0) (c .enum-told2 .given .1))
+
 loop-holds : tie.Need-loop-holds Inv-loop μ-loop
 loop-holds c =
-    let b = c .before .before .before .before .before .before .before in
+    let i = c .before .before .before in
+    let v = i .before .before in
+    let b = v .before .before .before .before .before in
     let a = b .args in
     let n : ℕ = length (a .support .now) in
-    let e : c .inverse-each .result ≡ ofEach (a .m) (inv (a .m)) (take n (valuesAt (a .m) (a .g .now) (a .support .now))) =
-    c .inverse-each .ensures ∙ ap (λ (v : List ℕ). ofEach (a .m) (inv (a .m)) (take n v)) (c .before .before .values .ensures) in (
+    let p : List ℕ = i .inverse-each .last .1 .0 in
+    let z = verdict-accepted _ (i .inverse-each .ensures .0) (c .enum-told .given .1) in
+    let e : p ≡ map (entry (keyOf (a .m) (a .support .now) (a .g .now)) 0) (a .support .now) =
+    inverses-given _ _ z (i .inverse-each .ensures .1)
+    ∙ ap (λ (w : List ℕ). map (inv (a .m)) (take n w)) (v .values .ensures)
+    ∙ entries-start (a .m) (b .pre .0) (a .support .now) (a .g .now) (b .pre .1) in
+    let l : length p ≡ n = ap length e ∙ length-map (a .support .now) _ in
+    let k : length (v .values .result) ≡ 8192 = ap length (v .values .ensures) ∙ length-values _ _ _ in (
       omega arith,
       sym (ap (λ (x : ℕ). x * bytesFor (length (a .support .now))) (zero-mul (a .m)) ∙ zero-mul (bytesFor (length (a .support .now)))),
       refl,
-      ap length e ∙ length-ofEach (a .m) (inv (a .m)) _,
-      ap (take (length (a .support .now))) e ∙ entries-start (a .m) (b .pre .0) (a .support .now) (a .g .now) (b .pre .1),
+      omega (arith, length-append p (drop n (v .values .result)), length-drop n (v .values .result)),
+      take-at p _ n l ∙ e,
       parity-none (a .m) (b .pre .0) (a .support .now) (a .g .now) (a .work .now),
       refl,
     )
 
 sub-digit-rows : tie.Need-sub-digit-rows Inv-loop μ-loop
 sub-digit-rows c =
-    let b = c .before .before .before .before .before .before .before .before .before in
+    let b = c .before .before .before .before .before .before .before .before .before .before .before .before in
     let a = b .args in
     let e = group-in (c .before .loop .s) (length (a .g .now)) (a .m) (bytesFor (length (a .support .now))) (omega arith) in
     omega arith
 
 part-digit-rows-start : tie.Need-part-digit-rows-start Inv-loop μ-loop
 part-digit-rows-start c =
-    let b = c .before .before .before .before .before .before .before .before .before in
+    let b = c .before .before .before .before .before .before .before .before .before .before .before .before in
     let a = b .args in
     let e = group-in (c .before .loop .s) (length (a .g .now)) (a .m) (bytesFor (length (a .support .now))) (omega arith) in
     omega arith
 
 part-digit-rows-end : tie.Need-part-digit-rows-end Inv-loop μ-loop
 part-digit-rows-end c =
-    let b = c .before .before .before .before .before .before .before .before .before in
+    let b = c .before .before .before .before .before .before .before .before .before .before .before .before in
     let a = b .args in
     let e = group-in (c .before .loop .s) (length (a .g .now)) (a .m) (bytesFor (length (a .support .now))) (omega arith) in
     omega arith
@@ -106,7 +131,7 @@ slice-aggregate-digit-rows c = sym (c .before .before .before .loop .inv .3)
 digit-rows-requires : tie.Need-digit-rows-requires Inv-loop μ-loop
 digit-rows-requires c κs =
     let l = c .before .before .before .loop in
-    let b = c .before .before .before .before .before .before .before .before .before .before .before in
+    let b = c .before .before .before .before .before .before .before .before .before .before .before .before .before .before in
     let a = b .args in
     let e = group-in (l .s) (length (a .g .now)) (a .m) (bytesFor (length (a .support .now))) (omega arith) in
     let w = width-narrow (a .m) (b .pre .0) in
@@ -120,10 +145,10 @@ horner-each-requires c κs = tt
 
 add-at : tie.Need-add-at Inv-loop μ-loop
 add-at c =
-    let b = c .before .before .before .before .before .before .before .before .before .before .before .before .before .before .before .before .before in
+    let b = c .before .before .before .before .before .before .before .before .before .before .before .before .before .before .before .before .before .before .before .before in
     let a = b .args in
     let e = group-in (c .before .before .before .before .before .before .before .before .before .loop .s) (length (a .g .now)) (a .m) (bytesFor (length (a .support .now))) (omega arith) in
-    let f = ap (_*_ (a .m)) (c .before .before .before .before .before .before .before .before .before .before .before .before .before .bytes-for .ensures) in
+    let f = ap (_*_ (a .m)) (c .before .before .before .before .before .before .before .before .before .before .before .before .before .before .before .before .bytes-for .ensures) in
     omega arith
 
 add-s : tie.Need-add-s Inv-loop μ-loop
@@ -135,14 +160,14 @@ loop-less c = omega arith
 loop-again : tie.Need-loop-again Inv-loop μ-loop
 loop-again c =
     let l = c .before .before .before .before .before .before .before .before .before .loop in
-    let b = c .before .before .before .before .before .before .before .before .before .before .before .before .before .before .before .before .before in
+    let b = c .before .before .before .before .before .before .before .before .before .before .before .before .before .before .before .before .before .before .before .before in
     let a = b .args in
     let q = c .before .before .before .before .before .digit-rows in
     let h = c .before .horner-each in
     let n : ℕ = length (a .support .now) in
     let e = group-in (l .s) (length (a .g .now)) (a .m) (bytesFor n) (omega arith) in
     let f = group-next (l .s) (a .m) (bytesFor n) in
-    let size = ap (_*_ (a .m)) (c .before .before .before .before .before .before .before .before .before .before .before .before .before .bytes-for .ensures) in
+    let size = ap (_*_ (a .m)) (c .before .before .before .before .before .before .before .before .before .before .before .before .before .before .before .before .bytes-for .ensures) in
     let row : ℕ → List ℕ = parityRow (keyOf (a .m) (a .support .now) (a .g .now)) in (
       omega arith,
       omega arith,
@@ -164,10 +189,10 @@ loop-again c =
 same-length : tie.Need-same-length Inv-loop μ-loop
 same-length c = c .before .loop .inv .2
 
-returns : tie.Need-returns Inv-loop μ-loop
-returns c =
+returns-2 : tie.Need-returns-2 Inv-loop μ-loop
+returns-2 c =
     let l = c .before .loop in
-    let b = c .before .before .before .before .before .before .before .before .before in
+    let b = c .before .before .before .before .before .before .before .before .before .before .before .before in
     let a = b .args in
     let e : l .s ≡ length (a .g .now) = omega arith in
     let f : l .s * a .m ≡ a .m * length (a .g .now) = ap (λ (s : ℕ). s * a .m) e ∙ mul-comm (length (a .g .now)) (a .m) in (
@@ -186,9 +211,12 @@ parity-rows-spec =
     bytes-for-requires
     mul-size
     values-requires
-    array-share-prefix-values
+    array-borrow-prefix-p
     slice-aggregate-inverse-each
     inverse-each-requires
+    enum-told
+    enum-told-2
+    returns
     loop-holds
     sub-digit-rows
     part-digit-rows-start
@@ -202,4 +230,4 @@ parity-rows-spec =
     loop-less
     loop-again
     same-length
-    returns)
+    returns-2)

@@ -25,8 +25,7 @@ returns c =
     refused _ _ _ (t .0) (t .1)
 
 run-requires : tie.Need-run-requires
-run-requires c κs =
-    let h = accepted _ _ (verdict-accepted _ (c .before .before .check .ensures) (c .enum-told .given .1)) in (h .0, h .1)
+run-requires c κs = accepted _ _ (verdict-accepted _ (c .before .before .check .ensures) (c .enum-told .given .1))
 
 returns-2 : tie.Need-returns-2
 returns-2 c =
