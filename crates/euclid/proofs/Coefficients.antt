@@ -15,7 +15,7 @@ use lib.Seq.{take-at, set-at, drop-cons, drop-length, getD-append-add, getD-drop
 use Rattle.bits.proofs.Padded.{padded-at}
 use Rattle.bits.specs.Xor.{_⊕_}
 use Rattle.bits.specs.Bits.{from, eachWith, xorRow, padded}
-use Rattle.bits.proofs.Xor.{xor-zero, xor-lt}
+use Rattle.bits.proofs.Xor.{xor-zero}
 use Rattle.bits.proofs.Lists.{cons-eq, length-map-from, from-add, map-append, take-below, map-from-at, map-from-past}
 use Rattle.bits.proofs.Rows.{xorRow-zeros, xorRow-suc, length-xorRow}
 use Rattle.algebra.proofs.Ring.{add-pair}
@@ -25,9 +25,9 @@ use Rattle.algebra.proofs.Poly.{Below}
 use Rattle.field.specs.Field.{mul}
 use Rattle.field.specs.Poly.{hornerEach}
 use Rattle.field.proofs.Table.{Width}
-use Rattle.field.proofs.Laws.{mul-comm, mul-lt}
+use Rattle.field.proofs.Laws.{mul-comm}
 use Rattle.field.proofs.Gf.{val, val-zero, laws}
-use Rattle.field.proofs.Arrays.{Elements, poly, poly-below, poly-xor, poly-scale, poly-shift}
+use Rattle.field.proofs.Arrays.{Elements, elements-xor, elements-shifted, poly, poly-below, poly-xor, poly-scale, poly-shift}
 use Rattle.field.proofs.Places.{hornerEach-width}
 use Rattle.poly.specs.Polynomials.{monic}
 use Rattle.poly.proofs.Product.{length-monic}
@@ -149,27 +149,10 @@ pub length-derivative : (p : List ℕ) → length (derivative p) ≡ length p
 unfolding derivative
 length-derivative p = length-map-from (derivativeAt p) 0 (length p)
 
--- the entries of c·x^y·b
-products-elements : (m c : ℕ) (l : List ℕ) → Elements m (map (mul m c) l)
-products-elements m c [] k = pow-pos m
-products-elements m c (x ∷ l) zero = mul-lt m c x
-products-elements m c (x ∷ l) (suc k) = products-elements m c l k
-
-terms-elements : (m c y : ℕ) (b : List ℕ) → Elements m (replicate y 0 ++ map (mul m c) b)
-terms-elements m c zero b k = products-elements m c b k
-terms-elements m c (suc y) b zero = pow-pos m
-terms-elements m c (suc y) b (suc k) = terms-elements m c y b k
-
-sum-elements : (m : ℕ) (a b : List ℕ) → Elements m a → Elements m b → Elements m (xorRow a b)
-unfolding xorRow eachWith
-sum-elements m [] b e f k = pow-pos m
-sum-elements m (x ∷ a) [] e f k = e k
-sum-elements m (x ∷ a) (y ∷ b) e f zero = xor-lt m (e 0) (f 0)
-sum-elements m (x ∷ a) (y ∷ b) e f (suc k) = sum-elements m a b (λ i. e (suc i)) (λ i. f (suc i)) k
-
+-- the entries of a + c·x^y·b
 pub added-elements : (m c y n : ℕ) (a b : List ℕ) → Elements m a → Elements m (added y n a (map (mul m c) b))
 unfolding added
-added-elements m c y n a b e = let s : List ℕ = replicate y 0 ++ map (mul m c) b in sum-elements m a (take n s) e (take-below (2 ^ m) n s (terms-elements m c y b))
+added-elements m c y n a b e = let s : List ℕ = replicate y 0 ++ map (mul m c) b in elements-xor m a (take n s) e (take-below (2 ^ m) n s (elements-shifted m c y b))
 
 module _ (m : ℕ) (W : Width m) where
   open Operations (operations (laws m W)) using (_⊞_, _⊠_, C)

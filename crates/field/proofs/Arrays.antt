@@ -11,7 +11,7 @@ use lib.Seq.{ext-getD, getD-set-same, getD-set-other}
 use lib.Pow.{pow-pos}
 use borrow.Author.Tests.{ltb-true, lt-ltb}
 use Rattle.bits.specs.Xor.{_⊕_}
-use Rattle.bits.specs.Bits.{every, xorRow}
+use Rattle.bits.specs.Bits.{every, eachWith, xorRow}
 use Rattle.bits.proofs.Xor.{xor-lt}
 use Rattle.bits.proofs.Lists.{every-at, every-all}
 use Rattle.bits.proofs.Rows.{getD-xorRow}
@@ -47,6 +47,19 @@ pub map-elements : (m : ℕ) (f : ℕ → ℕ) → ((x : ℕ) → f x < 2 ^ m) �
 map-elements m f h [] k = pow-pos m
 map-elements m f h (x ∷ xs) zero = h x
 map-elements m f h (x ∷ xs) (suc k) = map-elements m f h xs k
+
+-- and so are sums of elements, and shifted multiples
+pub elements-xor : (m : ℕ) (c t : List ℕ) → Elements m c → Elements m t → Elements m (xorRow c t)
+unfolding xorRow eachWith
+elements-xor m [] t hc ht k = hc k
+elements-xor m (x ∷ c) [] hc ht k = hc k
+elements-xor m (x ∷ c) (y ∷ t) hc ht zero = xor-lt m (hc 0) (ht 0)
+elements-xor m (x ∷ c) (y ∷ t) hc ht (suc k) = elements-xor m c t (λ i. hc (suc i)) (λ i. ht (suc i)) k
+
+pub elements-shifted : (m f y : ℕ) (b : List ℕ) → Elements m (replicate y 0 ++ map (mul m f) b)
+elements-shifted m f zero b k = map-elements m (mul m f) (mul-lt m f) b k
+elements-shifted m f (suc y) b zero = pow-pos m
+elements-shifted m f (suc y) b (suc k) = elements-shifted m f y b k
 
 -- Horner's rule from the lowest coefficient
 pub value-nil : (m a : ℕ) → value m [] a ≡ 0

@@ -8,8 +8,7 @@ use native.Mathlib.Nat.{zero-lt-suc, le-of-suc-le-suc, not-suc-le-zero}
 use lib.ListN.{length, getD, take, replicate, length-map, length-replicate}
 use Rattle.bits.specs.Xor.{_⊕_}
 use Rattle.bits.specs.Bits.{eachWith}
-use Rattle.bits.proofs.Lists.{cons-eq}
-use Rattle.bits.proofs.Each.{length-eachWith, eachWith-at, eachWith-take, eachWith-again}
+use Rattle.bits.proofs.Each.{length-eachWith, eachWith-at, eachWith-take}
 use Rattle.bits.proofs.Xor.{xor-zero}
 use Rattle.field.specs.Field.{isWidth, mul}
 use Rattle.field.specs.Poly.{hornerEach, ofEach}
@@ -45,13 +44,7 @@ module _ (h : ℕ → ℕ) where
   each-map f [] = refl
   each-map f (a ∷ s) = ap (_∷_ (f (h a) a)) (each-map f s)
 
-  -- over another list: over ones, where h is 1; followed by f with its own numbers; at the list's places
-  each-ones : ((a : ℕ) → h a ≡ 1) → (n : ℕ) (s : List ℕ) → eachWith (λ x a. h a) (replicate n 1) s ≡ replicate n 1
-  unfolding eachWith
-  each-ones e zero s = refl
-  each-ones e (suc n) [] = refl
-  each-ones e (suc n) (a ∷ s) = cons-eq (e a) (each-ones e n s)
-
+  -- over another list: followed by f with its own numbers; at the list's places
   each-own : (f : ℕ → ℕ → ℕ) (d s : List ℕ) (n : ℕ) → n ≤ length s → (n < length s → length d ≤ n)
       → eachWith f (eachWith (λ x a. h a) d s) (take n (eachWith (λ x a. h a) d s)) ≡ eachWith (λ x a. f (h a) (h a)) d s
   unfolding eachWith
@@ -102,25 +95,11 @@ module _ (m : ℕ) (h : ℕ → ℕ) (s : List ℕ) where
       (λ w. ap length (ofEach-width w) ∙ length-eachWith (λ x a. h a) (replicate 8192 1) s ∙ length-replicate {A = ℕ} 8192 1)
       (λ n. ap length (ofEach-none n) ∙ length-replicate {A = ℕ} 8192 1)
 
-  pub ofEach-ones : ((a : ℕ) → h a ≡ 1) → replicate 8192 1 ≡ ofEach m h s
-  ofEach-ones e = by-width m (λ w. sym (ofEach-width w ∙ each-ones h e 8192 s)) (λ n. sym (ofEach-none n))
-
   pub take-ofEach : Width m → length s ≤ 8192 → take (length s) (ofEach m h s) ≡ map h s
   take-ofEach w l = ap (take (length s)) (ofEach-width w) ∙ take-each h 8192 s l
 
--- another function; one step of Horner's rule with the list; the squares
+-- the squares
 module _ (m : ℕ) (h : ℕ → ℕ) (s : List ℕ) where
-  pub ofEach-same : (k : ℕ → ℕ) → (Width m → (a : ℕ) → h a ≡ k a) → ofEach m h s ≡ ofEach m k s
-  ofEach-same k e = by-width m (λ w. ap (λ f. ofEach m f s) (fun-ext (e w))) (λ n. ofEach-none m h s n ∙ sym (ofEach-none m k s n))
-
-  pub ofEach-step : (c : ℕ) → hornerEach m c (ofEach m h s) s ≡ ofEach m (λ a. mul m (h a) a ⊕ c) s
-  ofEach-step c =
-      by-width m
-      (λ w. hornerEach-width m c _ s w ∙ ap (λ (d : List ℕ). eachWith (λ x a. mul m x a ⊕ c) d s) (ofEach-width m h s w)
-      ∙ eachWith-again (λ x a. h a) (λ x a. mul m x a ⊕ c) (replicate 8192 1) s
-      ∙ sym (ofEach-width m (λ a. mul m (h a) a ⊕ c) s w))
-      (λ n. hornerEach-none m c _ s n ∙ ofEach-none m h s n ∙ sym (ofEach-none m _ s n))
-
   pub ofEach-square : (n : ℕ) → n ≤ length s → (n < length s → 8192 ≤ n)
       → hornerEach m 0 (ofEach m h s) (take n (ofEach m h s)) ≡ ofEach m (λ a. mul m (h a) (h a)) s
   ofEach-square n l e =

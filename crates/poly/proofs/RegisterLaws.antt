@@ -12,7 +12,6 @@ use lib.ListN.{length, getD, replicate, length-replicate, length-append, length-
 use lib.Pow.{pow-pos}
 use Rattle.bits.specs.Xor.{_⊕_}
 use Rattle.bits.specs.Bits.{from, eachWith, xorRow}
-use Rattle.bits.proofs.Xor.{xor-lt}
 use Rattle.bits.proofs.Each.{length-eachWith, eachWith-at}
 use Rattle.bits.proofs.Rows.{length-xorRow}
 use Rattle.algebra.proofs.Series as Ser
@@ -24,13 +23,14 @@ use Rattle.algebra.proofs.Figure1 as Figure1
 use Rattle.algebra.proofs.Figure1.{State, Inv, mend, mend-below, discrepancy-from-one, step, step-skip, step-fix, step-grow, run, run-zero, run-suc, run-inv, fits}
 use Rattle.field.specs.Field.{mul, inv}
 use Rattle.field.proofs.Table.{Width}
-use Rattle.field.proofs.Laws.{mul-lt, one-lt}
+use Rattle.field.proofs.Laws.{one-lt}
 use Rattle.field.proofs.Gf.{Elem, val, val-inj, val-zero, val-one, val-xor, val-mul, val-inv, plus, times, inverse, zero-elem, one-elem, laws, gf}
-use Rattle.field.proofs.Arrays.{Elements, poly, poly-inj, poly-below, poly-scale, poly-shift}
+use Rattle.field.proofs.Arrays.{Elements, elements-xor, elements-shifted, poly, poly-inj, poly-below, poly-scale, poly-shift}
 use Rattle.bits.proofs.Bits.{zeros-at}
 use Rattle.poly.specs.Polynomials.{sum}
 use Rattle.poly.specs.Register.{Register, longest, start, discrepancy, corrected, turn, turns, register}
 use Rattle.poly.proofs.Steps.{term, sum-nil, sum-cons, turn-cases}
+use Rattle.poly.proofs.Units.{discrepancy-element}
 
 -- lists of elements
 module _ (m : ℕ) where
@@ -38,35 +38,13 @@ module _ (m : ℕ) where
   elements-one n h zero = h
   elements-one n h (suc k) = rw (zeros-at n k) (pow-pos m)
 
-  elements-xor : (c t : List ℕ) → Elements m c → Elements m t → Elements m (xorRow c t)
-  unfolding xorRow eachWith
-  elements-xor [] t hc ht k = hc k
-  elements-xor (x ∷ c) [] hc ht k = hc k
-  elements-xor (x ∷ c) (y ∷ t) hc ht zero = xor-lt m (hc 0) (ht 0)
-  elements-xor (x ∷ c) (y ∷ t) hc ht (suc k) = elements-xor c t (λ i. hc (suc i)) (λ i. ht (suc i)) k
-
-  elements-shifted : (f y : ℕ) (b : List ℕ) → Elements m (replicate y 0 ++ map (mul m f) b)
-  elements-shifted f zero [] k = pow-pos m
-  elements-shifted f zero (x ∷ b) zero = mul-lt m f x
-  elements-shifted f zero (x ∷ b) (suc k) = elements-shifted f zero b k
-  elements-shifted f (suc y) b zero = pow-pos m
-  elements-shifted f (suc y) b (suc k) = elements-shifted f y b k
-
-  sum-lt : (f : ℕ → ℕ) (xs : List ℕ) → ((x : ℕ) → f x < 2 ^ m) → sum (map f xs) < 2 ^ m
-  sum-lt f [] h = rw sum-nil (pow-pos m)
-  sum-lt f (x ∷ xs) h = rw sum-cons (xor-lt m (h x) (sum-lt f xs h))
-
-  discrepancy-lt : (s : List ℕ) (r : Register) (n : ℕ) → Elements m s → discrepancy m s r n < 2 ^ m
-  unfolding discrepancy
-  discrepancy-lt s r n e = xor-lt m (e n) (sum-lt (term m s r n) (from 1 (r .l)) (λ i. mul-lt m _ _))
-
   length-corrected : (r : Register) (d : ℕ) → length (corrected m r d) ≡ length (r .c)
   unfolding corrected
   length-corrected r d = length-xorRow _ _
 
   elements-corrected : (r : Register) (d : ℕ) → Elements m (r .c) → Elements m (corrected m r d)
   unfolding corrected
-  elements-corrected r d e = elements-xor _ _ e (elements-shifted _ (r .y) (r .b))
+  elements-corrected r d e = elements-xor m _ _ e (elements-shifted m _ (r .y) (r .b))
 
 -- C(x) and B(x) have 257 coefficients each, and these are elements
 pub record Formed (m : ℕ) (r : Register) : Type 0 where
@@ -190,7 +168,7 @@ module _ (m : ℕ) (W : Width m) where
         zero-of z = sym discrepancy-at ∙ ap (val m) z ∙ val-zero m
 
         some : 0 < d → (poly m (r .c) ⊠ poly m s) n ≢ zero-elem m
-        some a z = let o : d ≡ 0 = val-inj m (discrepancy-lt m s r n e) (pow-pos m) (discrepancy-at ∙ z ∙ sym (val-zero m)) in omega arith
+        some a z = let o : d ≡ 0 = val-inj m (discrepancy-element m s r n e) (pow-pos m) (discrepancy-at ∙ z ∙ sym (val-zero m)) in omega arith
 
   -- k turns from n on
   module _ (s : List ℕ) (e : Elements m s) where

@@ -1,6 +1,6 @@
 -- The loop's invariant: the places from i on decide. Assumes nothing.
 use mathlib.Core.Path.{_≡_, refl, sym, _∙_}
-use Prim.Native.Nat.{ℕ, _-_, _%_, _^_}
+use Prim.Native.Nat.{_-_, _%_, _^_}
 use native.Mathlib.Omega.{arith}
 use borrow.Author.Needs.{needs}
 use lib.Pow.{pow-pos}
@@ -8,7 +8,7 @@ use lib.ListN.{length, getD, drop}
 use Rattle.bits.specs.Bits.{every}
 use Rattle.bits.proofs.Lists.{every-next, every-stop, every-end}
 use Rattle.field.specs.Answers.{isUnit}
-use Rattle.field.proofs.Table.{Width, modulus-none, modulus-some, width-narrow}
+use Rattle.field.proofs.Table.{modulus-none, modulus-some, width-narrow}
 use Rattle.field.proofs.Machine.{one-shl, low-digits}
 use Rattle.field.proofs.Verdicts.{refuses, accepts}
 use Rattle.field.proofs.Units.{unit, no-unit, inverse-no-width, no-units-number, units-number}
