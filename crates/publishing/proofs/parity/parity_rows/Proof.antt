@@ -172,7 +172,7 @@ loop-again c =
       omega arith,
       omega arith,
       same-len-mid (l .at) (length (l .work) - l .at) (l .work) (q .last .0) (q .kept .0) ∙ l .inv .2,
-      ap length (h .ensures) ∙ length-hornerEach (a .m) 0 (l .p) (a .support .now) ∙ l .inv .3,
+      ap length (h .ensures) ∙ length-hornerEach _ _ _ _ ∙ l .inv .3,
       ap (take n) (h .ensures) ∙ entries-next (a .m) (b .pre .0) (a .support .now) (a .g .now) (l .s) (l .p) (l .inv .4),
       ap₂ (λ (k : ℕ) (w : List ℕ). rowsOf k n w) (sym (next-row (l .s) (a .m))) (part-back (l .at) (l .work) (q .last .0))
           ∙ rows-placed (l .s * a .m) (a .m) n (l .at) (l .work) (q .last .0) (l .inv .1) (omega arith)
