@@ -91,7 +91,9 @@ enum shearcotter_state {
     /* a station not made by these calls */                                                            \
     X(SHEARCOTTER_UNSOUND_KEY, 25, "the kept key is not one that load accepts")                        \
     /* of a report */                                                                                  \
-    X(SHEARCOTTER_SHORT_RECORDS, 31, "record buffer shorter than the number of capsules")
+    X(SHEARCOTTER_SHORT_RECORDS, 31, "record buffer shorter than the number of capsules")              \
+    /* of the field */                                                                                 \
+    X(SHEARCOTTER_INVERSE_OF_ZERO, 32, "inverse of 0")
 
 /* What `refused` says. */
 #define SHEARCOTTER_NUMBER(name, number, words) name = number,
@@ -226,7 +228,7 @@ shearcotter_element shearcotter_add(uint8_t m, uint32_t a, uint32_t b);
 /* a * b in the field of width m. Refused: 1, 4. */
 shearcotter_element shearcotter_multiply(uint8_t m, uint32_t a, uint32_t b);
 
-/* 1/a in the field of width m, and 0 for 0. Refused: 1, 4. */
+/* 1/a in the field of width m. Refused: 1, 4, 32. */
 shearcotter_element shearcotter_invert(uint8_t m, uint32_t a);
 
 /* Classic McEliece's shape at position 1 to 5: 348864, 460896, 6688128, 6960119, 8192128. Refused: 3. */

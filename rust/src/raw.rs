@@ -129,7 +129,7 @@ extern "C" {
     pub fn shearcotter_add(m: u8, a: u32, b: u32) -> Element;
     /// a · b.
     pub fn shearcotter_multiply(m: u8, a: u32, b: u32) -> Element;
-    /// 1/a, and 0 for 0.
+    /// 1/a; of 0 there is none.
     pub fn shearcotter_invert(m: u8, a: u32) -> Element;
     /// The standard's shape at a position from 1 to 5.
     pub fn shearcotter_shape_at(position: u8) -> Shape;

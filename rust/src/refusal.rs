@@ -66,6 +66,7 @@ refusals! {
     NotPublished 24 "not published",
     UnsoundKey 25 "the kept key is not one that load accepts",
     ShortRecords 31 "record buffer shorter than the number of capsules",
+    InverseOfZero 32 "inverse of 0",
 }
 
 impl Refusal {

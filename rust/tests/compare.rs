@@ -248,12 +248,45 @@ fn field_by_tables() {
     for m in [4, 12, 13] {
         let f = Field::of(m).expect("a width");
         for a in 0..f.size() as u32 {
-            assert_eq!(field::invert(m, a), Ok(f.invert(a as u16)));
+            assert_eq!(field::invert(m, a), f.invert(a as u16).ok_or(Refusal::InverseOfZero));
             for b in [random.element(m), random.element(m), 0, 1] {
                 assert_eq!(field::multiply(m, a, b.into()), Ok(f.multiply(a as u16, b)));
                 assert_eq!(field::add(m, a, b.into()), Ok(a as u16 ^ b));
             }
         }
+    }
+}
+
+/// The inverse of a number, or why there is none, beside the second implementation; which number it is.
+fn same_inverse(m: u8, a: u32) -> u8 {
+    let (answer, number) = (field::invert(m, a), calls::invert(m, a));
+    assert_eq!(answer.map_or_else(Refusal::number, |_| 0), number, "{m} {a}");
+    if let (Some(f), Ok(inverse)) = (Field::of(m), answer) {
+        assert_eq!(f.multiply(a as u16, inverse), 1, "{m} {a}");
+    }
+    number
+}
+
+#[test]
+fn inverses_at_each_width() {
+    for m in [4, 12, 13] {
+        let size = 1 << m;
+        assert_eq!(same_inverse(m, 0), 32);
+        assert!((1..size).all(|a| same_inverse(m, a) == 0));
+        // The m low digits of these are 0 too, but they are no elements.
+        let factors = (1..=300).chain((0..32 - m).map(|k| 1 << k)).chain([(1 << (32 - m)) - 1]);
+        assert!(factors.map(|k| size * k).all(|a| same_inverse(m, a) == 4), "{m}");
+        assert!([size + 1, 2 * size - 1, u32::MAX].into_iter().all(|a| same_inverse(m, a) == 4), "{m}");
+    }
+}
+
+#[test]
+fn inverses_at_no_width() {
+    for m in (0..=255).filter(|m| ![4, 12, 13].contains(m)) {
+        let size = 1_u32.checked_shl(m.into()).unwrap_or(0);
+        let operands =
+            [0, 1, 8, 16, 1 << 12, 1 << 13, 1 << 16, size, size.wrapping_sub(1), size.wrapping_mul(3), u32::MAX];
+        assert!(operands.into_iter().all(|a| same_inverse(m, a) == 1), "{m}");
     }
 }
 

@@ -11,7 +11,7 @@ use crate::bench_keys::{K1, K3};
 #[test]
 fn refusals_have_their_numbers_and_words() {
     let numbers: Vec<u8> = Refusal::ALL.iter().map(|refusal| refusal.number()).collect();
-    let expected: Vec<u8> = (1..=14).chain(21..=25).chain([31]).collect();
+    let expected: Vec<u8> = (1..=14).chain(21..=25).chain([31, 32]).collect();
     assert_eq!(numbers, expected);
     for number in 0..=255 {
         let refusal = Refusal::from_number(number);
@@ -198,7 +198,7 @@ fn counts_of_records() {
 #[test]
 fn field_and_register_numbers() {
     assert_eq!(field::add(4, 9, 15), Ok(6));
-    assert_eq!(field::invert(13, 0), Ok(0));
+    assert_eq!(field::invert(13, 0), Err(Refusal::InverseOfZero));
     assert_eq!(field::add(5, 0, 0), Err(Refusal::BadWidth));
     assert_eq!(field::multiply(12, 4096, 0), Err(Refusal::BadElement));
     let found = register(4, &[0, 15]).expect("a register");

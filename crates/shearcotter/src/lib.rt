@@ -37,7 +37,7 @@ pub extern "C" fn shearcotter_multiply(m: u8, a: u32, b: u32) -> Element
     as_element(field::multiply(m, a, b))
 }
 
-// The inverse of an element, 0 for 0; 1 or 4 on refusal.
+// The inverse of an element; 1, 4 or 32 on refusal.
 #[no_mangle]
 pub extern "C" fn shearcotter_invert(m: u8, a: u32) -> Element
     ensures { λ r. ⌜ r ≡ asElement (invertOf m a) ⌝ }

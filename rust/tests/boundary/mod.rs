@@ -22,6 +22,22 @@ type Tally = BTreeMap<(&'static str, u8), u64>;
 
 const STREAMS: u64 = 2;
 
+/// Every call, and the numbers that it has in document 01 or in its request.
+const CALLS: [(&str, &[u8]); 12] = [
+    ("add", &[0, 1, 4]),
+    ("multiply", &[0, 1, 4]),
+    ("invert", &[0, 1, 4, 32]),
+    ("shape_at", &[0, 3]),
+    ("register", &[0, 1, 2, 4]),
+    ("lock", &[0, 1, 3, 8, 9, 12, 10]),
+    ("load", &[0, 22, 1, 2, 3, 4, 5, 6, 7]),
+    ("publish", &[0, 21, 25, 10, 11, 23]),
+    ("open", &[0, 21, 25, 24, 8, 9, 10, 13]),
+    ("report", &[0, 21, 25, 24, 31]),
+    ("read", &[0, 21, 25, 8, 9, 10, 14]),
+    ("drop", &[0, 21]),
+];
+
 fn one_call(random: &mut Random, pool: &Pool) -> (&'static str, u8) {
     match random.below(100) {
         0..=11 => plain::field(random),
@@ -55,7 +71,7 @@ fn trials() -> u64 {
 /// Past the capture of test output, so that the count is always seen.
 fn report(total: u64, tally: &Tally) {
     let mut lines = format!("boundary: {total} calls tried\n");
-    for name in ["field", "shape_at", "register", "lock", "load", "publish", "open", "report", "read", "drop"] {
+    for (name, _) in CALLS {
         let of_name = tally.iter().filter(|((call, _), _)| *call == name);
         let counts: Vec<String> = of_name
             .map(|((_, number), count)| match number {
@@ -68,21 +84,9 @@ fn report(total: u64, tally: &Tally) {
     io::stderr().write_all(lines.as_bytes()).expect("standard error");
 }
 
-/// Every number that a call has in document 01 or in its request was met.
+/// Every number of every call was met.
 fn all_numbers_met(tally: &Tally) {
-    let orders: [(&str, &[u8]); 10] = [
-        ("field", &[0, 1, 4]),
-        ("shape_at", &[0, 3]),
-        ("register", &[0, 1, 2, 4]),
-        ("lock", &[0, 1, 3, 8, 9, 12, 10]),
-        ("load", &[0, 22, 1, 2, 3, 4, 5, 6, 7]),
-        ("publish", &[0, 21, 25, 10, 11, 23]),
-        ("open", &[0, 21, 25, 24, 8, 9, 10, 13]),
-        ("report", &[0, 21, 25, 24, 31]),
-        ("read", &[0, 21, 25, 8, 9, 10, 14]),
-        ("drop", &[0, 21]),
-    ];
-    for (call, numbers) in orders {
+    for (call, numbers) in CALLS {
         for number in numbers {
             assert!(tally.contains_key(&(call, *number)), "{call} never answered {number}");
         }

@@ -25,6 +25,7 @@ fn operand(random: &mut Random, m: u8) -> u32 {
         1 => limit - 1,
         2 => random.number() as u32,
         3 => u32::MAX,
+        4 => 0,
         _ => random.below(limit as usize) as u32,
     }
 }
@@ -32,28 +33,25 @@ fn operand(random: &mut Random, m: u8) -> u32 {
 pub fn field(random: &mut Random) -> (&'static str, u8) {
     let m = width(random);
     let (a, b) = (operand(random, m), operand(random, m));
-    let of = |f: &Field, kind| match kind {
-        0 => a as u16 ^ b as u16,
-        1 => f.multiply(a as u16, b as u16),
-        _ => f.invert(a as u16),
-    };
-    let kind = random.below(3);
-    let answer = unsafe {
-        match kind {
-            0 => raw::shearcotter_add(m, a, b),
-            1 => raw::shearcotter_multiply(m, a, b),
-            _ => raw::shearcotter_invert(m, a),
+    let (name, answer, number) = unsafe {
+        match random.below(3) {
+            0 => ("add", raw::shearcotter_add(m, a, b), expected::field(m, &[a, b])),
+            1 => ("multiply", raw::shearcotter_multiply(m, a, b), expected::field(m, &[a, b])),
+            _ => ("invert", raw::shearcotter_invert(m, a), expected::invert(m, a)),
         }
     };
-    let operands = if kind < 2 { vec![a, b] } else { vec![a] };
-    let number = expected::field(m, &operands);
-    assert_eq!(answer.refused, number, "{kind} {m} {a} {b}");
+    assert_eq!(answer.refused, number, "{name} {m} {a} {b}");
+    let of = |f: &Field| match name {
+        "add" => a as u16 ^ b as u16,
+        "multiply" => f.multiply(a as u16, b as u16),
+        _ => f.invert(a as u16).expect("no 0"),
+    };
     let value = match Field::of(m) {
-        Some(f) if number == 0 => of(f, kind),
+        Some(f) if number == 0 => of(f),
         _ => 0,
     };
-    assert_eq!(answer.value, value, "{kind} {m} {a} {b}");
-    ("field", number)
+    assert_eq!(answer.value, value, "{name} {m} {a} {b}");
+    (name, number)
 }
 
 pub fn shape_at(random: &mut Random) -> (&'static str, u8) {

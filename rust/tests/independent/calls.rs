@@ -148,6 +148,14 @@ pub fn field(m: u8, operands: &[u32]) -> u8 {
     first(&[(operands.iter().any(outside), 4)])
 }
 
+/// The number of the inverse, or 0.
+pub fn invert(m: u8, a: u32) -> u8 {
+    match field(m, &[a]) {
+        0 => first(&[(a == 0, 32)]),
+        number => number,
+    }
+}
+
 pub fn register(m: u8, list: &[u16]) -> u8 {
     let Some(f) = Field::of(m) else { return 1 };
     let outside = |x: &u16| usize::from(*x) >= f.size();

@@ -15,7 +15,7 @@ pub struct Reader {
 impl Reader {
     pub fn new(key: &Key) -> Reader {
         let (f, g) = (key.field(), key.polynomial());
-        let inverse = |x: &u16| f.invert(value(f, &g, *x));
+        let inverse = |x: &u16| f.invert(value(f, &g, *x)).expect("no g(α) is 0");
         Reader { square: multiply(f, &g, &g), inverse: key.support.iter().map(inverse).collect(), key: key.clone() }
     }
 

@@ -79,11 +79,8 @@ impl Field {
         self.power[sum]
     }
 
-    /// The inverse; 0 for 0.
-    pub fn invert(&self, a: u16) -> u16 {
-        if a == 0 {
-            return 0;
-        }
-        self.power[self.size() - 1 - usize::from(self.log[usize::from(a)])]
+    /// The inverse; none for 0.
+    pub fn invert(&self, a: u16) -> Option<u16> {
+        (a != 0).then(|| self.power[self.size() - 1 - usize::from(self.log[usize::from(a)])])
     }
 }

@@ -16,7 +16,7 @@ fn defined(key: &Key) -> Vec<Row> {
     let (m, g) = (usize::from(key.m), key.polynomial());
     let mut h = vec![vec![0; key.n.div_ceil(64)]; key.capsule_bits()];
     for (j, alpha) in key.support.iter().enumerate() {
-        let mut x = f.invert(value(f, &g, *alpha));
+        let mut x = f.invert(value(f, &g, *alpha)).expect("no g(α) is 0");
         for s in 0..key.t {
             for k in 0..m {
                 h[s * m + k][j / 64] |= u64::from(x >> k & 1) << (j % 64);

@@ -29,7 +29,7 @@ pub fn multiply(f: &Field, p: &[u16], q: &[u16]) -> Poly {
 
 /// Quotient and remainder; q is not 0.
 pub fn divide(f: &Field, p: &[u16], q: &[u16]) -> (Poly, Poly) {
-    let lead = f.invert(*q.last().expect("a divisor other than 0"));
+    let lead = q.last().and_then(|top| f.invert(*top)).expect("a divisor other than 0, without zeros at the top");
     let mut rest = p.to_vec();
     let mut quotient = vec![0; (p.len() + 1).saturating_sub(q.len())];
     for shift in (0..quotient.len()).rev() {

@@ -15,7 +15,7 @@ pub fn massey(f: &Field, list: &[u16]) -> (usize, Vec<u16>) {
             continue;
         }
         let old = c.clone();
-        let factor = f.multiply(d, f.invert(last));
+        let factor = f.multiply(d, f.invert(last).expect("1, or a d other than 0"));
         for i in since..257 {
             c[i] ^= f.multiply(factor, before[i - since]);
         }
@@ -49,7 +49,7 @@ fn clear_below(f: &Field, rows: &mut [Vec<u16>], column: usize) {
     let Some((pivot, rest)) = rows.split_first_mut() else {
         return;
     };
-    let inverse = f.invert(pivot[column]);
+    let inverse = f.invert(pivot[column]).expect("a pivot is not 0");
     for row in rest {
         let factor = f.multiply(row[column], inverse);
         for (x, y) in row.iter_mut().zip(pivot.iter()) {

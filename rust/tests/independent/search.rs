@@ -13,7 +13,7 @@ pub struct Reader {
 fn columns(key: &Key) -> Vec<u16> {
     let (f, g) = (key.field(), key.polynomial());
     let column = |alpha: &u16| {
-        let mut x = f.invert(value(f, &g, *alpha));
+        let mut x = f.invert(value(f, &g, *alpha)).expect("no g(α) is 0");
         let mut sums = 0;
         for s in 0..key.t {
             sums |= x << (4 * s);

@@ -34,9 +34,13 @@ pub fn names(name: &str) -> Vec<String> {
     names
 }
 
-/// The cases of a text file: lines without comments, split by blanks.
+/// The cases of a text file of the vectors.
 pub fn cases(name: &str) -> Vec<Vec<String>> {
-    let text = String::from_utf8(file(name)).expect("text");
+    cases_of(&String::from_utf8(file(name)).expect("text"))
+}
+
+/// The cases of a text: lines without comments, split by blanks.
+pub fn cases_of(text: &str) -> Vec<Vec<String>> {
     let fields = |line: &str| -> Vec<String> {
         let case = line.split('#').next().unwrap_or("");
         case.split_whitespace().map(str::to_owned).collect()

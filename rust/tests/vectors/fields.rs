@@ -2,7 +2,10 @@
 
 use shearcotter::{field, register, Refusal};
 
-use crate::support::vectors::cases;
+use crate::support::vectors::{cases, cases_of};
+
+/// The copy of field.txt that the program field_vectors reads.
+const COPY: &str = include_str!("../../../crates/field_vectors/data/field.txt");
 
 fn number<T: std::str::FromStr>(text: &str) -> T
 where
@@ -19,9 +22,28 @@ fn words(answer: Result<u16, Refusal>) -> Vec<String> {
     }
 }
 
+/// The cases of field.txt, which has document 01's answers: there the inverse of 0 is 0. Request L2 turns those lines into
+/// a refusal with 32, and no other; the file has them for two widths.
+fn field_cases() -> Vec<Vec<String>> {
+    let mut cases = cases("field.txt");
+    let of_0 = cases.iter_mut().filter(|case| case[0] == "inv" && case[2] == "0");
+    let turned = of_0.map(|case| {
+        assert_eq!(case.split_off(3), ["0"]);
+        case.extend(["refused", "32"].map(str::to_owned));
+        case[1].clone()
+    });
+    assert_eq!(turned.collect::<Vec<_>>(), ["4", "13"]);
+    cases
+}
+
+#[test]
+fn the_program_reads_the_same_cases() {
+    assert_eq!(cases_of(COPY), field_cases());
+}
+
 #[test]
 fn products_and_inverses() {
-    let cases = cases("field.txt");
+    let cases = field_cases();
     assert!(cases.len() > 3000);
     for case in cases {
         let m = number(&case[1]);
