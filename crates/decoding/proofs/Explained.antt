@@ -7,7 +7,7 @@ use mathlib.Core.Option.{Option, none, some}
 use Prim.Native.Nat.{ℕ, zero, suc, _*_, _≤_, _<_}
 use native.Mathlib.Nat.{le-of-suc-le-suc}
 use native.Mathlib.Omega.{arith}
-use lib.Dec.{leb}
+use lib.Dec.{eqb, leb}
 use lib.ListN.{length, take}
 use lib.Pow.{pow-mono}
 use borrow.Author.Tests.{lt-leb, le-leb}
@@ -62,6 +62,14 @@ found-refused (suc q) o e h = ap nothingOf e
 module _ (m : ℕ) (support g : List ℕ) (wide : Width m) (few : length g ≤ 128) where
   abbrev k : Keys.Key
   k = keyOf m support g
+
+  pub sums-length : (x : ℕ) (c : List ℕ) {r : Sums} → r ≡ sumsOf x (squareSums k c) → length (r .s) ≡ 256
+  unfolding keyOf sumsOf
+  sums-length x c e = ap (λ (r : Sums). length (r .s)) e ∙ go (eqb x 0)
+    where
+      go : (b : Bool) → length (padded 256 (cond b (squareSums k c) [])) ≡ 256
+      go true = length-padded 256 (squareSums k c) (omega (arith, length-squareSums k c))
+      go false = length-padded 256 [] (omega arith)
 
   -- the sums w of a word c
   module _ (word : List ℕ) (w : Sums)
@@ -136,12 +144,6 @@ module _ (m : ℕ) (support g : List ℕ) (wide : Width m) (few : length g ≤ 1
 
             own-sums : o .s ≡ padded 256 (squareSums k (located k c))
             own-sums = sums-given _ _ own own-zero
-
-            pub same-length : length (o .s) ≡ length (w .s)
-            unfolding keyOf
-            same-length =
-                let l : (e : List ℕ) → length (padded 256 (squareSums k e)) ≡ 256 = λ e. length-padded 256 (squareSums k e) (omega (arith, length-squareSums k e)) in
-                ap length own-sums ∙ l (located k c) ∙ sym (ap length es ∙ l c)
 
             -- other sums
             pub found-other : same (o .s) (w .s) ≡ false → nothingOf variants.Accepted ≡ answer

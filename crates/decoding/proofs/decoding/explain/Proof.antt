@@ -5,7 +5,7 @@ use borrow.Author.Needs.{needs}
 use lib.ListN.{length}
 use lib.Seq.{length-take-le}
 use Rattle.key.proofs.Order.{failed, passed}
-use Rattle.decoding.proofs.Explained.{word-refused, sums-number, found-many, pattern-refused, same-length, found-other, found-pattern}
+use Rattle.decoding.proofs.Explained.{sums-length, word-refused, sums-number, found-many, pattern-refused, found-other, found-pattern}
 use Rattle.decoding.proofs.decoding.explain.Statement.{statement}
 use Rattle.decoding.proofs.decoding.explain.Tie as tie
 
@@ -109,16 +109,13 @@ slice-aggregate-same-2 c = search needs
 
 same-requires : tie.Need-same-requires
 same-requires c κs =
-    let q = c .before .before .before in
-    let o = q .before .before in
-    let f = o .before .before in
-    let p = f .before .before .before in
-    let t = p .before .before .before in
-    let w = t .before .before in
+    let o = c .before .before .before .before .before in
+    let w = o .before .before .before .before .before .before .before .before .before .before in
     let b = w .before .before .before .before in
     let a = b .args in
-    same-length (a .m) (a .support .now) (a .g .now) (b .pre .0) (b .pre .2) (a .word .now) _ (w .word-sums .ensures) (t .enum-told .given .1) _ (p .located .ensures)
-    (rw (sym (f .before .weight .ensures)) (f .if1 .left)) _ (o .word-sums2 .ensures) (q .enum-told3 .given .1)
+    let l = sums-length (a .m) (a .support .now) (a .g .now) (b .pre .0) (b .pre .2) _ _ (w .word-sums .ensures) in
+    let k = sums-length (a .m) (a .support .now) (a .g .now) (b .pre .0) (b .pre .2) _ _ (o .word-sums2 .ensures) in
+    omega arith
 
 nothing-requires-4 : tie.Need-nothing-requires-4
 nothing-requires-4 c κs = tt
