@@ -3,4 +3,5 @@ pub mod Scan
 pub mod Packed
 pub mod Located
 pub mod PowerSums
+pub mod Divisors
 pub mod Explained

@@ -8,7 +8,7 @@ use native.Mathlib.Decide.{decLt}
 use native.Mathlib.Omega.{arith}
 use borrow.Rule.Slice.PartMut.{midOf}
 use lib.ListN.{length, getD, take, drop, set, replicate, length-map, length-replicate, List·getD-eq-default}
-use lib.Seq.{ext-getD, take-all, take-take, take-add, drop-drop}
+use lib.Seq.{ext-getD, take-all, take-add, drop-drop}
 use Rattle.bits.specs.Xor.{_⊕_}
 use Rattle.bits.specs.Bits.{Row, from, padded, xorRow}
 use Rattle.bits.proofs.Xor.{xor-self, xor-zero}
@@ -17,13 +17,13 @@ use Rattle.bits.proofs.Lists.{length-map-from, map-from-at, map-append}
 use Rattle.bits.proofs.Rows.{length-xorRow, xorRow-nil, xorRow-suc, getD-xorRow}
 use Rattle.bits.proofs.Padded.{length-padded, padded-at}
 use Rattle.field.specs.Field.{mul, power, inv}
-use Rattle.field.specs.Poly.{value, hornerEach, ofEach}
+use Rattle.field.specs.Poly.{hornerEach}
 use Rattle.field.proofs.Table.{Width}
 use Rattle.field.proofs.Laws.{mul-comm, mul-assoc, mul-lt, one-mul, power-zero, power-suc}
-use Rattle.field.proofs.Places.{hornerEach-width, each-map, take-ofEach, ofEach-square}
+use Rattle.field.proofs.Places.{hornerEach-width, each-map, horner-self}
 use Rattle.field.specs.PointTable.{multiplesOf, combineEach}
 use Rattle.field.proofs.PointTable.{combineEach-horner}
-use Rattle.poly.specs.Polynomials.{sum, monic, valuesAt}
+use Rattle.poly.specs.Polynomials.{sum, valuesAt}
 use Rattle.poly.proofs.Laws.{sum-append}
 use Rattle.poly.proofs.AtPoints.{take-values}
 use Rattle.key.specs.Keys.{goppaAt, keyOf}
@@ -32,24 +32,20 @@ use Rattle.decoder.proofs.Words.{dot-chosen}
 use Rattle.decoding.specs.Parts.{pointSums}
 
 module _ (m : ℕ) (w : Width m) (g s : List ℕ) where
-  -- a^0 / g(a)² at each point, by g's values v and their inverses h
-  pub weights-start : length s ≤ 8192 → (v h p : List ℕ) → v ≡ valuesAt m g s → h ≡ ofEach m (inv m) (take (length s) v)
-      → p ≡ hornerEach m 0 h (take (length s) h) → take (length s) p ≡ map (squareEntry (keyOf m s g) 0) s
-  unfolding squareEntry goppaAt keyOf
-  weights-start l v h p ev eh ep =
-      let u : List ℕ = map (value m (monic g)) s in
-      let sq : ℕ → ℕ = λ x. mul m (inv m x) (inv m x) in
-      let e : length u ≡ length s = length-map s (value m (monic g)) in
-      ap (take (length s))
-      (ep ∙ ap (λ (h : List ℕ). hornerEach m 0 h (take (length s) h))
-      (eh ∙ ap (ofEach m (inv m)) (ap (take (length s)) ev ∙ take-values m w g s l))
-      ∙ ofEach-square m (inv m) u (length s) (omega arith) (λ k. omega arith))
-      ∙ ap (λ (n : ℕ). take n (ofEach m sq u)) (sym e)
-      ∙ take-ofEach m sq u w (omega arith)
-      ∙ map-map sq (value m (monic g)) s
-      ∙ ap (λ f. map f s) (fun-ext λ a.
-      let y : ℕ = sq (value m (monic g) a) in
-      sym (ap (λ (x : ℕ). mul m x y) (power-zero m a) ∙ one-mul m w (mul-lt m (inv m (value m (monic g) a)) (inv m (value m (monic g) a)))))
+  -- g at the n points
+  pub values-points : {n : ℕ} {v : List ℕ} → length s ≡ n → n ≤ 8192 → v ≡ valuesAt m g s → take n v ≡ map (goppaAt (keyOf m s g)) s
+  unfolding goppaAt keyOf
+  values-points {n} {v} e l ev = ap₂ take (sym e) ev ∙ take-values m w g s (omega arith)
+
+  -- a^0 / g(a)² at each point, by the inverses h of g's values
+  pub weights-start : (h p : List ℕ) → h ≡ map (inv m) (map (goppaAt (keyOf m s g)) s) → p ≡ hornerEach m 0 h h → p ≡ map (squareEntry (keyOf m s g) 0) s
+  unfolding squareEntry keyOf
+  weights-start h p eh ep =
+      let i : ℕ → ℕ = λ a. inv m (goppaAt (keyOf m s g) a) in
+      ep ∙ ap (λ (l : List ℕ). hornerEach m 0 l l) (eh ∙ map-map (inv m) (goppaAt (keyOf m s g)) s)
+      ∙ horner-self m w (map i s)
+      ∙ map-map (λ x. mul m x x) i s
+      ∙ ap (λ f. map f s) (fun-ext λ a. sym (ap (λ (x : ℕ). mul m x (mul m (i a) (i a))) (power-zero m a) ∙ one-mul m w (mul-lt m (i a) (i a))))
 
   entry-next : (k a : ℕ) → mul m (squareEntry (keyOf m s g) k a) a ⊕ 0 ≡ squareEntry (keyOf m s g) (k + 1) a
   unfolding squareEntry keyOf
@@ -148,13 +144,7 @@ module _ (m : ℕ) (g : List ℕ) (n : 2 * length g ≤ 256) where
       ∙ sums-append (take at s) (midOf at (e - at) s)
       ∙ ap (λ (l : List ℕ). padded 256 (pointSums m g l)) (sym (take-add at (e - at) s) ∙ ap (λ (n : ℕ). take n s) k)
 
--- a block of the weights, of the first n of a longer list
-mid-take : (at k n : ℕ) (l : List ℕ) → at + k ≤ n → midOf at k (take n l) ≡ midOf at k l
-mid-take zero k n l h = take-take k n l (omega arith)
-mid-take (suc at) k zero l h = absurd (omega arith)
-mid-take (suc at) k (suc n) [] h = refl
-mid-take (suc at) k (suc n) (x ∷ l) h = mid-take at k n l (omega arith)
-
+-- a block of the weights
 mid-map : (f : ℕ → ℕ) (at k : ℕ) (l : List ℕ) → midOf at k (map f l) ≡ map f (midOf at k l)
 mid-map f zero zero l = refl
 mid-map f zero (suc k) [] = refl
@@ -163,13 +153,10 @@ mid-map f (suc at) zero l = refl
 mid-map f (suc at) (suc k) [] = refl
 mid-map f (suc at) (suc k) (x ∷ l) = mid-map f at (suc k) l
 
-pub weights-block : (m : ℕ) (g s : List ℕ) (at e : ℕ) (p q : List ℕ) → at ≤ e → e ≤ length s
-    → take (length s) q ≡ map (squareEntry (keyOf m s g) 0) s
-    → drop at p ≡ drop at q → midOf at (e - at) p ≡ map (squareEntry (keyOf m (midOf at (e - at) s) g) 0) (midOf at (e - at) s)
+pub weights-block : (m : ℕ) (g s : List ℕ) (at e : ℕ) (p q : List ℕ) → q ≡ map (squareEntry (keyOf m s g) 0) s → drop at p ≡ drop at q
+    → midOf at (e - at) p ≡ map (squareEntry (keyOf m (midOf at (e - at) s) g) 0) (midOf at (e - at) s)
 unfolding squareEntry goppaAt keyOf
-weights-block m g s at e p q h l eq ep =
-    ap (take (e - at)) ep ∙ sym (mid-take at (e - at) (length s) q (omega arith)) ∙ ap (midOf at (e - at)) eq
-    ∙ mid-map (squareEntry (keyOf m s g) 0) at (e - at) s
+weights-block m g s at e p q eq ep = ap (take (e - at)) ep ∙ ap (midOf at (e - at)) eq ∙ mid-map (squareEntry (keyOf m s g) 0) at (e - at) s
 
 -- lists that agree from a place on agree from a later one on
 pub drop-on : (at e : ℕ) (p q : List ℕ) → at ≤ e → drop at p ≡ drop at q → drop e p ≡ drop e q

@@ -1,20 +1,43 @@
 -- The terms of the decoder's parts, on lists as the code holds them. Assumes nothing.
 use mathlib.Core.Bool.{true, false, cond, _&&_}
-use mathlib.Core.List.{List, map}
+use mathlib.Core.List.{List, [], _++_, map}
 use mathlib.Core.Option.{Option, none, some}
-use Prim.Native.Nat.{ℕ, _*_}
+use Prim.Native.Nat.{ℕ, zero, suc, _*_}
 use lib.Dec.{eqb, leb}
 use lib.ListN.{length, replicate}
 use Rattle.bits.specs.Bits.{from, pack, ones, padded}
 use Rattle.field.specs.Field.{isWidth}
+use Rattle.field.specs.Answers.{inverseNumber}
+use Rattle.field.specs.Verdicts.{verdictOf}
+use Rattle.field.specs.declared.Verdict.{Verdict}
+use Rattle.field.specs.declared.Verdict.the-variants.{Accepted, Refused}
 use Rattle.poly.specs.Polynomials.{sum}
-use Rattle.key.specs.Keys.{Key, keyOf}
-use Rattle.decoder.specs.Decoding.{squareEntry, explained}
+use Rattle.key.specs.Keys.{Key, keyOf, goppaAt}
+use Rattle.decoder.specs.Decoding.{chosen, squareEntry, located, explained}
+use Rattle.decoding.specs.declared.sums.Sums.{Sums}
 use Rattle.decoding.specs.declared.decoding.Found.{Found}
 
 -- the 2t sums of a^s / g(a)² over a list of points
 unfoldable pub pointSums : ℕ → List ℕ → List ℕ → List ℕ
 pointSums m g points = map (λ s. sum (map (squareEntry (keyOf m points g) s) points)) (from 0 (2 * length g))
+
+-- the sums with zeros behind them where the number is 0, else the refusal and zeros
+unfoldable pub sumsOf : ℕ → List ℕ → Sums
+sumsOf x s = record { verdict = verdictOf x; s = padded 256 (cond (eqb x 0) s []) }
+
+-- g at each point of a word: its 2t sums divide by the squares
+unfoldable pub divisors : Key → List ℕ → List ℕ
+divisors k c = map (goppaAt k) (chosen c (k .support))
+
+-- those of decoding: at the word's points, and at the places found, which are summed only where they are at most t
+unfoldable pub decodedDivisors : Key → List ℕ → List ℕ
+decodedDivisors k w =
+    let e : List ℕ = located k w in
+    divisors k w ++ cond (leb (ones e) (k .t)) (divisors k e) []
+
+-- 32 where one of them is 0, else 0; decoding divides only where m is a width and n and t are at most the arrays' lengths
+unfoldable pub decodedNumber : Key → List ℕ → ℕ
+decodedNumber k w = cond (isWidth (k .m) && leb (k .n) 8192 && leb (k .t) 128) (inverseNumber (k .m) (decodedDivisors k w)) 0
 
 -- what decoding finds in a word: the usual way, where m is a width and n and t are at most the arrays' lengths; else nothing
 unfoldable pub decoded : Key → List ℕ → Option (List ℕ)
@@ -28,7 +51,12 @@ mark v = cond (eqb v 0) 1 0
 unfoldable pub packed : List ℕ → List ℕ
 packed e = padded 1024 (pack e)
 
--- the pattern packed and its number of ones, or zeros where there is none
-unfoldable pub foundOf : Option (List ℕ) → Found
-foundOf none = record { found = false; ones = 0; pattern = replicate 1024 0 }
-foundOf (some e) = record { found = true; ones = ones e; pattern = packed e }
+-- no pattern: zeros, with the verdict
+unfoldable pub nothingOf : Verdict → Found
+nothingOf v = record { verdict = v; found = false; ones = 0; pattern = replicate 1024 0 }
+
+-- the refusal with a number that is not 0; else the pattern packed and its number of ones, or zeros where there is none
+unfoldable pub foundOf : ℕ → Option (List ℕ) → Found
+foundOf (suc x) o = nothingOf (Refused (suc x))
+foundOf zero none = nothingOf Accepted
+foundOf zero (some e) = record { verdict = Accepted; found = true; ones = ones e; pattern = packed e }

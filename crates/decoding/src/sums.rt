@@ -1,29 +1,24 @@
 // The 2t sums of a word.
 use super::points::chosen;
+use field::Verdict;
 use register::Registered;
 ghost use mathlib.Core.Path.{_≡_};
 ghost use mathlib.Core.Bool.{true};
 ghost use mathlib.Core.List.{map};
 ghost use Prim.Native.Nat.{_*_, _≤_};
-ghost use lib.ListN.{length, take};
+ghost use lib.ListN.{length};
 ghost use Rattle.bits.specs.Bits.{unpack, padded, xorRow};
 ghost use Rattle.field.specs.Field.{isWidth};
+ghost use Rattle.field.specs.Answers.{inverseNumber};
 ghost use Rattle.poly.specs.Polynomials.{sum, same as sameAs};
-ghost use Rattle.key.specs.Keys.{keyOf};
+ghost use Rattle.key.specs.Keys.{keyOf, goppaAt};
 ghost use Rattle.decoder.specs.Decoding.{squareEntry, squareSums};
-ghost use Rattle.decoding.specs.Parts.{pointSums};
+ghost use Rattle.decoding.specs.Parts.{pointSums, sumsOf, divisors};
 
-// 1 / g(a)² at each point a, by one inverse at all points.
-fn weights(m: u8, g: &[u16], points: &[u16]) -> [u16; 8192]
-    requires { ⌜ (isWidth m ≡ true) × (length (now points) ≤ 8192) ⌝ }
-    ensures { λ r. ⌜ take (length (now (points .entry))) r ≡ map (squareEntry (keyOf m (now (points .entry)) (now (g .entry))) 0) (now (points .entry)) ⌝ }
-{
-    let n = points.len();
-    let v = poly::values(m, g, points);
-    let h = field_places::inverse_each(m, &v[..n]);
-    let mut p = h;
-    field_places::horner_each(m, &mut p, &h[..n], 0);
-    p
+// The sums with zeros behind them; on refusal zeros.
+pub struct Sums {
+    pub verdict: Verdict,
+    pub s: [u16; Registered::LONGEST],
 }
 
 // The sum, exclusive or, of all numbers.
@@ -55,13 +50,12 @@ fn block_sums(m: u8, g: &[u16], s: &mut [u16], p: &mut [u16], points: &[u16])
     }
 }
 
-// The sums of a^k / g(a)² over the points a, k below 2t, with zeros behind them, in blocks of 64 points.
-fn point_sums(m: u8, g: &[u16], points: &[u16]) -> [u16; Registered::LONGEST]
-    requires { ⌜ (isWidth m ≡ true) × (length (now points) ≤ 8192) × (length (now g) ≤ 128) ⌝ }
+// The sums of a^k / g(a)² over the points a, k below 2t, with zeros behind them, in blocks of 64 points; p has 1 / g(a)² at each.
+fn weighted_sums(m: u8, g: &[u16], p: &mut [u16], points: &[u16]) -> [u16; Registered::LONGEST]
+    requires { ⌜ (isWidth m ≡ true) × (length (now g) ≤ 128) × (now p ≡ map (squareEntry (keyOf m (now points) (now g)) 0) (now points)) ⌝ }
     ensures { λ r. ⌜ r ≡ padded 256 (pointSums m (now (g .entry)) (now (points .entry))) ⌝ }
 {
     let n = points.len();
-    let mut p = weights(m, g, points);
     let mut s = [0u16; Registered::LONGEST];
     let mut at = 0;
     while at < n {
@@ -72,15 +66,32 @@ fn point_sums(m: u8, g: &[u16], points: &[u16]) -> [u16; Registered::LONGEST]
     s
 }
 
-// The 2t sums of a word, with zeros behind them.
-pub fn word_sums(m: u8, support: &[u16], g: &[u16], word: &[u8]) -> [u16; Registered::LONGEST]
+// The sums of a^k / g(a)² over the points a, k below 2t, by the values g(a) in v; 32 where one of them is 0.
+fn point_sums(m: u8, g: &[u16], v: &mut [u16], points: &[u16]) -> Sums
+    requires { ⌜ (isWidth m ≡ true) × (length (now g) ≤ 128) × (now v ≡ map (goppaAt (keyOf m (now points) (now g))) (now points)) ⌝ }
+    ensures { λ r. ⌜ r ≡ sumsOf (inverseNumber m (now (v .entry))) (pointSums m (now (g .entry)) (now (points .entry))) ⌝ }
+{
+    let x = field_places::inverse_each(m, v);
+    let Verdict::Accepted = x else {
+        let s = [0u16; Registered::LONGEST];
+        return Sums { verdict: x, s };
+    };
+    field_places::square_each(m, v);
+    let s = weighted_sums(m, g, v, points);
+    Sums { verdict: x, s }
+}
+
+// The 2t sums of a word; 32 where g is 0 at one of its points.
+pub fn word_sums(m: u8, support: &[u16], g: &[u16], word: &[u8]) -> Sums
     requires { ⌜ (isWidth m ≡ true) × (length (now support) ≤ 8192) × (length (now g) ≤ 128) ⌝ }
-    ensures { λ r. ⌜ r ≡ padded 256 (squareSums (keyOf m (now (support .entry)) (now (g .entry))) (unpack (length (now (support .entry))) (now (word .entry)))) ⌝ }
+    ensures { λ r. ⌜ r ≡ (let k = keyOf m (now (support .entry)) (now (g .entry)) in let c = unpack (length (now (support .entry))) (now (word .entry)) in sumsOf (inverseNumber m (divisors k c)) (squareSums k c)) ⌝ }
 {
     let c = chosen(support, word);
     let n = c.count;
     let at = c.at;
-    point_sums(m, g, &at[..n])
+    let points = &at[..n];
+    let mut v = poly::values(m, g, points);
+    point_sums(m, g, &mut v[..n], points)
 }
 
 // The two lists, of one length, are equal.

@@ -1,9 +1,10 @@
 -- What read and open answer and write, from what is found. Assumes nothing.
-use mathlib.Core.Path.{_≡_, refl, sym, ap, _∙_}
+use mathlib.Core.Path.{_≡_, refl, sym, ap, ap₂, _∙_}
 use mathlib.Core.Bool.{Bool, true, cond}
 use mathlib.Core.List.{List, _∷_, _++_, map}
 use mathlib.Core.Option.{Option, none, some}
 use Prim.Native.Nat.{ℕ, zero, suc, _+_, _-_, _*_, _≤_}
+use native.Mathlib.Nat.{suc-ne-zero}
 use native.Mathlib.Omega.{arith}
 use borrow.Author.Tests.{eq-eqb, ne-eqb}
 use lib.ListN.{length, replicate}
@@ -12,6 +13,8 @@ use Rattle.bits.proofs.Lists.{map-from}
 use Rattle.bits.proofs.PutBits.{written-row}
 use Rattle.bits.proofs.Pack.{length-unpack, unpack-add, well-formed-past}
 use Rattle.field.specs.Numbers.{firstOf}
+use Rattle.field.specs.declared.Verdict.the-variants as verdicts
+use Rattle.field.proofs.Verdicts.{verdict-accepted, verdict-refused}
 use Rattle.key.specs.Keys.{keyNumber}
 use Rattle.key.specs.Kept.{kept}
 use Rattle.key.specs.declared.kept.Key.{Key}
@@ -21,11 +24,11 @@ use Rattle.decoder.specs.Reading.{reading, filled, exactly, opening}
 use Rattle.decoder.specs.Calls.{found, isNone, patternOutput, openNumber, readNumber, openOutput, readOutput}
 use Rattle.decoder.proofs.Sanity.{reading-sound}
 use Rattle.decoder.proofs.Openings.{exactly-some}
-use Rattle.decoding.specs.Parts.{decoded, foundOf}
+use Rattle.decoding.specs.Parts.{decodedNumber, decoded, nothingOf, foundOf}
 use Rattle.decoding.specs.declared.decoding.Found.{Found}
 use Rattle.decoding.proofs.Packed.{unpack-packed}
-use Rattle.decoding.proofs.Explained.{decoded-reading}
-use Rattle.reading.specs.Answers.{answerOf, readOf, openOf, readChecks, openChecks, countedOf}
+use Rattle.decoding.proofs.Explained.{found-verdict, decoded-divides, decoded-reading}
+use Rattle.reading.specs.Answers.{answerOf, readOf, openOf, readChecks, openChecks, answerBy, countedOf}
 use Rattle.reading.specs.declared.calls.Answer.{Answer}
 use Rattle.reading.specs.declared.calls.Answer.the-variants.{Ones, Refused}
 use Rattle.reading.proofs.Refusals.{read-clear, read-refused, read-number, open-clear, open-refused, open-number}
@@ -52,21 +55,21 @@ pub record Counted (n w : ℕ) (o : Option (List ℕ)) (f : Found) : Type 0 wher
   pub count : w ≡ ones e
   pub bits : unpack n (f .pattern) ≡ e
 
--- what is found, and the answer for it with the number x
-module _ (x : ℕ) (o : Option (List ℕ)) {f : Found} {r : Answer} (ef : f ≡ foundOf o) (er : r ≡ countedOf x f) where
+-- what is found where nothing is refused, and the answer for it with the number x
+module _ (x : ℕ) (o : Option (List ℕ)) {f : Found} {r : Answer} (ef : f ≡ foundOf 0 o) (er : r ≡ countedOf x f) where
   pub counted-none : {y : ℕ} → r ≡ Refused y → (o ≡ none) × (r ≡ Refused x)
-  unfolding countedOf foundOf
+  unfolding countedOf answerBy foundOf nothingOf
   counted-none h = go o (er ∙ ap (countedOf x) ef)
     where
-      go : (o : Option (List ℕ)) → r ≡ countedOf x (foundOf o) → (o ≡ none) × (r ≡ Refused x)
+      go : (o : Option (List ℕ)) → r ≡ countedOf x (foundOf 0 o) → (o ≡ none) × (r ≡ Refused x)
       go none e = (refl, e)
       go (some p) e = let z : _≡_ {A = ℕ} 0 1 = cc in absurd (omega arith)
 
   pub counted-some : {n w : ℕ} → ((e : List ℕ) → o ≡ some e → Row n e) → r ≡ Ones w → Counted n w o f
-  unfolding countedOf foundOf
+  unfolding countedOf answerBy foundOf nothingOf
   counted-some {n} {w} row h = rw ef (go o row (er ∙ ap (countedOf x) ef))
     where
-      go : (o : Option (List ℕ)) → ((e : List ℕ) → o ≡ some e → Row n e) → r ≡ countedOf x (foundOf o) → Counted n w o (foundOf o)
+      go : (o : Option (List ℕ)) → ((e : List ℕ) → o ≡ some e → Row n e) → r ≡ countedOf x (foundOf 0 o) → Counted n w o (foundOf 0 o)
       go none row e = let z : _≡_ {A = ℕ} 0 1 = cc in absurd (omega arith)
       go (some p) row e =
           let c : w ≡ ones p = cc in
@@ -88,9 +91,9 @@ module _ {q : ℕ} (x : ℕ) (o : Option (List ℕ)) (out : List ℕ) (e : q ≡
 
 -- read
 module _ (k : Key) (word : List ℕ) where
-  pub found-reading : keyNumber (kept k) ≡ 0 → {f : Found} → f ≡ foundOf (decoded (kept k) (unpack (k .n) word))
-      → f ≡ foundOf (reading (kept k) (unpack (k .n) word))
-  found-reading z e = e ∙ ap foundOf (decoded-reading k word z)
+  pub found-reading : keyNumber (kept k) ≡ 0 → {f : Found} → f ≡ foundOf (decodedNumber (kept k) (unpack (k .n) word)) (decoded (kept k) (unpack (k .n) word))
+      → f ≡ foundOf 0 (reading (kept k) (unpack (k .n) word))
+  found-reading z e = e ∙ ap₂ foundOf (decoded-divides k word z) (decoded-reading k word z)
 
   pub row-reading : (e : List ℕ) → reading (kept k) (unpack (k .n) word) ≡ some e → Row (k .n) e
   unfolding kept
@@ -133,18 +136,27 @@ unpack-filled m n s w h =
     ∙ ap (λ (i : ℕ). replicate (n - i) 0) (sym (length-unpack m s)))
 
 -- open
--- where the pattern has another number of ones nothing is found, and where it has t the pattern
+-- where decoding is refused the refusal, where the pattern has another number of ones nothing, and where it has t the pattern
 module _ (t : ℕ) where
-  pub found-other : (o : Option (List ℕ)) {f : Found} → f ≡ foundOf o → (f .ones ≡ t → ⊥) → foundOf none ≡ foundOf (exactly t o)
-  unfolding exactly foundOf
-  found-other none e h = refl
-  found-other (some p) e h = ap (λ (b : Bool). foundOf (cond b (some p) none)) (sym (ne-eqb (ones p) t (λ q. h (ap (λ (f : Found). f .ones) e ∙ q))))
+  pub found-refusal : (q : ℕ) (o : Option (List ℕ)) {f : Found} {x : ℕ} → f ≡ foundOf q o → f .verdict ≡ verdicts.Refused x → f ≡ foundOf q (exactly t o)
+  unfolding foundOf
+  found-refusal zero o e a = absurd (verdict-refused 0 (found-verdict 0 o e) a refl)
+  found-refusal (suc q) o e a = e
 
-  pub found-exactly : (o : Option (List ℕ)) {f : Found} → f ≡ foundOf o → f .ones ≡ t → f ≡ foundOf (exactly t o)
+  pub found-other : (q : ℕ) (o : Option (List ℕ)) {f : Found} → f ≡ foundOf q o → f .verdict ≡ verdicts.Accepted → (f .ones ≡ t → ⊥)
+      → nothingOf verdicts.Accepted ≡ foundOf q (exactly t o)
   unfolding exactly foundOf
-  found-exactly none e h = e
-  found-exactly (some p) e h =
-      e ∙ ap (λ (b : Bool). foundOf (cond b (some p) none)) (sym (eq-eqb (ones p) t (sym (ap (λ (f : Found). f .ones) e) ∙ h)))
+  found-other zero none e a h = refl
+  found-other zero (some p) e a h =
+      ap (λ (b : Bool). foundOf 0 (cond b (some p) none)) (sym (ne-eqb (ones p) t (λ q. h (ap (λ (f : Found). f .ones) e ∙ q))))
+  found-other (suc q) o e a h = absurd (suc-ne-zero q (verdict-accepted (suc q) (found-verdict (suc q) o e) a))
+
+  pub found-exactly : (q : ℕ) (o : Option (List ℕ)) {f : Found} → f ≡ foundOf q o → f .ones ≡ t → f ≡ foundOf q (exactly t o)
+  unfolding exactly foundOf
+  found-exactly zero none e h = e
+  found-exactly zero (some p) e h =
+      e ∙ ap (λ (b : Bool). foundOf 0 (cond b (some p) none)) (sym (eq-eqb (ones p) t (sym (ap (λ (f : Found). f .ones) e) ∙ h)))
+  found-exactly (suc q) o e h = e
 
 module _ (k : Key) (capsule : List ℕ) (z : keyNumber (kept k) ≡ 0) (w : wellFormed (capsuleBits (kept k)) capsule ≡ true) where
   opening-exactly : opening (kept k) (unpack (capsuleBits (kept k)) capsule) ≡ exactly (k .t) (reading (kept k) (unpack (k .n) capsule))
@@ -158,9 +170,9 @@ module _ (k : Key) (capsule : List ℕ) (z : keyNumber (kept k) ≡ 0) (w : well
   pub exactly-opening : exactly (k .t) (decoded (kept k) (unpack (k .n) capsule)) ≡ opening (kept k) (unpack (capsuleBits (kept k)) capsule)
   exactly-opening = ap (exactly (k .t)) (decoded-reading k capsule z) ∙ sym opening-exactly
 
-  pub found-opening : {f : Found} → f ≡ foundOf (exactly (k .t) (decoded (kept k) (unpack (k .n) capsule)))
-      → f ≡ foundOf (opening (kept k) (unpack (capsuleBits (kept k)) capsule))
-  found-opening e = e ∙ ap foundOf exactly-opening
+  pub found-opening : {f : Found} → f ≡ foundOf (decodedNumber (kept k) (unpack (k .n) capsule)) (exactly (k .t) (decoded (kept k) (unpack (k .n) capsule)))
+      → f ≡ foundOf 0 (opening (kept k) (unpack (capsuleBits (kept k)) capsule))
+  found-opening e = e ∙ ap₂ foundOf (decoded-divides k capsule z) exactly-opening
 
   pub row-opening : (e : List ℕ) → opening (kept k) (unpack (capsuleBits (kept k)) capsule) ≡ some e → Row (k .n) e
   row-opening e h = row-reading k capsule e (exactly-some (k .t) _ e (sym opening-exactly ∙ h) .0)

@@ -5,6 +5,8 @@ use Prim.Native.Nat.{ℕ, zero, suc}
 use lib.Dec.{eqb, ltb}
 use lib.ListN.{length}
 use Rattle.bits.specs.Bits.{bytesFor, unpack, ones, fillerClear}
+use Rattle.field.specs.declared.Verdict.{Verdict}
+use Rattle.field.specs.declared.Verdict.the-variants as verdicts
 use Rattle.key.specs.Keys.{Key, unsound}
 use Rattle.code.specs.Publish.{capsuleBits}
 use Rattle.decoder.specs.Reading.{reading, opening}
@@ -46,6 +48,11 @@ keyChecks unpublished k = (unsound k, 25) ∷ (unpublished, 24) ∷ []
 unfoldable pub openChecks : Bool → Key → List ℕ → ℕ → List (Bool × ℕ)
 openChecks unpublished k capsule len = keyChecks unpublished k ++ bufferChecks (capsuleBits k) (k .n) capsule len
 
--- the ones of a pattern that is found, else the refusal with the number x
+-- the answer where the verdict accepts, else its refusal
+unfoldable pub answerBy : Verdict → Answer → Answer
+answerBy verdicts.Accepted a = a
+answerBy (verdicts.Refused x) a = variants.Refused x
+
+-- by the verdict, the ones of a pattern that is found, or the refusal with the number x
 unfoldable pub countedOf : ℕ → Found → Answer
-countedOf x e = cond (e .found) (variants.Ones (e .ones)) (variants.Refused x)
+countedOf x e = answerBy (e .verdict) (cond (e .found) (variants.Ones (e .ones)) (variants.Refused x))

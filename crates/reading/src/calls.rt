@@ -14,7 +14,7 @@ ghost use Rattle.field.specs.Verdicts.{verdictOf};
 ghost use Rattle.key.specs.Kept.{kept, parts};
 ghost use Rattle.decoder.specs.Reading.{exactly};
 ghost use Rattle.decoder.specs.Calls.{openOutput, readOutput};
-ghost use Rattle.decoding.specs.Parts.{decoded, foundOf};
+ghost use Rattle.decoding.specs.Parts.{decodedNumber, decoded, foundOf};
 ghost use Rattle.reading.specs.Answers.{keyChecks, rowChecks, bufferChecks, openChecks, readChecks, countedOf, openOf, readOf};
 
 // The number of ones of the pattern that is written, or the number of a refusal.
@@ -124,10 +124,14 @@ fn check_capsule<'a>(
     check_buffers(capsule_bits(m, t), n as usize, capsule, len)
 }
 
-// The number of ones of the pattern found, or the refusal with a number where there is none.
+// The number of ones of the pattern found, or the refusal with a number where there is none; a refusal's own number first.
 fn counted(e: Found, number: u8) -> Answer
     ensures { λ r. ⌜ r ≡ countedOf number e ⌝ }
 {
+    let x = e.verdict;
+    let Verdict::Accepted = x else {
+        return Answer::Refused(field::number(x));
+    };
     if !e.found {
         return Answer::Refused(number);
     }
@@ -168,8 +172,8 @@ pub fn read<'a>(
     Answer::Ones(w)
 }
 
-// The pattern found in a capsule, the word whose other bits are 0, where it has exactly t ones: at a key that load accepts and a
-// capsule of the right form the pattern that opening gives (`found-opening`).
+// The pattern found in a capsule, the word whose other bits are 0, where it has exactly t ones, or the refusal of `decode`: at a
+// key that load accepts and a capsule of the right form the pattern that opening gives (`found-opening`).
 pub fn open_checked<'a>(
     m: u8,
     n: u16,
@@ -178,11 +182,15 @@ pub fn open_checked<'a>(
     g: &'a [u16; Key::MOST_ERRORS],
     capsule: &[u8],
 ) -> Found
-    ensures { λ r. ⌜ r ≡ foundOf (exactly t (decoded (kept (parts m n t (now (support .entry)) (now (g .entry)))) (unpack n (now (capsule .entry))))) ⌝ }
+    ensures { λ r. ⌜ r ≡ (let k = kept (parts m n t (now (support .entry)) (now (g .entry))) in let w = unpack n (now (capsule .entry)) in foundOf (decodedNumber k w) (exactly t (decoded k w))) ⌝ }
 {
     let e = decode(m, n, t, support, g, capsule);
+    let x = e.verdict;
+    let Verdict::Accepted = x else {
+        return e;
+    };
     if e.ones != t {
-        return nothing();
+        return nothing(Verdict::Accepted);
     }
     e
 }

@@ -8,15 +8,15 @@ use reading::check_row;
 use reading::open_checked;
 ghost use mathlib.Core.Path.{_≡_};
 ghost use mathlib.Core.Bool.{not};
-ghost use Prim.Native.Nat.{_+_, _-_, _*_, _/_, _≤_, _<_};
+ghost use Prim.Native.Nat.{_+_, _-_, _/_, _≤_};
 ghost use lib.ListN.{length, take, drop};
-ghost use Rattle.bits.specs.Bits.{bytesFor, over};
+ghost use Rattle.bits.specs.Bits.{over};
 ghost use Rattle.field.specs.Numbers.{firstOf};
 ghost use Rattle.field.specs.Verdicts.{verdictOf};
-ghost use Rattle.key.specs.Keys.{unsound};
+ghost use Rattle.key.specs.Keys.{keyNumber, unsound};
 ghost use Rattle.key.specs.Kept.{kept, parts};
-ghost use Rattle.records.specs.Records.{capsulesOf, countsOf, reportConditions, reportOutput};
-ghost use Rattle.reporting.specs.Answers.{reportAnswer, recordFound, recordsFound};
+ghost use Rattle.records.specs.Records.{capsulesOf, recordOf, recordsOf, countsOf, reportConditions, reportOutput};
+ghost use Rattle.reporting.specs.Answers.{reportAnswer};
 
 // The number of a refusal, or 0, and how often each byte value stands in the records; zeros on refusal.
 pub struct Counted {
@@ -60,7 +60,7 @@ fn check_report<'a>(
     x
 }
 
-// The record of a capsule: 8, 9 or 13, and 0 where it is opened. At a key that load accepts it is open's number (`record-found`).
+// The record of a capsule: 8, 9 or 13, and 0 where it is opened. No refusal comes from `open_checked` (`record-not-refused`).
 fn record_found<'a>(
     m: u8,
     n: u16,
@@ -69,13 +69,18 @@ fn record_found<'a>(
     g: &'a [u16; Key::MOST_ERRORS],
     capsule: &[u8],
 ) -> u8
-    ensures { λ r. ⌜ r ≡ recordFound (kept (parts m n t (now (support .entry)) (now (g .entry)))) (now (capsule .entry)) ⌝ }
+    requires { ⌜ keyNumber (kept (parts m n t (now support) (now g))) ≡ 0 ⌝ }
+    ensures { λ r. ⌜ r ≡ recordOf (kept (parts m n t (now (support .entry)) (now (g .entry)))) (now (capsule .entry)) ⌝ }
 {
     let number = field::number(check_row(capsule_bits(m, t), capsule));
     if number != 0 {
         return number;
     }
     let e = open_checked(m, n, t, support, g, capsule);
+    let x = e.verdict;
+    let Verdict::Accepted = x else {
+        return field::number(x);
+    };
     if !e.found {
         return 13;
     }
@@ -93,8 +98,9 @@ fn record_at<'a>(
     i: usize,
     c: usize,
 ) -> u8
+    requires { ⌜ keyNumber (kept (parts m n t (now support) (now g))) ≡ 0 ⌝ }
     requires { ⌜ i ≤ length (now capsules) ⌝ }
-    ensures { λ r. ⌜ r ≡ recordFound (kept (parts m n t (now (support .entry)) (now (g .entry)))) (take c (drop i (now (capsules .entry)))) ⌝ }
+    ensures { λ r. ⌜ r ≡ recordOf (kept (parts m n t (now (support .entry)) (now (g .entry)))) (take c (drop i (now (capsules .entry)))) ⌝ }
 {
     let e = i + bits::smaller(c, capsules.len() - i);
     record_found(m, n, t, support, g, &capsules[i..e])
@@ -110,10 +116,10 @@ fn write_records<'a>(
     capsules: &[u8],
     records: &mut [u8],
 ) -> usize
-    requires { ⌜ 0 < m * t ⌝ }
+    requires { ⌜ keyNumber (kept (parts m n t (now support) (now g))) ≡ 0 ⌝ }
     requires { ⌜ length (capsulesOf (kept (parts m n t (now support) (now g))) (now capsules)) ≤ length (now records) ⌝ }
     ensures number { λ r. ⌜ r ≡ length (capsulesOf (kept (parts m n t (now (support .entry)) (now (g .entry)))) (now (capsules .entry))) ⌝ }
-    ensures output { λ _. ⌜ now (records .exit) ≡ over (recordsFound (kept (parts m n t (now (support .entry)) (now (g .entry)))) (now (capsules .entry))) (now (records .entry)) ⌝ }
+    ensures output { λ _. ⌜ now (records .exit) ≡ over (recordsOf (kept (parts m n t (now (support .entry)) (now (g .entry)))) (now (capsules .entry))) (now (records .entry)) ⌝ }
 {
     let c = capsule_bytes(m, t);
     let count = capsule_count(capsules.len(), c);

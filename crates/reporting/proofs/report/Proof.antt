@@ -7,9 +7,7 @@ use lib.ListN.{length}
 use lib.Seq.{length-take-le}
 use Rattle.field.proofs.Verdicts.{verdict-accepted, verdict-taken}
 use Rattle.key.specs.Kept.{kept, parts}
-use Rattle.code.specs.Publish.{capsuleBits}
 use Rattle.records.specs.Records.{reportNumber}
-use Rattle.records.proofs.Values.{bits-some}
 use Rattle.reporting.proofs.Checks.{report-clear}
 use Rattle.reporting.proofs.Reported.{answer-refused, answer-written}
 use Rattle.reporting.proofs.report.Statement.{statement}
@@ -36,14 +34,12 @@ returns c =
     answer-refused (not (a .published)) (kept k) (a .capsules .now) (a .records .now) (t .0) (t .1)
 
 write-records-requires : tie.Need-write-records-requires
-unfolding kept capsuleBits
 write-records-requires c κs =
     let t = c .before in
     let a = t .before .before .before .before .before .args in
     let k = parts (a .m) (a .n) (a .t) (a .support .now) (a .g .now) in
     let clear = verdict-accepted _ (t .before .before .check-report .ensures) (t .enum-told .given .1) in
-    let r = report-clear (not (a .published)) (kept k) (a .capsules .now) (length (a .records .now)) clear in
-    (bits-some (kept k) (r .0), r .1)
+    report-clear (not (a .published)) (kept k) (a .capsules .now) (length (a .records .now)) clear
 
 slice-reshare-prefix-count : tie.Need-slice-reshare-prefix-count
 slice-reshare-prefix-count c =
@@ -80,7 +76,7 @@ returns-2 c =
     let a = t .before .before .before .before .before .args in
     let k = parts (a .m) (a .n) (a .t) (a .support .now) (a .g .now) in
     let clear = verdict-accepted _ (t .before .before .check-report .ensures) (t .enum-told .given .1) in
-    answer-written (not (a .published)) k (a .capsules .now) (a .records .now) clear (w .write-records .ensures .0) (w .write-records .ensures .1) (c .count .ensures)
+    answer-written (not (a .published)) (kept k) (a .capsules .now) (a .records .now) clear (w .write-records .ensures .0) (w .write-records .ensures .1) (c .count .ensures)
 
 pub report-spec : {M : Type 1} → statement M
 report-spec =

@@ -9,17 +9,15 @@ use Rattle.bits.specs.Bits.{over}
 use Rattle.bits.proofs.Padded.{over-start}
 use Rattle.key.specs.Kept.{kept, parts}
 use Rattle.code.specs.Publish.{capsuleBits}
-use Rattle.records.specs.Records.{capsulesOf}
-use Rattle.records.proofs.Values.{bytes-some, capsules-counted}
-use Rattle.reporting.specs.Answers.{recordsFound}
-use Rattle.reporting.proofs.Written.{start-within, written-next, written-all}
+use Rattle.records.specs.Records.{capsulesOf, recordsOf}
+use Rattle.reporting.proofs.Written.{counted, start-within, written-next, written-all}
 use Rattle.reporting.proofs.write_records.Statement.{statement}
 use Rattle.reporting.proofs.write_records.Tie as tie
 
 abbrev Inv-loop : tie.InvT-loop
 Inv-loop m n t support g capsules records₀ c count i₀ records i =
     (count ≡ length (capsulesOf (kept (parts m n t support g)) capsules)) × (i ≤ count) × (length records ≡ length records₀)
-    × (records ≡ over (take i (recordsFound (kept (parts m n t support g)) capsules)) records₀)
+    × (records ≡ over (take i (recordsOf (kept (parts m n t support g)) capsules)) records₀)
 
 abbrev μ-loop : tie.MeasureT-loop
 μ-loop m n t support g capsules records₀ c count i₀ records i = count - i
@@ -37,10 +35,10 @@ loop-holds c =
     let s = b .before .before .before in
     let a = s .args in
     let k = kept (parts (a .m) (a .n) (a .t) (a .support .now) (a .g .now)) in (
-      capsules-counted k (a .capsules .now) (bytes-some {bits = capsuleBits k} refl (s .pre .0)) (b .capsule-bytes .ensures) (c .capsule-count .ensures),
+      counted k (a .capsules .now) (s .pre .0) (b .capsule-bytes .ensures) (c .capsule-count .ensures),
       omega arith,
       refl,
-      over-start (recordsFound k (a .capsules .now)) (a .records .now),
+      over-start (recordsOf k (a .capsules .now)) (a .records .now),
     )
 
 mul-record-at : tie.Need-mul-record-at Inv-loop μ-loop
@@ -61,7 +59,7 @@ record-at-requires c κs =
     let s = b .before .before .before in
     let a = s .args in
     let k = kept (parts (a .m) (a .n) (a .t) (a .support .now) (a .g .now)) in
-    le-of-lt (start-within k (a .capsules .now) (s .pre .0) (b .capsule-bytes .ensures) (l .i) (omega (arith, l .inv .0)))
+    (s .pre .0, le-of-lt (start-within k (a .capsules .now) (s .pre .0) (b .capsule-bytes .ensures) (l .i) (omega (arith, l .inv .0))))
 
 slice-write-records : tie.Need-slice-write-records Inv-loop μ-loop
 slice-write-records c =

@@ -1,18 +1,19 @@
 -- The first n and t numbers are those of the lent parts. Assumes nothing.
-use mathlib.Core.Path.{_≡_, sym, ap, ap₂, _∙_}
+use mathlib.Core.Path.{_≡_, sym, ap₂, _∙_}
 use Prim.Native.Nat.{ℕ}
 use native.Mathlib.Omega.{arith}
 use borrow.Author.Needs.{needs}
 use lib.ListN.{length}
 use lib.Seq.{length-take-le}
 use Rattle.bits.specs.Bits.{unpack}
+use Rattle.field.specs.Answers.{inverseNumber}
 use Rattle.field.proofs.Table.{modulus-none, modulus-some}
 use Rattle.key.specs.Keys.{Key}
 use Rattle.key.specs.Kept.{parts}
 use Rattle.key.proofs.Parts.{keyOf-parts}
 use Rattle.decoder.specs.Decoding.{explained}
-use Rattle.decoding.specs.Parts.{foundOf}
-use Rattle.decoding.proofs.Explained.{decoded-no-width, decoded-many-places, decoded-many-errors, decoded-explained}
+use Rattle.decoding.specs.Parts.{decodedDivisors, foundOf}
+use Rattle.decoding.proofs.Explained.{decoded-no-width, decoded-many-places, decoded-many-errors, decoded-found}
 use Rattle.decoding.proofs.decoding.decode.Statement.{statement}
 use Rattle.decoding.proofs.decoding.decode.Tie as tie
 
@@ -86,9 +87,10 @@ returns-4 c =
     let f : length (a .g .now) ≡ 128 = search needs in
     let n = length-take-le (a .n) (a .support .now) (omega arith) in
     let t = length-take-le (a .t) (a .g .now) (omega arith) in
+    let x = modulus-some _ (w .before .modulus .ensures) (w .if1 .left) in
     c .explain .ensures
-    ∙ ap₂ (λ (k : Key) (i : ℕ). foundOf (explained k (unpack i (a .word .now)))) (keyOf-parts k n t) n
-    ∙ ap foundOf (sym (decoded-explained k (a .word .now) (modulus-some _ (w .before .modulus .ensures) (w .if1 .left)) (omega arith) (omega arith)))
+    ∙ ap₂ (λ (k : Key) (i : ℕ). foundOf (inverseNumber (a .m) (decodedDivisors k (unpack i (a .word .now)))) (explained k (unpack i (a .word .now)))) (keyOf-parts k n t) n
+    ∙ decoded-found k (a .word .now) x (omega arith) (omega arith)
 
 pub decode-spec : {M : Type 1} → statement M
 decode-spec =

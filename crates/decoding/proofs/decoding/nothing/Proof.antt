@@ -1,11 +1,11 @@
 -- `decoding::nothing` meets its contract. Assumes nothing.
 use borrow.Author.Needs.{needs}
-use Rattle.decoding.specs.Parts.{foundOf}
+use Rattle.decoding.specs.Parts.{nothingOf}
 use Rattle.decoding.proofs.decoding.nothing.Statement.{statement}
 use Rattle.decoding.proofs.decoding.nothing.Tie as tie
 
 returns : tie.Need-returns
-unfolding foundOf
+unfolding nothingOf
 returns c = search needs
 
 pub nothing-spec : {M : Type 1} → statement M

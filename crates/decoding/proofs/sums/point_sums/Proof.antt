@@ -1,123 +1,63 @@
--- The loop's invariant: the sums over the first points, up to `at`, and the weights from there on. Assumes nothing.
-use mathlib.Core.Path.{_≡_, refl, ap, _∙_}
-use Prim.Native.Nat.{ℕ, _-_, _≤_}
-use native.Mathlib.Omega.{arith}
-use mathlib.Core.List.{List}
-use lib.Seq.{take-all}
-use lib.ListN.{length, take, drop}
+-- The inverses of g's values, squared, are the weights. Assumes nothing.
+use mathlib.Core.Path.{ap, _∙_}
+use mathlib.Core.List.{map}
 use borrow.Author.Needs.{needs}
-use borrow.Rule.Slice.PartMut.{midOf, mid-len, same-len-mid, drop-put}
-use Rattle.bits.specs.Bits.{padded}
-use Rattle.decoding.specs.Parts.{pointSums}
-use Rattle.decoding.proofs.PowerSums.{sums-none, sums-block, weights-block, drop-on}
+use Rattle.field.specs.Field.{inv}
+use Rattle.field.proofs.Verdicts.{verdict-accepted}
+use Rattle.field.proofs.Units.{inverses-given}
+use Rattle.decoding.proofs.PowerSums.{weights-start}
+use Rattle.decoding.proofs.Divisors.{sums-refused, sums-accepted}
 use Rattle.decoding.proofs.sums.point_sums.Statement.{statement}
 use Rattle.decoding.proofs.sums.point_sums.Tie as tie
 
-abbrev Inv-loop : tie.InvT-loop
-Inv-loop m g points n p₀ s₀ at₀ p s at = (at ≤ length points) × (length p ≡ 8192) × (length s ≡ 256)
-    × (drop at p ≡ drop at p₀) × (s ≡ padded 256 (pointSums m g (take at points)))
+inverse-each-requires : tie.Need-inverse-each-requires
+inverse-each-requires c κs = search needs
 
-abbrev μ-loop : tie.MeasureT-loop
-μ-loop m g points n p₀ s₀ at₀ p s at = length points - at
+enum-told : tie.Need-enum-told
+enum-told c = search needs
 
-weights-requires : tie.Need-weights-requires Inv-loop μ-loop
-weights-requires c κs = search needs
+enum-told-2 : tie.Need-enum-told-2
+enum-told-2 c = search needs
 
-loop-holds : tie.Need-loop-holds Inv-loop μ-loop
-loop-holds c =
-    let b = c .before .before .before in (omega arith, search needs, refl, refl, sums-none (b .args .m) (b .args .g .now) (omega arith))
+same-length : tie.Need-same-length
+same-length c = search needs
 
-add-smaller : tie.Need-add-smaller Inv-loop μ-loop
-add-smaller c = omega arith
+returns : tie.Need-returns
+returns c = sums-refused _ _ (c .before .before .before .before .inverse-each .ensures .0) (c .enum-told2 .given .1)
 
-smaller-requires : tie.Need-smaller-requires Inv-loop μ-loop
-smaller-requires c κs = search needs
+square-each-requires : tie.Need-square-each-requires
+square-each-requires c κs = search needs
 
-slice-aggregate-block-sums : tie.Need-slice-aggregate-block-sums Inv-loop μ-loop
-slice-aggregate-block-sums c = search needs
-
-mul-p : tie.Need-mul-p Inv-loop μ-loop
-mul-p c = omega arith
-
-sub-block-sums : tie.Need-sub-block-sums Inv-loop μ-loop
-sub-block-sums c = omega arith
-
-part-p-start : tie.Need-part-p-start Inv-loop μ-loop
-part-p-start c = omega arith
-
-part-p-end : tie.Need-part-p-end Inv-loop μ-loop
-part-p-end c = omega arith
-
-mul-block-sums : tie.Need-mul-block-sums Inv-loop μ-loop
-mul-block-sums c = omega arith
-
-sub-block-sums-2 : tie.Need-sub-block-sums-2 Inv-loop μ-loop
-sub-block-sums-2 c = omega arith
-
-part-block-sums-start : tie.Need-part-block-sums-start Inv-loop μ-loop
-part-block-sums-start c = omega arith
-
-part-block-sums-end : tie.Need-part-block-sums-end Inv-loop μ-loop
-part-block-sums-end c = omega arith
-
-block-sums-requires : tie.Need-block-sums-requires Inv-loop μ-loop
-block-sums-requires c κs =
-    let l = c .before .before .before .before .before .loop in
-    let b = c .before .before .before .before .before .before .before .before .before in
+weighted-sums-requires : tie.Need-weighted-sums-requires
+weighted-sums-requires c κs =
+    let q = c .before .before .before in
+    let t = q .before .before in
+    let i = t .before .before .before .before in
+    let b = i .before .before .before .before .before in
     let a = b .args in
-    let e = c .before .before .before .smaller .result in
-    let w = c .before .before .before .before .before .before .weights in
-    let n : length (midOf (l .at) (e - l .at) (a .points .now)) ≡ e - l .at = mid-len (l .at) e (a .points .now) (omega arith) in
-    let v = weights-block (a .m) (a .g .now) (a .points .now) (l .at) e (l .p) (w .result) (omega arith) (omega arith) (w .ensures) (l .inv .3) in
-    (b .pre .0, omega arith, omega arith, v)
+    let z = verdict-accepted _ (i .inverse-each .ensures .0) (t .enum-told .given .1) in
+    let h = inverses-given (a .m) (a .v .now) z (i .inverse-each .ensures .1) ∙ ap (map (inv (a .m))) (b .pre .2) in
+    (b .pre .0, b .pre .1, weights-start (a .m) (b .pre .0) (a .g .now) (a .points .now) _ _ h (q .square-each .ensures))
 
-loop-less : tie.Need-loop-less Inv-loop μ-loop
-loop-less c = omega arith
+same-length-2 : tie.Need-same-length-2
+same-length-2 c = search needs
 
-loop-again : tie.Need-loop-again Inv-loop μ-loop
-loop-again c =
-    let l = c .before .before .before .before .before .before .before .before .loop in
-    let b = c .before .before .before .before .before .before .before .before .before .before .before .before in
-    let a = b .args in
-    let e = c .before .before .before .before .before .before .smaller .result in
-    let w : List ℕ = c .before .before .before .before .before .before .before .before .before .weights .result in
-    let h = c .before .before .block-sums in
-    let q : List ℕ = h .last .1 .1 .1 .0 in
-    let n : length q ≡ e - l .at = h .kept .1 .1 .1 .0 ∙ mid-len (l .at) e (l .p) (omega arith) in (
-      omega arith,
-      same-len-mid (l .at) (e - l .at) (l .p) q (h .kept .1 .1 .1 .0) ∙ l .inv .1,
-      h .kept .1 .1 .0 ∙ l .inv .2,
-      drop-put (l .at) e (l .p) q (omega arith) (omega arith) n
-          ∙ drop-on (l .at) e (l .p) w (omega arith) (l .inv .3),
-      h .ensures ∙ sums-block (a .m) (a .g .now) (omega arith) (a .points .now) (l .at) e (l .s) (omega arith) (l .inv .4),
-    )
-
-returns : tie.Need-returns Inv-loop μ-loop
-returns c =
-    let l = c .before .loop in
-    let a = c .before .before .before .before .before .args in
-    l .inv .4 ∙ ap (λ (p : List ℕ). padded 256 (pointSums (a .m) (a .g .now) p)) (take-all (l .at) (a .points .now) (omega arith))
+returns-2 : tie.Need-returns-2
+returns-2 c =
+    let s = c .before .before in
+    let t = s .before .before .before .before .before .before in
+    sums-accepted _ _ (t .before .before .before .before .inverse-each .ensures .0) (t .enum-told .given .1) (s .weighted-sums .ensures)
 
 pub point-sums-spec : {M : Type 1} → statement M
 point-sums-spec =
     tie.close
     (tie.spec
-    Inv-loop
-    μ-loop
-    weights-requires
-    loop-holds
-    add-smaller
-    smaller-requires
-    slice-aggregate-block-sums
-    mul-p
-    sub-block-sums
-    part-p-start
-    part-p-end
-    mul-block-sums
-    sub-block-sums-2
-    part-block-sums-start
-    part-block-sums-end
-    block-sums-requires
-    loop-less
-    loop-again
-    returns)
+    inverse-each-requires
+    enum-told
+    enum-told-2
+    same-length
+    returns
+    square-each-requires
+    weighted-sums-requires
+    same-length-2
+    returns-2)

@@ -1,16 +1,36 @@
--- `reading::calls::counted` meets its contract. Assumes nothing.
+-- The verdict, then what is found. Assumes nothing.
+use borrow.Author.Needs.{needs}
 use borrow.Author.Tests.{not-true, not-false}
-use Rattle.reading.specs.Answers.{countedOf}
+use Rattle.field.specs.Verdicts.{numberOf}
+use Rattle.reading.specs.Answers.{answerBy, countedOf}
 use Rattle.reading.proofs.calls.counted.Statement.{statement}
 use Rattle.reading.proofs.calls.counted.Tie as tie
 
+enum-told : tie.Need-enum-told
+enum-told c = search needs
+
+enum-told-2 : tie.Need-enum-told-2
+enum-told-2 c = search needs
+
+number-requires : tie.Need-number-requires
+number-requires c κs = tt
+
 returns : tie.Need-returns
-unfolding countedOf
-returns c = rw (not-true (c .before .before .args .e .found) (c .if1 .taken))
+unfolding countedOf answerBy numberOf
+returns c = rw (c .number .ensures, c .before .enum-told2 .given .1)
 
 returns-2 : tie.Need-returns-2
-unfolding countedOf
-returns-2 c = rw (not-false (c .before .before .args .e .found) (c .if1 .left))
+unfolding countedOf answerBy
+returns-2 c =
+    let t = c .before .before in
+    rw (t .enum-told .given .1, not-true (t .before .before .args .e .found) (c .if1 .taken))
+
+returns-3 : tie.Need-returns-3
+unfolding countedOf answerBy
+returns-3 c =
+    let t = c .before .before in
+    rw (t .enum-told .given .1, not-false (t .before .before .args .e .found) (c .if1 .left))
 
 pub counted-spec : {M : Type 1} → statement M
-counted-spec = tie.close (tie.spec returns returns-2)
+counted-spec =
+    tie.close (tie.spec enum-told enum-told-2 number-requires returns returns-2 returns-3)

@@ -1,21 +1,42 @@
--- What is found, where it has t ones. Assumes nothing.
+-- What is found, where it has t ones; a refusal as it is. Assumes nothing.
 use mathlib.Core.Path.{_∙_}
 use native.Mathlib.Omega.{arith}
-use Rattle.reading.proofs.Answered.{found-other, found-exactly}
+use borrow.Author.Needs.{needs}
+use Rattle.reading.proofs.Answered.{found-refusal, found-other, found-exactly}
 use Rattle.reading.proofs.calls.open_checked.Statement.{statement}
 use Rattle.reading.proofs.calls.open_checked.Tie as tie
 
 decode-requires : tie.Need-decode-requires
 decode-requires c κs = tt
 
+enum-told : tie.Need-enum-told
+enum-told c = search needs
+
+enum-told-2 : tie.Need-enum-told-2
+enum-told-2 c = search needs
+
+returns : tie.Need-returns
+returns c = found-refusal _ _ _ (c .before .before .decode .ensures) (c .enum-told2 .given .1)
+
 nothing-requires : tie.Need-nothing-requires
 nothing-requires c κs = tt
 
-returns : tie.Need-returns
-returns c = c .nothing .ensures ∙ found-other _ _ (c .before .before .before .decode .ensures) (λ e. omega arith)
-
 returns-2 : tie.Need-returns-2
-returns-2 c = found-exactly _ _ (c .before .before .decode .ensures) (omega arith)
+returns-2 c =
+    let t = c .before .before .before in
+    c .nothing .ensures ∙ found-other _ _ _ (t .before .before .decode .ensures) (t .enum-told .given .1) (λ e. omega arith)
+
+returns-3 : tie.Need-returns-3
+returns-3 c = found-exactly _ _ _ (c .before .before .before .before .decode .ensures) (omega arith)
 
 pub open-checked-spec : {M : Type 1} → statement M
-open-checked-spec = tie.close (tie.spec decode-requires nothing-requires returns returns-2)
+open-checked-spec =
+    tie.close
+    (tie.spec
+    decode-requires
+    enum-told
+    enum-told-2
+    returns
+    nothing-requires
+    returns-2
+    returns-3)
