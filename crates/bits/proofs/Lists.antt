@@ -93,6 +93,15 @@ every-at p [] e i d h = absurd (not-suc-le-zero h)
 every-at p (x ∷ l) e zero d h = and-left (p x) (every p l) e
 every-at p (x ∷ l) e (suc i) d h = every-at p l (and-right (p x) (every p l) e) i d (le-of-suc-le-suc h)
 
+pub every-append : (p : ℕ → Bool) (l r : List ℕ) → every p (l ++ r) ≡ every p l && every p r
+unfolding every
+every-append p [] r = refl
+every-append p (x ∷ l) r = go (p x) (every-append p l r)
+  where
+    go : (b : Bool) → every p (l ++ r) ≡ every p l && every p r → b && every p (l ++ r) ≡ (b && every p l) && every p r
+    go true e = e
+    go false e = refl
+
 pub every-all : (p : ℕ → Bool) (l : List ℕ) (d : ℕ) → ((i : ℕ) → i < length l → p (getD l i d) ≡ true) → every p l ≡ true
 unfolding every
 every-all p [] d h = refl

@@ -2,9 +2,9 @@
 use mathlib.Core.Path.{_≡_, refl, sym, ap, _∙_, fun-ext}
 use mathlib.Core.Bool.{false}
 use mathlib.Core.List.{List, [], _∷_, map}
-use Prim.Native.Nat.{ℕ, zero, suc, _≤_, _<_, suc-le-suc}
+use Prim.Native.Nat.{ℕ, zero, suc, _≤_, _<_}
 use native.Mathlib.Omega.{arith}
-use native.Mathlib.Nat.{zero-lt-suc, le-of-suc-le-suc, not-suc-le-zero}
+use native.Mathlib.Nat.{le-of-suc-le-suc, not-suc-le-zero}
 use lib.ListN.{length, getD, take, replicate, length-map, length-replicate}
 use Rattle.bits.specs.Xor.{_⊕_}
 use Rattle.bits.specs.Bits.{eachWith}
@@ -44,17 +44,7 @@ module _ (h : ℕ → ℕ) where
   each-map f [] = refl
   each-map f (a ∷ s) = ap (_∷_ (f (h a) a)) (each-map f s)
 
-  -- over another list: followed by f with its own numbers; at the list's places
-  each-own : (f : ℕ → ℕ → ℕ) (d s : List ℕ) (n : ℕ) → n ≤ length s → (n < length s → length d ≤ n)
-      → eachWith f (eachWith (λ x a. h a) d s) (take n (eachWith (λ x a. h a) d s)) ≡ eachWith (λ x a. f (h a) (h a)) d s
-  unfolding eachWith
-  each-own f [] s n l e = refl
-  each-own f (x ∷ d) [] zero l e = refl
-  each-own f (x ∷ d) [] (suc n) l e = absurd (not-suc-le-zero l)
-  each-own f (x ∷ d) (a ∷ s) zero l e = absurd (not-suc-le-zero (e (zero-lt-suc (length s))))
-  each-own f (x ∷ d) (a ∷ s) (suc n) l e =
-      ap (_∷_ (f (h a) (h a))) (each-own f d s n (le-of-suc-le-suc l) (λ k. le-of-suc-le-suc (e (suc-le-suc k))))
-
+  -- at the list's places
   take-each : (n : ℕ) (s : List ℕ) → length s ≤ n → take (length s) (eachWith (λ x a. h a) (replicate n 1) s) ≡ map h s
   unfolding eachWith
   take-each n [] l = refl
@@ -97,15 +87,3 @@ module _ (m : ℕ) (h : ℕ → ℕ) (s : List ℕ) where
 
   pub take-ofEach : Width m → length s ≤ 8192 → take (length s) (ofEach m h s) ≡ map h s
   take-ofEach w l = ap (take (length s)) (ofEach-width w) ∙ take-each h 8192 s l
-
--- the squares
-module _ (m : ℕ) (h : ℕ → ℕ) (s : List ℕ) where
-  pub ofEach-square : (n : ℕ) → n ≤ length s → (n < length s → 8192 ≤ n)
-      → hornerEach m 0 (ofEach m h s) (take n (ofEach m h s)) ≡ ofEach m (λ a. mul m (h a) (h a)) s
-  ofEach-square n l e =
-      by-width m
-      (λ w. hornerEach-width m 0 _ _ w ∙ ap (λ (d : List ℕ). eachWith (λ x a. mul m x a ⊕ 0) d (take n d)) (ofEach-width m h s w)
-      ∙ each-own h (λ x a. mul m x a ⊕ 0) (replicate 8192 1) s n l (λ k. rw length-replicate (e k))
-      ∙ ap (λ (f : ℕ → ℕ). eachWith (λ x a. f a) (replicate 8192 1) s) (fun-ext λ a. xor-zero (mul m (h a) (h a)))
-      ∙ sym (ofEach-width m (λ a. mul m (h a) (h a)) s w))
-      (λ z. hornerEach-none m 0 _ _ z ∙ ofEach-none m h s z ∙ sym (ofEach-none m _ s z))

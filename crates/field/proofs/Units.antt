@@ -1,13 +1,15 @@
 -- The numbers that have an inverse, and what the inverses answer. Assumes nothing.
 use mathlib.Core.Path.{_≡_, refl, sym, ap, _∙_}
-use mathlib.Core.Bool.{Bool, true, false, not, cond}
-use mathlib.Core.List.{List, [], _∷_, map}
+use mathlib.Core.Logic.{_⊎_, inl, inr}
+use mathlib.Core.Bool.{Bool, true, false, not, cond, _&&_}
+use mathlib.Core.List.{List, [], _∷_, _++_, map}
 use Prim.Native.Nat.{ℕ, zero, suc, _%_, _^_, _<_}
 use native.Mathlib.Nat.{mod-eq-of-lt, pos-of-ne-zero}
 use native.Mathlib.Omega.{arith}
 use borrow.Author.Tests.{eqb-true, eqb-false, eq-eqb, ne-eqb, ltb-true, not-true, not-false}
 use lib.Dec.{eqb, ltb}
 use Rattle.bits.specs.Bits.{every}
+use Rattle.bits.proofs.Lists.{every-append}
 use Rattle.field.specs.Field.{isWidth, isElement, mul, inv}
 use Rattle.field.specs.Numbers.{firstOf}
 use Rattle.field.specs.Verdicts.{verdictOf}
@@ -69,6 +71,25 @@ module _ (m : ℕ) (xs : List ℕ) where
       go : (w e : Bool) → firstOf ((not w, 1) ∷ (not e, 32) ∷ []) ≡ 0 → w ≡ true
       go true e z = refl
       go false e z = absurd (omega arith)
+
+  -- of two lists: the first's, or where that is 0 the second's
+  pub inverse-append : (ys : List ℕ) → inverseNumber m (xs ++ ys) ≡ cond (eqb (inverseNumber m xs) 0) (inverseNumber m ys) (inverseNumber m xs)
+  unfolding inverseNumber firstOf
+  inverse-append ys = rw (every-append (isUnit m) xs ys) (go (isWidth m) (every (isUnit m) xs) (every (isUnit m) ys))
+    where
+      go : (w a b : Bool) → firstOf ((not w, 1) ∷ (not (a && b), 32) ∷ [])
+          ≡ cond (eqb (firstOf ((not w, 1) ∷ (not a, 32) ∷ [])) 0) (firstOf ((not w, 1) ∷ (not b, 32) ∷ [])) (firstOf ((not w, 1) ∷ (not a, 32) ∷ []))
+      go true true b = refl
+      go true false b = refl
+      go false a b = refl
+
+  -- at a width 32 is the only refusal
+  pub inverse-numbers : Width m → (inverseNumber m xs ≡ 0) ⊎ (inverseNumber m xs ≡ 32)
+  inverse-numbers w = go (every (isUnit m) xs) refl
+    where
+      go : (e : Bool) → every (isUnit m) xs ≡ e → (inverseNumber m xs ≡ 0) ⊎ (inverseNumber m xs ≡ 32)
+      go true e = inl (units-number w e)
+      go false e = inr (no-units-number w e)
 
   -- at each place
   pub inverses-given : {ys : List ℕ} → inverseNumber m xs ≡ 0 → ys ≡ inversesOf m xs → ys ≡ map (inv m) xs

@@ -1,6 +1,6 @@
 -- What an accepted key is: the tests of its conditions as facts. Assumes nothing.
 use Prim.Native.Nat.{ℕ, zero, suc, _^_, _<_}
-use mathlib.Core.Path.{_≡_, refl, ap₂}
+use mathlib.Core.Path.{_≡_, sym, _∙_}
 use mathlib.Core.Bool.{Bool, true, false, not, _&&_}
 use mathlib.Core.List.{List, [], _∷_, _++_}
 use native.Mathlib.Omega.{arith}
@@ -9,7 +9,7 @@ use lib.Dec.{eqb}
 use lib.ListN.{length, getD}
 use borrow.Author.Tests.{eqb-true, eqb-false, not-true, not-false}
 use Rattle.bits.specs.Bits.{every}
-use Rattle.bits.proofs.Lists.{and-left, and-right, every-at}
+use Rattle.bits.proofs.Lists.{and-left, and-right, every-at, every-append}
 use Rattle.field.specs.Field.{isWidth, isElement}
 use Rattle.field.proofs.Table.{Width}
 use Rattle.field.proofs.Arrays.{every-elements}
@@ -20,11 +20,7 @@ use Rattle.field.proofs.Numbers.{first-clear}
 use Rattle.key.proofs.Shapes.{Limits, limits}
 
 every-parts : (p : ℕ → Bool) (l r : List ℕ) → every p (l ++ r) ≡ true → (every p l ≡ true) × (every p r ≡ true)
-unfolding every
-every-parts p [] r e = (refl, e)
-every-parts p (x ∷ l) r e =
-    let b = every-parts p l r (and-right (p x) (every p (l ++ r)) e) in
-    (ap₂ _&&_ (and-left (p x) (every p (l ++ r)) e) (b .0), b .1)
+every-parts p l r e = let h = sym (every-append p l r) ∙ e in (and-left (every p l) (every p r) h, and-right (every p l) (every p r) h)
 
 -- no element of the list stands twice
 pub distinct-at : (l : List ℕ) → distinct l ≡ true → (i j : ℕ) → i < j → j < length l → getD l i 0 ≡ getD l j 0 → ⊥
