@@ -54,7 +54,7 @@ found-nothing : {q : ℕ} {o : Option (List ℕ)} → q ≡ 0 → o ≡ none →
 unfolding foundOf
 found-nothing z h = rw (z, h)
 
-found-refused : (q : ℕ) (o : Option (List ℕ)) {v : Verdict} {x : ℕ} → v ≡ verdictOf q → v ≡ variants.Refused x → nothingOf v ≡ foundOf q o
+pub found-refused : (q : ℕ) (o : Option (List ℕ)) {v : Verdict} {x : ℕ} → v ≡ verdictOf q → v ≡ variants.Refused x → nothingOf v ≡ foundOf q o
 unfolding foundOf verdictOf
 found-refused zero o e h = absurd (verdict-refused 0 e h refl)
 found-refused (suc q) o e h = ap nothingOf e

@@ -14,7 +14,7 @@ use Rattle.bits.proofs.PutBits.{written-row}
 use Rattle.bits.proofs.Pack.{length-unpack, unpack-add, well-formed-past}
 use Rattle.field.specs.Numbers.{firstOf}
 use Rattle.field.specs.declared.Verdict.the-variants as verdicts
-use Rattle.field.proofs.Verdicts.{verdict-accepted, verdict-refused}
+use Rattle.field.proofs.Verdicts.{verdict-accepted}
 use Rattle.key.specs.Keys.{keyNumber}
 use Rattle.key.specs.Kept.{kept}
 use Rattle.key.specs.declared.kept.Key.{Key}
@@ -27,7 +27,7 @@ use Rattle.decoder.proofs.Openings.{exactly-some}
 use Rattle.decoding.specs.Parts.{decodedNumber, decoded, nothingOf, foundOf}
 use Rattle.decoding.specs.declared.decoding.Found.{Found}
 use Rattle.decoding.proofs.Packed.{unpack-packed}
-use Rattle.decoding.proofs.Explained.{found-verdict, decoded-divides, decoded-reading}
+use Rattle.decoding.proofs.Explained.{found-verdict, found-refused, decoded-divides, decoded-reading}
 use Rattle.reading.specs.Answers.{answerOf, readOf, openOf, readChecks, openChecks, answerBy, countedOf}
 use Rattle.reading.specs.declared.calls.Answer.{Answer}
 use Rattle.reading.specs.declared.calls.Answer.the-variants.{Ones, Refused}
@@ -138,10 +138,9 @@ unpack-filled m n s w h =
 -- open
 -- where decoding is refused the refusal, where the pattern has another number of ones nothing, and where it has t the pattern
 module _ (t : ℕ) where
-  pub found-refusal : (q : ℕ) (o : Option (List ℕ)) {f : Found} {x : ℕ} → f ≡ foundOf q o → f .verdict ≡ verdicts.Refused x → f ≡ foundOf q (exactly t o)
-  unfolding foundOf
-  found-refusal zero o e a = absurd (verdict-refused 0 (found-verdict 0 o e) a refl)
-  found-refusal (suc q) o e a = e
+  pub found-refusal : (q : ℕ) (o : Option (List ℕ)) {f : Found} {x : ℕ} → f ≡ foundOf q o → f .verdict ≡ verdicts.Refused x
+      → nothingOf (f .verdict) ≡ foundOf q (exactly t o)
+  found-refusal q o e a = found-refused q (exactly t o) (found-verdict q o e) a
 
   pub found-other : (q : ℕ) (o : Option (List ℕ)) {f : Found} → f ≡ foundOf q o → f .verdict ≡ verdicts.Accepted → (f .ones ≡ t → ⊥)
       → nothingOf verdicts.Accepted ≡ foundOf q (exactly t o)

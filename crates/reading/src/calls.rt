@@ -187,7 +187,7 @@ pub fn open_checked<'a>(
     let e = decode(m, n, t, support, g, capsule);
     let x = e.verdict;
     let Verdict::Accepted = x else {
-        return e;
+        return nothing(x);
     };
     if e.ones != t {
         return nothing(Verdict::Accepted);

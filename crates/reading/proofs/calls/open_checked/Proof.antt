@@ -1,4 +1,4 @@
--- What is found, where it has t ones; a refusal as it is. Assumes nothing.
+-- A refusal, else what is found, where it has t ones. Assumes nothing.
 use mathlib.Core.Path.{_∙_}
 use native.Mathlib.Omega.{arith}
 use borrow.Author.Needs.{needs}
@@ -15,16 +15,19 @@ enum-told c = search needs
 enum-told-2 : tie.Need-enum-told-2
 enum-told-2 c = search needs
 
-returns : tie.Need-returns
-returns c = found-refusal _ _ _ (c .before .before .decode .ensures) (c .enum-told2 .given .1)
-
 nothing-requires : tie.Need-nothing-requires
 nothing-requires c κs = tt
+
+returns : tie.Need-returns
+returns c = c .nothing .ensures ∙ found-refusal _ _ _ (c .before .before .before .decode .ensures) (c .before .enum-told2 .given .1)
+
+nothing-requires-2 : tie.Need-nothing-requires-2
+nothing-requires-2 c κs = tt
 
 returns-2 : tie.Need-returns-2
 returns-2 c =
     let t = c .before .before .before in
-    c .nothing .ensures ∙ found-other _ _ _ (t .before .before .decode .ensures) (t .enum-told .given .1) (λ e. omega arith)
+    c .nothing2 .ensures ∙ found-other _ _ _ (t .before .before .decode .ensures) (t .enum-told .given .1) (λ e. omega arith)
 
 returns-3 : tie.Need-returns-3
 returns-3 c = found-exactly _ _ _ (c .before .before .before .before .decode .ensures) (omega arith)
@@ -36,7 +39,8 @@ open-checked-spec =
     decode-requires
     enum-told
     enum-told-2
-    returns
     nothing-requires
+    returns
+    nothing-requires-2
     returns-2
     returns-3)
