@@ -1,33 +1,23 @@
 -- What the sums divide by: the number of all divisors, by those of the word and those of the places found. Assumes nothing.
 use mathlib.Core.Path.{_≡_, refl, ap, ap₂, _∙_}
-use mathlib.Core.Bool.{Bool, true, false, cond, not, _&&_}
-use mathlib.Core.List.{List, [], _∷_, _++_, map, append-nil}
+use mathlib.Core.Bool.{Bool, true, false, cond, _&&_}
+use mathlib.Core.List.{List, [], _∷_, map, append-nil}
 use Prim.Native.Nat.{ℕ, zero, suc, _≤_, _<_}
 use borrow.Author.Tests.{eq-eqb, ne-eqb, lt-leb, le-leb}
-use lib.Dec.{eqb, leb}
+use lib.Dec.{leb}
 use lib.ListN.{replicate}
 use Rattle.bits.specs.Bits.{every, ones, padded}
-use Rattle.bits.proofs.Lists.{and-left, and-right}
-use Rattle.field.specs.Numbers.{firstOf}
-use Rattle.field.specs.Field.{isWidth}
+use Rattle.bits.proofs.Lists.{and-left, and-right, every-append}
 use Rattle.field.specs.Answers.{isUnit, inverseNumber}
 use Rattle.field.specs.Verdicts.{verdictOf}
 use Rattle.field.specs.declared.Verdict.{Verdict}
 use Rattle.field.specs.declared.Verdict.the-variants.{Accepted, Refused}
 use Rattle.field.proofs.Verdicts.{verdict-accepted, verdict-refused}
+use Rattle.field.proofs.Units.{inverse-append}
 use Rattle.key.specs.Keys.{Key, goppaAt}
 use Rattle.decoder.specs.Decoding.{chosen, located}
 use Rattle.decoding.specs.Parts.{sumsOf, divisors, decodedDivisors}
 use Rattle.decoding.specs.declared.sums.Sums.{Sums}
-
-every-append : (p : ℕ → Bool) (l r : List ℕ) → every p (l ++ r) ≡ every p l && every p r
-unfolding every
-every-append p [] r = refl
-every-append p (x ∷ l) r = go (p x) (every-append p l r)
-  where
-    go : (b : Bool) → every p (l ++ r) ≡ every p l && every p r → b && every p (l ++ r) ≡ (b && every p l) && every p r
-    go true e = e
-    go false e = refl
 
 -- what holds for every member of a list holds for every chosen one
 pub every-chosen : (p : ℕ → Bool) (f : ℕ → ℕ) (c l : List ℕ) → every p (map f l) ≡ true → every p (map f (chosen c l)) ≡ true
@@ -38,17 +28,6 @@ every-chosen p f (zero ∷ c) (a ∷ l) e = every-chosen p f c l (and-right (p (
 every-chosen p f (suc b ∷ c) (a ∷ l) e =
     rw (and-left (p (f a)) (every p (map f l)) e) (every-chosen p f c l (and-right (p (f a)) (every p (map f l)) e))
 
--- the number of two lists: the first's, or where that is 0 the second's
-number-append : (m : ℕ) (l r : List ℕ) → inverseNumber m (l ++ r) ≡ cond (eqb (inverseNumber m l) 0) (inverseNumber m r) (inverseNumber m l)
-unfolding inverseNumber firstOf
-number-append m l r = rw (every-append (isUnit m) l r) (go (isWidth m) (every (isUnit m) l) (every (isUnit m) r))
-  where
-    go : (w a b : Bool) → firstOf ((not w, 1) ∷ (not (a && b), 32) ∷ [])
-        ≡ cond (eqb (firstOf ((not w, 1) ∷ (not a, 32) ∷ [])) 0) (firstOf ((not w, 1) ∷ (not b, 32) ∷ [])) (firstOf ((not w, 1) ∷ (not a, 32) ∷ []))
-    go true true b = refl
-    go true false b = refl
-    go false a b = refl
-
 -- the word's divisors decide where they are refused; else those of the places found, where these are at most t
 module _ (k : Key) (w : List ℕ) where
   abbrev e : List ℕ
@@ -57,7 +36,7 @@ module _ (k : Key) (w : List ℕ) where
   pub number-word : (inverseNumber (k .m) (divisors k w) ≡ 0 → ⊥)
       → inverseNumber (k .m) (decodedDivisors k w) ≡ inverseNumber (k .m) (divisors k w)
   unfolding decodedDivisors
-  number-word h = number-append (k .m) (divisors k w) _ ∙ rw (ne-eqb (inverseNumber (k .m) (divisors k w)) 0 h)
+  number-word h = inverse-append (k .m) (divisors k w) _ ∙ rw (ne-eqb (inverseNumber (k .m) (divisors k w)) 0 h)
 
   module _ (z : inverseNumber (k .m) (divisors k w) ≡ 0) where
     pub number-many : k .t < ones e → inverseNumber (k .m) (decodedDivisors k w) ≡ 0
@@ -66,7 +45,7 @@ module _ (k : Key) (w : List ℕ) where
 
     pub number-few : ones e ≤ k .t → inverseNumber (k .m) (decodedDivisors k w) ≡ inverseNumber (k .m) (divisors k e)
     unfolding decodedDivisors
-    number-few h = rw (le-leb (ones e) (k .t) h, number-append (k .m) (divisors k w) (divisors k e), z)
+    number-few h = rw (le-leb (ones e) (k .t) h, inverse-append (k .m) (divisors k w) (divisors k e), z)
 
 -- all have an inverse where g has no root in the support
 pub divisors-units : (k : Key) → every (isUnit (k .m)) (map (goppaAt k) (k .support)) ≡ true → (w : List ℕ) → every (isUnit (k .m)) (decodedDivisors k w) ≡ true

@@ -1,8 +1,8 @@
 -- The check of the places found, and the kept key. Assumes nothing.
 use mathlib.Core.Path.{_≡_, refl, sym, ap, ap₂, _∙_}
-use mathlib.Core.Logic.{_⊎_, inl, inr}
+use mathlib.Core.Logic.{_⊎_, inl}
 use mathlib.Core.Bool.{Bool, true, false, cond, not, _&&_, true≢false}
-use mathlib.Core.List.{List, [], _∷_}
+use mathlib.Core.List.{List, []}
 use mathlib.Core.Option.{Option, none, some}
 use Prim.Native.Nat.{ℕ, zero, suc, _*_, _≤_, _<_}
 use native.Mathlib.Nat.{le-of-suc-le-suc}
@@ -11,17 +11,16 @@ use lib.Dec.{eqb, leb}
 use lib.ListN.{length, take}
 use lib.Pow.{pow-mono}
 use borrow.Author.Tests.{lt-leb, le-leb}
-use Rattle.bits.specs.Bits.{Row, every, unpack, ones, weight, padded}
+use Rattle.bits.specs.Bits.{Row, unpack, ones, weight, padded}
 use Rattle.bits.proofs.Pack.{row-unpack}
 use Rattle.field.specs.Field.{isWidth}
-use Rattle.field.specs.Numbers.{firstOf}
-use Rattle.field.specs.Answers.{isUnit, inverseNumber}
+use Rattle.field.specs.Answers.{inverseNumber}
 use Rattle.field.specs.Verdicts.{verdictOf}
 use Rattle.field.specs.declared.Verdict.{Verdict}
 use Rattle.field.specs.declared.Verdict.the-variants as variants
 use Rattle.field.proofs.Verdicts.{verdict-accepted, verdict-refused}
 use Rattle.field.proofs.Table.{Width, width-narrow}
-use Rattle.field.proofs.Units.{units-number}
+use Rattle.field.proofs.Units.{units-number, inverse-numbers}
 use Rattle.poly.specs.Polynomials.{same}
 use Rattle.poly.specs.Register.{register, registerNumber}
 use Rattle.poly.proofs.Laws.{same-eq, eq-same}
@@ -164,15 +163,17 @@ module _ (m : ℕ) (support g : List ℕ) (wide : Width m) (few : length g ≤ 1
 
 -- 32 is the only refusal
 pub decoded-numbers : (k : Keys.Key) (w : List ℕ) → (decodedNumber k w ≡ 0) ⊎ (decodedNumber k w ≡ 32)
-unfolding decodedNumber inverseNumber firstOf
-decoded-numbers k w = go (isWidth (k .m)) (leb (k .n) 8192) (leb (k .t) 128) (every (isUnit (k .m)) (decodedDivisors k w))
+unfolding decodedNumber
+decoded-numbers k w = go (isWidth (k .m)) (leb (k .n) 8192) (leb (k .t) 128) refl
   where
-    go : (a b c d : Bool) → let q : ℕ = cond (a && b && c) (firstOf ((not a, 1) ∷ (not d, 32) ∷ [])) 0 in (q ≡ 0) ⊎ (q ≡ 32)
-    go false b c d = inl refl
-    go true false c d = inl refl
-    go true true false d = inl refl
-    go true true true true = inl refl
-    go true true true false = inr refl
+    q : ℕ
+    q = inverseNumber (k .m) (decodedDivisors k w)
+
+    go : (a b c : Bool) → isWidth (k .m) ≡ a → let x : ℕ = cond (a && b && c) q 0 in (x ≡ 0) ⊎ (x ≡ 32)
+    go false b c e = inl refl
+    go true false c e = inl refl
+    go true true false e = inl refl
+    go true true true e = inverse-numbers (k .m) (decodedDivisors k w) e
 
 -- a kept key by its numbers
 module _ (k : Key) (word : List ℕ) where
