@@ -4,7 +4,7 @@ use mathlib.Core.Bool.{false}
 use mathlib.Core.List.{List, [], _∷_, map}
 use Prim.Native.Nat.{ℕ, zero, suc, _≤_, _<_}
 use native.Mathlib.Omega.{arith}
-use native.Mathlib.Nat.{le-of-suc-le-suc, not-suc-le-zero}
+use native.Mathlib.Nat.{le-refl, le-of-suc-le-suc, not-suc-le-zero}
 use lib.ListN.{length, getD, take, replicate, length-map, length-replicate}
 use Rattle.bits.specs.Xor.{_⊕_}
 use Rattle.bits.specs.Bits.{eachWith}
@@ -29,14 +29,6 @@ module _ (m c : ℕ) (r s : List ℕ) where
   pub hornerEach-at : Width m → (i : ℕ) → i < length r → i < length s → getD (hornerEach m c r s) i 0 ≡ mul m (getD r i 0) (getD s i 0) ⊕ c
   hornerEach-at w i h k = rw (hornerEach-width w) (eachWith-at (λ x y. mul m x y ⊕ c) r s i h k)
 
--- a place that is not reached yet
-pub each-later : (f : ℕ → ℕ → ℕ) (d s : List ℕ) (i : ℕ) → getD (eachWith f d (take i s)) i 0 ≡ getD d i 0
-unfolding eachWith
-each-later f [] s i = refl
-each-later f (x ∷ d) s zero = refl
-each-later f (x ∷ d) [] (suc i) = refl
-each-later f (x ∷ d) (y ∷ s) (suc i) = each-later f d s i
-
 -- a function h of a list's numbers, followed by f with the same numbers
 module _ (h : ℕ → ℕ) where
   pub each-map : (f : ℕ → ℕ → ℕ) (s : List ℕ) → eachWith f (map h s) s ≡ map (λ a. f (h a) a) s
@@ -51,11 +43,19 @@ module _ (h : ℕ → ℕ) where
   take-each zero (a ∷ s) l = absurd (not-suc-le-zero l)
   take-each (suc n) (a ∷ s) l = ap (_∷_ (h a)) (take-each n s (le-of-suc-le-suc l))
 
--- the squares, and the products with a list that may go on
+-- squares, and products with a list that goes on
 each-self : (f : ℕ → ℕ → ℕ) (s : List ℕ) → eachWith f s s ≡ map (λ a. f a a) s
 unfolding eachWith
 each-self f [] = refl
 each-self f (a ∷ s) = ap (_∷_ (f a a)) (each-self f s)
+
+-- with a list that goes on behind r
+pub horner-start : (m c : ℕ) (r s : List ℕ) → take (length r) s ≡ r → hornerEach m c r s ≡ hornerEach m c r r
+horner-start m c r s e =
+    by-width m
+    (λ w. hornerEach-width m c r s w ∙ sym (eachWith-take _ r s (length r) (λ h. le-refl (length r)))
+    ∙ ap (eachWith (λ x y. mul m x y ⊕ c) r) e ∙ sym (hornerEach-width m c r r w))
+    (λ n. hornerEach-none m c r s n ∙ sym (hornerEach-none m c r r n))
 
 module _ (m : ℕ) (w : Width m) where
   pub horner-self : (s : List ℕ) → hornerEach m 0 s s ≡ map (λ a. mul m a a) s

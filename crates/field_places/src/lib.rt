@@ -28,21 +28,6 @@ pub fn horner_each(m: u8, r: &mut [u16], a: &[u16], c: u16)
     }
 }
 
-// v[i] := v[i]² at each place; nothing where m is no width.
-pub fn square_each(m: u8, v: &mut [u16])
-    ensures { λ _. ⌜ now (v .exit) ≡ hornerEach m 0 (now (v .entry)) (now (v .entry)) ⌝ }
-{
-    let f = field::modulus(m);
-    if f == 0 {
-        return;
-    }
-    let mut i = 0;
-    while i < v.len() {
-        v[i] = field::lane_product(m, f, v[i], v[i]);
-        i += 1;
-    }
-}
-
 // The numbers of v, with zeros behind them.
 fn block(v: &[u16]) -> [u16; 512]
     requires { ⌜ length (now v) ≤ 512 ⌝ }
@@ -57,18 +42,43 @@ fn block(v: &[u16]) -> [u16; 512]
     a
 }
 
+// a² for each a of v, by a copy, so that `lane_product` has one caller.
+fn square_block(m: u8, v: &mut [u16])
+    requires { ⌜ length (now v) ≤ 512 ⌝ }
+    ensures { λ _. ⌜ now (v .exit) ≡ hornerEach m 0 (now (v .entry)) (now (v .entry)) ⌝ }
+{
+    let a = block(v);
+    horner_each(m, v, &a, 0);
+}
+
 // a^(2^m - 2) for each a of v, as `field::inverse` has it.
 fn inverse_block(m: u8, v: &mut [u16])
     requires { ⌜ (isWidth m ≡ true) × (length (now v) ≤ 512) ⌝ }
     ensures { λ _. ⌜ now (v .exit) ≡ map (inv m) (now (v .entry)) ⌝ }
 {
     let a = block(v);
-    square_each(m, v);
+    square_block(m, v);
     let mut k = 2;
     while k < m {
         horner_each(m, v, &a, 0);
-        square_each(m, v);
+        square_block(m, v);
         k += 1;
+    }
+}
+
+// a² for each a of v, in blocks of 512 places; nothing where m is no width.
+pub fn square_each(m: u8, v: &mut [u16])
+    ensures { λ _. ⌜ now (v .exit) ≡ hornerEach m 0 (now (v .entry)) (now (v .entry)) ⌝ }
+{
+    if field::modulus(m) == 0 {
+        return;
+    }
+    let n = v.len();
+    let mut at = 0;
+    while at < n {
+        let e = at + bits::smaller(n - at, 512);
+        square_block(m, &mut v[at..e]);
+        at = e;
     }
 }
 

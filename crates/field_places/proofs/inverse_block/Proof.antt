@@ -23,7 +23,7 @@ module _ (m : ℕ) (v s a : List ℕ) (e : a ≡ padded 512 v) (q : s ≡ horner
   square-start = ap (λ (n : ℕ). take n a) (ap length q ∙ length-hornerEach m 0 v v) ∙ copy-start
 
 abbrev Inv-loop : tie.InvT-loop
-Inv-loop m v₀ a k₀ v k = (0 < k) × (k ≤ m) × (v ≡ map (evenPower m k) (take (length v₀) a))
+Inv-loop m v₀ a k₀ v k = (0 < k) × (k ≤ m) × (length v ≤ 512) × (v ≡ map (evenPower m k) (take (length v₀) a))
 
 abbrev μ-loop : tie.MeasureT-loop
 μ-loop m v₀ a k₀ v k = m - k
@@ -31,16 +31,16 @@ abbrev μ-loop : tie.MeasureT-loop
 block-requires : tie.Need-block-requires Inv-loop μ-loop
 block-requires c κs = search needs
 
-square-each-requires : tie.Need-square-each-requires Inv-loop μ-loop
-square-each-requires c κs = search needs
+square-block-requires : tie.Need-square-block-requires Inv-loop μ-loop
+square-block-requires c κs = search needs
 
 loop-holds : tie.Need-loop-holds Inv-loop μ-loop
 loop-holds c =
     let b = c .before .before .before .before .before .before .before in
-    let q = c .before .before .square-each .ensures in
+    let q = c .before .before .square-block .ensures in
     let d = square-start _ _ _ _ (c .before .before .before .before .block .ensures) q in
     let w = b .pre .0 in
-    (omega arith, width-over-one _ w, q ∙ squares-powers _ w _ ∙ ap (map (evenPower _ 2)) (sym (d)))
+    (omega arith, width-over-one _ w, omega (arith, ap length q ∙ length-hornerEach _ _ _ _, b .pre .1), q ∙ squares-powers _ w _ ∙ ap (map (evenPower _ 2)) (sym d))
 
 slice-aggregate-horner-each : tie.Need-slice-aggregate-horner-each Inv-loop μ-loop
 slice-aggregate-horner-each c =
@@ -51,8 +51,8 @@ slice-aggregate-horner-each c =
 horner-each-requires : tie.Need-horner-each-requires Inv-loop μ-loop
 horner-each-requires c κs = search needs
 
-square-each-requires-2 : tie.Need-square-each-requires-2 Inv-loop μ-loop
-square-each-requires-2 c κs = search needs
+square-block-requires-2 : tie.Need-square-block-requires-2 Inv-loop μ-loop
+square-block-requires-2 c κs = search needs
 
 add-k : tie.Need-add-k Inv-loop μ-loop
 add-k c = omega arith
@@ -65,33 +65,36 @@ loop-again c =
     let l = c .before .before .before .before .before .before .before .before .before .before .loop in
     let u = c .before .before .before .before .before .before .before .before .before .before .before in
     let b = u .before .before .before .before .before .before .before in
-    let d = square-start _ _ _ _ (u .before .before .before .before .block .ensures) (u .before .before .square-each .ensures) in
+    let d = square-start _ _ _ _ (u .before .before .before .before .block .ensures) (u .before .before .square-block .ensures) in
     let m : ℕ = b .args .m in
     let v : List ℕ = b .args .v .now in
-    let e : l .v ≡ map (evenPower m (l .k)) v = l .inv .2 ∙ ap (map (evenPower m (l .k))) (d) in
-    let t = c .before .before .before .before .before .before .horner-each .ensures ∙ ap (λ (r : List ℕ). hornerEach m 0 r (u .before .before .before .before .block .result)) e in (
+    let e : l .v ≡ map (evenPower m (l .k)) v = l .inv .3 ∙ ap (map (evenPower m (l .k))) d in
+    let s = c .before .before .square-block2 .ensures in
+    let h = c .before .before .before .before .before .before .horner-each .ensures in
+    let t = h ∙ ap (λ (r : List ℕ). hornerEach m 0 r (u .before .before .before .before .block .result)) e in (
       omega arith,
       omega arith,
-      c .before .before .square-each2 .ensures
-          ∙ powers-turn m (b .pre .0) v (l .k) (l .inv .0) _ (copy-start _ _ _ _ (u .before .before .before .before .block .ensures) (u .before .before .square-each .ensures)) t
-          ∙ ap (map (evenPower m (l .k + 1))) (sym (d)),
+      omega (arith, ap length s ∙ length-hornerEach _ _ _ _, ap length h ∙ length-hornerEach _ _ _ _),
+      s
+          ∙ powers-turn m (b .pre .0) v (l .k) (l .inv .0) _ (copy-start _ _ _ _ (u .before .before .before .before .block .ensures) (u .before .before .square-block .ensures)) t
+          ∙ ap (map (evenPower m (l .k + 1))) (sym d),
     )
 
 same-length : tie.Need-same-length Inv-loop μ-loop
 same-length c =
     let l = c .before .loop in
     let u = c .before .before in
-    let d = square-start _ _ _ _ (u .before .before .before .before .block .ensures) (u .before .before .square-each .ensures) in
+    let d = square-start _ _ _ _ (u .before .before .before .before .block .ensures) (u .before .before .square-block .ensures) in
     let a = u .before .before .before .before .before .before .before .args in
-    ap length (l .inv .2 ∙ ap (map (evenPower (a .m) (l .k))) d) ∙ length-map (a .v .now) (evenPower (a .m) (l .k))
+    ap length (l .inv .3 ∙ ap (map (evenPower (a .m) (l .k))) d) ∙ length-map (a .v .now) (evenPower (a .m) (l .k))
 
 returns : tie.Need-returns Inv-loop μ-loop
 returns c =
     let l = c .before .loop in
     let u = c .before .before in
     let b = u .before .before .before .before .before .before .before in
-    let d = square-start _ _ _ _ (u .before .before .before .before .block .ensures) (u .before .before .square-each .ensures) in
-    l .inv .2 ∙ ap (map (evenPower (b .args .m) (l .k))) (d) ∙ powers-last (b .args .m) (b .pre .0) (b .args .v .now) (omega arith)
+    let d = square-start _ _ _ _ (u .before .before .before .before .block .ensures) (u .before .before .square-block .ensures) in
+    l .inv .3 ∙ ap (map (evenPower (b .args .m) (l .k))) (d) ∙ powers-last (b .args .m) (b .pre .0) (b .args .v .now) (omega arith)
 
 pub inverse-block-spec : {M : Type 1} → statement M
 inverse-block-spec =
@@ -100,11 +103,11 @@ inverse-block-spec =
     Inv-loop
     μ-loop
     block-requires
-    square-each-requires
+    square-block-requires
     loop-holds
     slice-aggregate-horner-each
     horner-each-requires
-    square-each-requires-2
+    square-block-requires-2
     add-k
     loop-less
     loop-again
