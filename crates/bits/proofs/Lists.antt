@@ -1,6 +1,6 @@
 -- Numbers from k on, maps over them, tests of every one, and bounds on parts of lists. Assumes nothing.
 use mathlib.Core.Path.{_≡_, refl, sym, ap, ap₂, _∙_}
-use mathlib.Core.Bool.{Bool, true, false, _&&_, false≢true}
+use mathlib.Core.Bool.{Bool, true, false, _&&_, and-assoc, false≢true}
 use mathlib.Core.List.{List, [], _∷_, _++_, map}
 use Prim.Native.Nat.{ℕ, zero, suc, _+_, _≤_, _<_, suc-le-suc, zero-le}
 use native.Mathlib.Nat.{add-zero, zero-add, suc-add, zero-lt-suc, le-of-suc-le-suc, not-suc-le-zero, lt-of-le-of-lt}
@@ -96,11 +96,7 @@ every-at p (x ∷ l) e (suc i) d h = every-at p l (and-right (p x) (every p l) e
 pub every-append : (p : ℕ → Bool) (l r : List ℕ) → every p (l ++ r) ≡ every p l && every p r
 unfolding every
 every-append p [] r = refl
-every-append p (x ∷ l) r = go (p x) (every-append p l r)
-  where
-    go : (b : Bool) → every p (l ++ r) ≡ every p l && every p r → b && every p (l ++ r) ≡ (b && every p l) && every p r
-    go true e = e
-    go false e = refl
+every-append p (x ∷ l) r = ap (_&&_ (p x)) (every-append p l r) ∙ sym (and-assoc (p x) (every p l) (every p r))
 
 pub every-all : (p : ℕ → Bool) (l : List ℕ) (d : ℕ) → ((i : ℕ) → i < length l → p (getD l i d) ≡ true) → every p l ≡ true
 unfolding every

@@ -18,7 +18,7 @@ use Rattle.field.specs.Answers.{inverseNumber}
 use Rattle.field.specs.Verdicts.{verdictOf}
 use Rattle.field.specs.declared.Verdict.{Verdict}
 use Rattle.field.specs.declared.Verdict.the-variants as variants
-use Rattle.field.proofs.Verdicts.{verdict-accepted, verdict-refused}
+use Rattle.field.proofs.Verdicts.{refuses, accepts, verdict-accepted, verdict-refused}
 use Rattle.field.proofs.Table.{Width, width-narrow}
 use Rattle.field.proofs.Units.{units-number, inverse-numbers}
 use Rattle.poly.specs.Polynomials.{same}
@@ -43,10 +43,10 @@ use Rattle.decoding.proofs.Divisors.{number-word, number-many, number-f
 
 -- the verdict is the number's
 pub found-verdict : (q : ℕ) (o : Option (List ℕ)) {f : Found} → f ≡ foundOf q o → f .verdict ≡ verdictOf q
-unfolding foundOf nothingOf verdictOf
-found-verdict (suc q) o e = ap (λ (f : Found). f .verdict) e
-found-verdict zero none e = ap (λ (f : Found). f .verdict) e
-found-verdict zero (some p) e = ap (λ (f : Found). f .verdict) e
+unfolding foundOf nothingOf
+found-verdict (suc q) o e = ap (λ (f : Found). f .verdict) e ∙ refuses refl
+found-verdict zero none e = ap (λ (f : Found). f .verdict) e ∙ accepts refl
+found-verdict zero (some p) e = ap (λ (f : Found). f .verdict) e ∙ accepts refl
 
 -- nothing found, and a refusal
 found-nothing : {q : ℕ} {o : Option (List ℕ)} → q ≡ 0 → o ≡ none → nothingOf variants.Accepted ≡ foundOf q o
@@ -54,9 +54,9 @@ unfolding foundOf
 found-nothing z h = rw (z, h)
 
 pub found-refused : (q : ℕ) (o : Option (List ℕ)) {v : Verdict} {x : ℕ} → v ≡ verdictOf q → v ≡ variants.Refused x → nothingOf v ≡ foundOf q o
-unfolding foundOf verdictOf
+unfolding foundOf
 found-refused zero o e h = absurd (verdict-refused 0 e h refl)
-found-refused (suc q) o e h = ap nothingOf e
+found-refused (suc q) o e h = ap nothingOf (e ∙ sym (refuses refl))
 
 module _ (m : ℕ) (support g : List ℕ) (wide : Width m) (few : length g ≤ 128) where
   abbrev k : Keys.Key

@@ -25,7 +25,7 @@ use Rattle.field.specs.PointTable.{multiplesOf, combineEach}
 use Rattle.field.proofs.PointTable.{combineEach-horner}
 use Rattle.poly.specs.Polynomials.{sum, valuesAt}
 use Rattle.poly.proofs.Laws.{sum-append}
-use Rattle.poly.proofs.AtPoints.{take-values}
+use Rattle.key.proofs.Values.{values-goppa}
 use Rattle.key.specs.Keys.{goppaAt, keyOf}
 use Rattle.decoder.specs.Decoding.{chosen, squareEntry, squareSums}
 use Rattle.decoder.proofs.Words.{dot-chosen}
@@ -34,8 +34,7 @@ use Rattle.decoding.specs.Parts.{pointSums}
 module _ (m : ℕ) (w : Width m) (g s : List ℕ) where
   -- g at the n points
   pub values-points : {n : ℕ} {v : List ℕ} → length s ≡ n → n ≤ 8192 → v ≡ valuesAt m g s → take n v ≡ map (goppaAt (keyOf m s g)) s
-  unfolding goppaAt keyOf
-  values-points {n} {v} e l ev = ap₂ take (sym e) ev ∙ take-values m w g s (omega arith)
+  values-points {n} {v} e l ev = ap₂ take (sym e) ev ∙ values-goppa m w s g (omega arith)
 
   -- a^0 / g(a)² at each point, by the inverses h of g's values
   pub weights-start : (h p : List ℕ) → h ≡ map (inv m) (map (goppaAt (keyOf m s g)) s) → p ≡ hornerEach m 0 h h → p ≡ map (squareEntry (keyOf m s g) 0) s

@@ -19,7 +19,7 @@ use Rattle.field.specs.declared.Answer.the-variants.{Value, Refused}
 use Rattle.field.specs.declared.Verdict.{Verdict}
 use Rattle.field.specs.declared.Verdict.the-variants as verdicts
 use Rattle.field.proofs.Table.{Width}
-use Rattle.field.proofs.Laws.{mul-low, zero-mul, mul-inv, mul-inv-low, inv-unique}
+use Rattle.field.proofs.Laws.{mul-low, zero-mul, mul-inv, mul-inv-low, inv-lt, inv-unique}
 use Rattle.field.proofs.Verdicts.{verdict-refused}
 
 module _ (m a : ℕ) where
@@ -148,6 +148,9 @@ module _ (m a : ℕ) where
       go true false z p q r h = absurd (other h)
       go true true true p q r h = absurd (other h)
       go true true false p q r h = record { width = p; element = ltb-true a (2 ^ m) q; nonzero = eqb-false a 0 r; value = cc }
+
+  pub invert-element : {x : ℕ} → invertOf m a ≡ Value x → x < 2 ^ m
+  invert-element h = rw (inverted h .value) (inv-lt m a)
 
   pub invert-product : {x : ℕ} → invertOf m a ≡ Value x → mul m a x ≡ 1
   invert-product h = let i = inverted h in ap (mul m a) (i .value) ∙ mul-inv m (i .width) (i .element) (pos-of-ne-zero (i .nonzero))

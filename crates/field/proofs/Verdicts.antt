@@ -31,6 +31,10 @@ unfolding verdictOf
 verdict-refused zero e h z = let d : _≡_ {A = ℕ} 0 1 = cc in omega arith
 verdict-refused (suc q) e h z = omega arith
 
+pub number-refused : {v : Verdict} {x : ℕ} → v ≡ Refused x → numberOf v ≡ x
+unfolding numberOf
+number-refused e = ap numberOf e
+
 pub verdict-number : (q : ℕ) {v : Verdict} → v ≡ verdictOf q → numberOf v ≡ q
 verdict-number q e = ap numberOf e ∙ number-verdict q
 

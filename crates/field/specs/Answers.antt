@@ -1,4 +1,4 @@
--- What the public calls add, multiply and invert answer. Assumes nothing.
+-- What the public calls add, multiply and invert answer, and the inverses below them. Assumes nothing.
 use Prim.Native.Nat.{ℕ, zero, suc, _%_, _^_}
 use mathlib.Core.Bool.{Bool, not, cond}
 use mathlib.Core.List.{List, [], _∷_, map}
@@ -37,11 +37,11 @@ invertOf m a = answer (invertNumber m a) (inv m a)
 
 -- Below the public calls a number stands for its m low digits.
 
--- they are not all 0: at a width, there is an inverse
+-- the m low digits are not all 0: at a width, there is an inverse
 unfoldable pub isUnit : ℕ → ℕ → Bool
 isUnit m a = not (eqb (a % 2 ^ m) 0)
 
--- 1: no width; 32: the inverse of 0, for a member of the list
+-- 1: no width; 32: the m low digits of a member are 0
 unfoldable pub inverseNumber : ℕ → List ℕ → ℕ
 inverseNumber m xs = firstOf ((not (isWidth m), 1) ∷ (not (every (isUnit m) xs), 32) ∷ [])
 

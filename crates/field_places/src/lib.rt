@@ -51,7 +51,7 @@ fn square_block(m: u8, v: &mut [u16])
     horner_each(m, v, &a, 0);
 }
 
-// a^(2^m - 2) for each a of v, as `field::inverse` has it.
+// a^(2^m - 2) for each a of v, as `inverse_power` of `field` has it.
 fn inverse_block(m: u8, v: &mut [u16])
     requires { ⌜ (isWidth m ≡ true) × (length (now v) ≤ 512) ⌝ }
     ensures { λ _. ⌜ now (v .exit) ≡ map (inv m) (now (v .entry)) ⌝ }

@@ -1,6 +1,5 @@
 // Runs the vectors of data/field.txt through the field's public calls and counts agreements and differences.
-// A line is `mul m a b PRODUCT`, `inv m a INVERSE`, or the same with `refused NUMBER` for the result; `#` starts a comment. The
-// lines are the vectors', but that the inverse of 0 is refused with 32.
+// A line is `mul m a b PRODUCT`, `inv m a INVERSE`, or the same with `refused NUMBER`; `#` starts a comment. Inverses of 0 are refused.
 use field::Answer;
 use libc::STDOUT_FILENO;
 

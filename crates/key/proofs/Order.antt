@@ -10,7 +10,7 @@ use lib.ListN.{getD}
 use lib.Pow.{pow-mono}
 use borrow.Author.Tests.{lt-ltb, not-true, not-false}
 use Rattle.bits.specs.Bits.{every}
-use Rattle.bits.proofs.Lists.{every-all}
+use Rattle.bits.proofs.Lists.{every-append, every-all}
 use Rattle.field.specs.Numbers.{firstOf}
 use Rattle.field.specs.Field.{isElement}
 use Rattle.field.proofs.Table.{Width, width-narrow}
@@ -18,7 +18,6 @@ use Rattle.field.proofs.Arrays.{every-elements}
 use Rattle.poly.specs.Polynomials.{hasSquare}
 use Rattle.key.specs.Keys.{distinct}
 use Rattle.key.specs.Parts.{distinctBelow, noRoot, faults}
-use Rattle.key.proofs.Scan.{every-append}
 
 -- the code's test of an answer r, for the value q
 pub failed : {r q : Bool} → r ≡ q → not r ≡ true → q ≡ false

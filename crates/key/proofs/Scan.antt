@@ -1,14 +1,9 @@
 -- A test of every number of a list. Assumes nothing.
-use mathlib.Core.Path.{_≡_, refl, sym, ap, ap₂, _∙_}
-use mathlib.Core.Bool.{Bool, true, false, _&&_, and-assoc}
-use mathlib.Core.List.{List, [], _∷_, _++_}
+use mathlib.Core.Path.{_≡_, refl, ap₂, _∙_}
+use mathlib.Core.Bool.{Bool, true, false, _&&_}
+use mathlib.Core.List.{List, [], _∷_}
 use Prim.Native.Nat.{ℕ}
 use Rattle.bits.specs.Bits.{every}
-
-pub every-append : (p : ℕ → Bool) (l r : List ℕ) → every p (l ++ r) ≡ every p l && every p r
-unfolding every
-every-append p [] r = refl
-every-append p (x ∷ l) r = ap (_&&_ (p x)) (every-append p l r) ∙ sym (and-assoc (p x) (every p l) (every p r))
 
 -- two tests in one
 pub every-both : (p q r : ℕ → Bool) → ((x : ℕ) → p x && q x ≡ r x) → (l : List ℕ) → every p l && every q l ≡ every r l

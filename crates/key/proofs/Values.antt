@@ -1,4 +1,4 @@
--- Whether g is 0 at a place, by its values at the places. Assumes nothing.
+-- The values of g at a list of places, and whether one is 0. Assumes nothing.
 use mathlib.Core.Path.{_≡_, refl, ap, _∙_}
 use mathlib.Core.Bool.{Bool, not, _&&_}
 use mathlib.Core.List.{List, [], _∷_, map}
@@ -10,12 +10,18 @@ use Rattle.field.specs.Poly.{value}
 use Rattle.field.proofs.Table.{Width}
 use Rattle.poly.specs.Polynomials.{monic, valuesAt}
 use Rattle.poly.proofs.AtPoints.{take-values}
+use Rattle.key.specs.Keys.{goppaAt, keyOf}
 use Rattle.key.specs.Parts.{noRoot}
 
 every-map : (p : ℕ → Bool) (h : ℕ → ℕ) (s : List ℕ) → every p (map h s) ≡ every (λ a. p (h a)) s
 unfolding every
 every-map p h [] = refl
 every-map p h (a ∷ s) = ap (_&&_ (p (h a))) (every-map p h s)
+
+-- g at the places
+pub values-goppa : (m : ℕ) → Width m → (s g : List ℕ) → length s ≤ 8192 → take (length s) (valuesAt m g s) ≡ map (goppaAt (keyOf m s g)) s
+unfolding goppaAt keyOf
+values-goppa m w s g h = take-values m w g s h
 
 pub values-root : (m : ℕ) → Width m → (g s : List ℕ) → length s ≤ 8192 → every (λ x. not (eqb x 0)) (take (length s) (valuesAt m g s)) ≡ noRoot m g s
 unfolding noRoot

@@ -44,7 +44,7 @@ monic-elements m W (x ∷ g) e zero = e 0
 monic-elements m W (x ∷ g) e (suc k) = monic-elements m W g (λ i. e (suc i)) k
 
 module _ (m : ℕ) where
-  sum-lt : (l : List ℕ) → Elements m l → sum l < 2 ^ m
+  pub sum-lt : (l : List ℕ) → Elements m l → sum l < 2 ^ m
   unfolding sum
   sum-lt [] e = pow-pos m
   sum-lt (x ∷ l) e = xor-lt m (e 0) (sum-lt l (λ k. e (suc k)))

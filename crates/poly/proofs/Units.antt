@@ -1,30 +1,25 @@
 -- What the register divides by, d_m, is not 0. Assumes nothing.
 use mathlib.Core.Path.{_≡_}
 use mathlib.Core.Bool.{true}
-use mathlib.Core.List.{List, [], _∷_, map}
+use mathlib.Core.List.{List}
 use Prim.Native.Nat.{ℕ, _^_, _<_}
 use native.Mathlib.Omega.{arith}
-use lib.Pow.{pow-pos}
 use Rattle.bits.specs.Bits.{from}
 use Rattle.bits.proofs.Xor.{xor-lt}
 use Rattle.field.specs.Answers.{isUnit}
 use Rattle.field.proofs.Table.{Width}
 use Rattle.field.proofs.Laws.{mul-lt, one-lt}
-use Rattle.field.proofs.Arrays.{Elements}
+use Rattle.field.proofs.Arrays.{Elements, map-elements}
 use Rattle.field.proofs.Units.{element-unit}
-use Rattle.poly.specs.Polynomials.{sum}
 use Rattle.poly.specs.Register.{Register, start, discrepancy, turn}
-use Rattle.poly.proofs.Steps.{term, sum-nil, sum-cons, turn-cases}
+use Rattle.poly.proofs.Steps.{term, turn-cases}
+use Rattle.poly.proofs.Product.{sum-lt}
 
 module _ (m : ℕ) where
-  sum-lt : (f : ℕ → ℕ) (xs : List ℕ) → ((x : ℕ) → f x < 2 ^ m) → sum (map f xs) < 2 ^ m
-  sum-lt f [] h = rw sum-nil (pow-pos m)
-  sum-lt f (x ∷ xs) h = rw sum-cons (xor-lt m (h x) (sum-lt f xs h))
-
   -- line 3's d_n is an element where the list's members are
   pub discrepancy-element : (s : List ℕ) (r : Register) (n : ℕ) → Elements m s → discrepancy m s r n < 2 ^ m
   unfolding discrepancy
-  discrepancy-element s r n e = xor-lt m (e n) (sum-lt (term m s r n) (from 1 (r .l)) (λ i. mul-lt m _ _))
+  discrepancy-element s r n e = xor-lt m (e n) (sum-lt m _ (map-elements m (term m s r n) (λ i. mul-lt m _ _) (from 1 (r .l))))
 
   -- d_m is 1 at the start, and a d_n that is not 0 behind it
   pub start-unit : Width m → (r : Register) → r ≡ start → isUnit m (r .d) ≡ true

@@ -19,7 +19,7 @@ use Rattle.field.proofs.Laws.{mul-assoc, one-mul, power-zero, power-suc, inv-lt
 use Rattle.field.proofs.Laws as field
 use Rattle.field.proofs.Places.{hornerEach-width, each-map}
 use Rattle.poly.specs.Polynomials.{valuesAt}
-use Rattle.poly.proofs.AtPoints.{take-values}
+use Rattle.key.proofs.Values.{values-goppa}
 use Rattle.key.specs.Keys.{Key, goppaAt, keyOf}
 use Rattle.code.specs.Code.{entry, parityRow, parityRows}
 use Rattle.code.specs.PublicKey.{Matrix}
@@ -43,19 +43,14 @@ module _ (k : Key) where
       ∙ ap (λ (x : ℕ). mul m x v) (sym (power-suc m a i) ∙ ap (power m a) (sym (add-one i)))
 
 module _ (m : ℕ) (w : Width m) (s g : List ℕ) where
-  -- g at all places
-  values-goppa : length s ≤ 8192 → take (length s) (valuesAt m g s) ≡ map (goppaAt (keyOf m s g)) s
-  unfolding keyOf goppaAt
-  values-goppa l = take-values m w g s l
-
   pub values-units : length s ≤ 8192 → every (isUnit m) (map (goppaAt (keyOf m s g)) s) ≡ true → every (isUnit m) (take (length s) (valuesAt m g s)) ≡ true
-  values-units l u = rw (values-goppa l) u
+  values-units l u = rw (values-goppa m w s g l) u
 
   -- 1/g(α) at all places, and the next power of α
   pub entries-start : length s ≤ 8192 → map (inv m) (take (length s) (valuesAt m g s)) ≡ map (entry (keyOf m s g) 0) s
   unfolding keyOf
   entries-start l =
-      ap (map (inv m)) (values-goppa l)
+      ap (map (inv m)) (values-goppa m w s g l)
       ∙ map-map (inv m) (goppaAt (keyOf m s g)) s
       ∙ ap (λ f. map f s) (fun-ext (entry-zero (keyOf m s g) w))
 

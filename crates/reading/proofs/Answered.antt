@@ -138,24 +138,24 @@ unpack-filled m n s w h =
 -- open
 -- where decoding is refused the refusal, where the pattern has another number of ones nothing, and where it has t the pattern
 module _ (t : ℕ) where
-  pub found-refusal : (q : ℕ) (o : Option (List ℕ)) {f : Found} {x : ℕ} → f ≡ foundOf q o → f .verdict ≡ verdicts.Refused x
+  pub exactly-refused : (q : ℕ) (o : Option (List ℕ)) {f : Found} {x : ℕ} → f ≡ foundOf q o → f .verdict ≡ verdicts.Refused x
       → nothingOf (f .verdict) ≡ foundOf q (exactly t o)
-  found-refusal q o e a = found-refused q (exactly t o) (found-verdict q o e) a
+  exactly-refused q o e a = found-refused q (exactly t o) (found-verdict q o e) a
 
-  pub found-other : (q : ℕ) (o : Option (List ℕ)) {f : Found} → f ≡ foundOf q o → f .verdict ≡ verdicts.Accepted → (f .ones ≡ t → ⊥)
+  pub exactly-other : (q : ℕ) (o : Option (List ℕ)) {f : Found} → f ≡ foundOf q o → f .verdict ≡ verdicts.Accepted → (f .ones ≡ t → ⊥)
       → nothingOf verdicts.Accepted ≡ foundOf q (exactly t o)
   unfolding exactly foundOf
-  found-other zero none e a h = refl
-  found-other zero (some p) e a h =
+  exactly-other zero none e a h = refl
+  exactly-other zero (some p) e a h =
       ap (λ (b : Bool). foundOf 0 (cond b (some p) none)) (sym (ne-eqb (ones p) t (λ q. h (ap (λ (f : Found). f .ones) e ∙ q))))
-  found-other (suc q) o e a h = absurd (suc-ne-zero q (verdict-accepted (suc q) (found-verdict (suc q) o e) a))
+  exactly-other (suc q) o e a h = absurd (suc-ne-zero q (verdict-accepted (suc q) (found-verdict (suc q) o e) a))
 
-  pub found-exactly : (q : ℕ) (o : Option (List ℕ)) {f : Found} → f ≡ foundOf q o → f .ones ≡ t → f ≡ foundOf q (exactly t o)
+  pub exactly-found : (q : ℕ) (o : Option (List ℕ)) {f : Found} → f ≡ foundOf q o → f .ones ≡ t → f ≡ foundOf q (exactly t o)
   unfolding exactly foundOf
-  found-exactly zero none e h = e
-  found-exactly zero (some p) e h =
+  exactly-found zero none e h = e
+  exactly-found zero (some p) e h =
       e ∙ ap (λ (b : Bool). foundOf 0 (cond b (some p) none)) (sym (eq-eqb (ones p) t (sym (ap (λ (f : Found). f .ones) e) ∙ h)))
-  found-exactly (suc q) o e h = e
+  exactly-found (suc q) o e h = e
 
 module _ (k : Key) (capsule : List ℕ) (z : keyNumber (kept k) ≡ 0) (w : wellFormed (capsuleBits (kept k)) capsule ≡ true) where
   opening-exactly : opening (kept k) (unpack (capsuleBits (kept k)) capsule) ≡ exactly (k .t) (reading (kept k) (unpack (k .n) capsule))

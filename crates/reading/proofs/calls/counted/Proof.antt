@@ -1,7 +1,8 @@
 -- The verdict, then what is found. Assumes nothing.
+use mathlib.Core.Path.{_∙_}
 use borrow.Author.Needs.{needs}
 use borrow.Author.Tests.{not-true, not-false}
-use Rattle.field.specs.Verdicts.{numberOf}
+use Rattle.field.proofs.Verdicts.{number-refused}
 use Rattle.reading.specs.Answers.{answerBy, countedOf}
 use Rattle.reading.proofs.calls.counted.Statement.{statement}
 use Rattle.reading.proofs.calls.counted.Tie as tie
@@ -16,8 +17,8 @@ number-requires : tie.Need-number-requires
 number-requires c κs = tt
 
 returns : tie.Need-returns
-unfolding countedOf answerBy numberOf
-returns c = rw (c .number .ensures, c .before .enum-told2 .given .1)
+unfolding countedOf answerBy
+returns c = let h = c .before .enum-told2 .given .1 in rw (c .number .ensures ∙ number-refused h, h)
 
 returns-2 : tie.Need-returns-2
 unfolding countedOf answerBy
