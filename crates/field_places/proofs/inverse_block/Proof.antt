@@ -40,7 +40,7 @@ loop-holds c =
     let q = c .before .before .square-block .ensures in
     let d = square-start _ _ _ _ (c .before .before .before .before .block .ensures) q in
     let w = b .pre .0 in
-    (omega arith, width-over-one _ w, omega (arith, ap length q ∙ length-hornerEach _ _ _ _, b .pre .1), q ∙ squares-powers _ w _ ∙ ap (map (evenPower _ 2)) (sym d))
+    (omega arith, omega (arith, width-over-one _ w), omega (arith, ap length q ∙ length-hornerEach _ _ _ _, b .pre .1), q ∙ squares-powers _ w _ ∙ ap (map (evenPower _ 2)) (sym d))
 
 slice-aggregate-horner-each : tie.Need-slice-aggregate-horner-each Inv-loop μ-loop
 slice-aggregate-horner-each c =
