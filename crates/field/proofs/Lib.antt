@@ -13,6 +13,7 @@ pub mod Units
 pub mod Guards
 pub mod Places
 pub mod PointTable
+pub mod DigitSums
 pub mod Reciprocals
 pub mod Gf
 pub mod Arrays

@@ -1,0 +1,9 @@
+// The levels of the additive transform over GF(2^m): their bases, and what each multiplies by.
+mod bases;
+mod levels;
+mod twisting;
+
+pub use bases::two;
+pub use levels::Levels;
+pub use twisting::powers;
+pub use twisting::twist;
