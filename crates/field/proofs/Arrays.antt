@@ -3,7 +3,7 @@ use mathlib.Core.Path.{_≡_, refl, sym, ap, ap₂, _∙_, fun-ext}
 use mathlib.Core.Logic.{_≢_}
 use mathlib.Core.Bool.{true}
 use mathlib.Core.List.{List, [], _∷_, _++_, map}
-use Prim.Native.Nat.{ℕ, zero, suc, _^_, _≤_, _<_}
+use Prim.Native.Nat.{ℕ, zero, suc, _%_, _^_, _≤_, _<_}
 use native.Mathlib.Omega.{arith}
 use native.Mathlib.Decide.{decLt}
 use lib.ListN.{length, getD, set, replicate, List·getD-eq-default}
@@ -24,7 +24,7 @@ use Rattle.algebra.proofs.Eval.{eval}
 use Rattle.field.specs.Field.{isElement, mul}
 use Rattle.field.specs.Poly.{value}
 use Rattle.field.proofs.Table.{Width}
-use Rattle.field.proofs.Laws.{mul-zero, mul-lt}
+use Rattle.field.proofs.Laws.{mul-zero, mul-lt, mul-low}
 use Rattle.field.proofs.Gf.{Elem, val, val-elem, val-inj, val-zero, val-xor, val-mul, plus, times, laws}
 
 -- every entry is an element
@@ -69,6 +69,12 @@ value-nil m a = refl
 pub value-cons : (m x : ℕ) (xs : List ℕ) (a : ℕ) → value m (x ∷ xs) a ≡ x ⊕ mul m a (value m xs a)
 unfolding value
 value-cons m x xs a = refl
+
+-- the m low digits of a decide
+pub value-low : (m : ℕ) (xs : List ℕ) (a : ℕ) → value m xs (a % 2 ^ m) ≡ value m xs a
+unfolding value
+value-low m [] a = refl
+value-low m (x ∷ xs) a = ap (_⊕_ x) (mul-low m a _ ∙ ap (mul m a) (value-low m xs a))
 
 -- a value is an element
 pub value-lt : (m : ℕ) (xs : List ℕ) → Elements m xs → (a : ℕ) → value m xs a < 2 ^ m

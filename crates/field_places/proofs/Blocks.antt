@@ -1,11 +1,25 @@
 -- A function at each place of a list, block after block in place. Assumes nothing.
 use mathlib.Core.Path.{_≡_, refl, sym, ap, ap₂, _∙_}
 use mathlib.Core.List.{List, _++_, map, map-append, append-assoc, append-nil}
-use Prim.Native.Nat.{ℕ, _+_, _-_, _≤_}
+use Prim.Native.Nat.{ℕ, _+_, _-_, _≤_, min}
+use native.Mathlib.Nat.{min-eq-left, min-eq-right}
 use native.Mathlib.Omega.{arith}
+use native.Mathlib.Decide.{decLe}
 use lib.ListN.{length, take, drop, length-map, drop-of-length-le}
 use lib.Seq.{length-take-le, take-all, take-add, take-at, drop-at, drop-drop}
 use borrow.Rule.Slice.PartMut.{midOf, putMid}
+use Rattle.bits.specs.Bits.{padded}
+
+-- the first numbers of a list, as far as it goes
+pub take-least : (v : List ℕ) (k : ℕ) {i : ℕ} → i ≡ min (length v) k → take i v ≡ take k v
+take-least v k {i} e = elim (decLe (length v) k) [
+  | yes h ↦ take-all i v (omega (arith, e, min-eq-left h)) ∙ sym (take-all k v h)
+  | no h ↦ ap (λ (n : ℕ). take n v) (e ∙ min-eq-right (omega arith))
+]
+
+-- a copy of at most 512 numbers has them all
+pub block-whole : {a : List ℕ} (v : List ℕ) → a ≡ padded 512 (take 512 v) → length v ≤ 512 → a ≡ padded 512 v
+block-whole v e h = e ∙ ap (padded 512) (take-all 512 v h)
 
 module _ (h : ℕ → ℕ) (s : List ℕ) where
   -- the first `at` places are done

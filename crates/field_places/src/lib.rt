@@ -28,14 +28,14 @@ pub fn horner_each(m: u8, r: &mut [u16], a: &[u16], c: u16)
     }
 }
 
-// The numbers of v, with zeros behind them.
-fn block(v: &[u16]) -> [u16; 512]
-    requires { ⌜ length (now v) ≤ 512 ⌝ }
-    ensures { λ r. ⌜ r ≡ padded 512 (now (v .entry)) ⌝ }
+// The numbers of v, at most 512 of them, with zeros behind them.
+pub fn block(v: &[u16]) -> [u16; 512]
+    ensures { λ r. ⌜ r ≡ padded 512 (take 512 (now (v .entry))) ⌝ }
 {
+    let n = bits::smaller(v.len(), 512);
     let mut a = [0u16; 512];
     let mut i = 0;
-    while i < v.len() {
+    while i < n {
         a[i] = v[i];
         i += 1;
     }

@@ -41,11 +41,11 @@ module _ (m b : ℕ) where
   under-lt x = xor-lt m (mul-lt m _ _) (over-lt x)
 
 module _ (m : ℕ) (w : Width m) (b : ℕ) (small : b < 2 ^ m) (pos : 0 < b) where
-  over-self : over m b b ≡ 1
+  pub over-self : over m b b ≡ 1
   unfolding over
   over-self = mul-inv m w small pos
 
-  under-self : under m b b ≡ 0
+  pub under-self : under m b b ≡ 0
   unfolding under
   under-self = ap (λ (t : ℕ). mul m t t ⊕ t) over-self ∙ ap (λ (t : ℕ). t ⊕ 1) (one-mul m w (one-lt m w)) ∙ xor-self 1
 

@@ -3,7 +3,7 @@ use mathlib.Core.Path.{_≡_, refl, sym, ap, ap₂, _∙_}
 use mathlib.Core.Bool.{Bool, true, false, cond}
 use mathlib.Core.List.{List, _++_}
 use Prim.Native.Nat.{ℕ, zero, suc, _+_, _-_, _^_, _≤_, _<_, min}
-use native.Mathlib.Nat.{pow-suc, not-suc-le-zero, min-le-left, min-le-right}
+use native.Mathlib.Nat.{pow-suc, not-suc-le-zero, min-le-left, min-le-right, min-eq-left, min-eq-right}
 use native.Mathlib.Numerals.{add-one}
 use native.Mathlib.Omega.{arith}
 use native.Mathlib.Decide.{decLt}
@@ -155,16 +155,22 @@ module _ (m : ℕ) where
         ap₂ (λ (t f : List ℕ). record { tops = t; factors = f }) et ef
         ∙ sym (ap (λ (b : Bool). record { tops = topsPut m (cond b (min m 9) 0); factors = factorsPut m (cond b (min m 9) 0) }) w)
 
-    module _ {l : Levels} (e : l ≡ levelsOf m) (k : ℕ) (h : k ≤ min m 9) where
+    module _ {l : Levels} (e : l ≡ levelsOf m) (k : ℕ) (a : k ≤ m) (b : k ≤ 9) where
+      least : k ≤ min m 9
+      least = elim (decLt m 9) [
+        | yes h ↦ (let e : m ≤ 9 = omega arith in omega (arith, min-eq-left e))
+        | no h ↦ (let e : 9 ≤ m = omega arith in omega (arith, min-eq-right e))
+      ]
+
       pub levels-tops : Tops m k (l .tops)
       unfolding levelsOf depthOf
       levels-tops i c =
           ap (λ (l : Levels). getD (l .tops) i 0) e ∙ ap (λ (b : Bool). getD (topsPut m (cond b (min m 9) 0)) i 0) w
-          ∙ tops-at m (min m 9) (omega (arith, min-le-right m 9)) i (omega arith)
+          ∙ tops-at m (min m 9) (omega (arith, min-le-right m 9)) i (omega (arith, least))
 
       pub levels-factors : Factors m k (l .factors)
       unfolding levelsOf depthOf
       levels-factors i c =
           ap (λ (l : Levels). take (2 ^ (m - suc i)) (drop (2 ^ (m - suc i)) (l .factors))) e
           ∙ ap (λ (b : Bool). take (2 ^ (m - suc i)) (drop (2 ^ (m - suc i)) (factorsPut m (cond b (min m 9) 0)))) w
-          ∙ factors-at m (min m 9) (width-narrow m w) (min-le-left m 9) i (omega arith)
+          ∙ factors-at m (min m 9) (width-narrow m w) (min-le-left m 9) i (omega (arith, least))

@@ -13,7 +13,7 @@ use Rattle.levels.proofs.Loops.{set-right}
 getD-right : (p q : List ℕ) (h i : ℕ) → length p ≡ h → getD (p ++ q) (h + i) 0 ≡ getD q i 0
 getD-right p q h i e = ap (λ (k : ℕ). getD (p ++ q) (k + i) 0) (sym e) ∙ getD-append-add p q i 0
 
-length-over : (l d : List ℕ) (i : ℕ) → length d ≡ length l → length (over (take i l) d) ≡ length d
+pub length-over : (l d : List ℕ) (i : ℕ) → length d ≡ length l → length (over (take i l) d) ≡ length d
 unfolding over
 length-over l d i e =
     length-append (take i l) (drop (length (take i l)) d) ∙ omega (arith, length-take i l, length-drop (length (take i l)) d)

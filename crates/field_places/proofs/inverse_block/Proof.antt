@@ -11,13 +11,14 @@ use Rattle.field.specs.Poly.{hornerEach}
 use Rattle.field.proofs.Table.{width-over-one}
 use Rattle.field.proofs.Places.{length-hornerEach}
 use Rattle.field.proofs.Reciprocals.{evenPower, squares-powers, powers-turn, powers-last}
+use Rattle.field_places.proofs.Blocks.{block-whole}
 use Rattle.field_places.proofs.inverse_block.Statement.{statement}
 use Rattle.field_places.proofs.inverse_block.Tie as tie
 
 -- the copy a of the block v starts with v, by its length and by that of the squares s
-module _ (m : ℕ) (v s a : List ℕ) (e : a ≡ padded 512 v) (q : s ≡ hornerEach m 0 v v) where
+module _ (m : ℕ) (v s a : List ℕ) (short : length v ≤ 512) (e : a ≡ padded 512 (take 512 v)) (q : s ≡ hornerEach m 0 v v) where
   copy-start : take (length v) a ≡ v
-  copy-start = ap (take (length v)) e ∙ take-padded 512 v (length v) refl
+  copy-start = ap (take (length v)) (block-whole _ e short) ∙ take-padded 512 v (length v) refl
 
   square-start : take (length s) a ≡ v
   square-start = ap (λ (n : ℕ). take n a) (ap length q ∙ length-hornerEach m 0 v v) ∙ copy-start
@@ -38,7 +39,7 @@ loop-holds : tie.Need-loop-holds Inv-loop μ-loop
 loop-holds c =
     let b = c .before .before .before .before .before .before .before in
     let q = c .before .before .square-block .ensures in
-    let d = square-start _ _ _ _ (c .before .before .before .before .block .ensures) q in
+    let d = square-start _ _ _ _ (b .pre .1) (c .before .before .before .before .block .ensures) q in
     let w = b .pre .0 in
     (omega arith, omega (arith, width-over-one _ w), omega (arith, ap length q ∙ length-hornerEach _ _ _ _, b .pre .1), q ∙ squares-powers _ w _ ∙ ap (map (evenPower _ 2)) (sym d))
 
@@ -46,7 +47,7 @@ slice-aggregate-horner-each : tie.Need-slice-aggregate-horner-each Inv-loop μ-l
 slice-aggregate-horner-each c =
     let e = c .before .before .before .before .before .before .before .before .block .ensures in
     let b = c .before .before .before .before .before .before .before .before .before .before .before in
-    sym (ap length e ∙ length-padded 512 _ (b .pre .1))
+    sym (ap length (block-whole (b .args .v .now) e (b .pre .1)) ∙ length-padded 512 _ (b .pre .1))
 
 horner-each-requires : tie.Need-horner-each-requires Inv-loop μ-loop
 horner-each-requires c κs = search needs
@@ -65,7 +66,7 @@ loop-again c =
     let l = c .before .before .before .before .before .before .before .before .before .before .loop in
     let u = c .before .before .before .before .before .before .before .before .before .before .before in
     let b = u .before .before .before .before .before .before .before in
-    let d = square-start _ _ _ _ (u .before .before .before .before .block .ensures) (u .before .before .square-block .ensures) in
+    let d = square-start _ _ _ _ (b .pre .1) (u .before .before .before .before .block .ensures) (u .before .before .square-block .ensures) in
     let m : ℕ = b .args .m in
     let v : List ℕ = b .args .v .now in
     let e : l .v ≡ map (evenPower m (l .k)) v = l .inv .3 ∙ ap (map (evenPower m (l .k))) d in
@@ -76,7 +77,7 @@ loop-again c =
       omega arith,
       omega (arith, ap length s ∙ length-hornerEach _ _ _ _, ap length h ∙ length-hornerEach _ _ _ _),
       s
-          ∙ powers-turn m (b .pre .0) v (l .k) (l .inv .0) _ (copy-start _ _ _ _ (u .before .before .before .before .block .ensures) (u .before .before .square-block .ensures)) t
+          ∙ powers-turn m (b .pre .0) v (l .k) (l .inv .0) _ (copy-start _ _ _ _ (b .pre .1) (u .before .before .before .before .block .ensures) (u .before .before .square-block .ensures)) t
           ∙ ap (map (evenPower m (l .k + 1))) (sym d),
     )
 
@@ -84,8 +85,9 @@ same-length : tie.Need-same-length Inv-loop μ-loop
 same-length c =
     let l = c .before .loop in
     let u = c .before .before in
-    let d = square-start _ _ _ _ (u .before .before .before .before .block .ensures) (u .before .before .square-block .ensures) in
-    let a = u .before .before .before .before .before .before .before .args in
+    let b = u .before .before .before .before .before .before .before in
+    let d = square-start _ _ _ _ (b .pre .1) (u .before .before .before .before .block .ensures) (u .before .before .square-block .ensures) in
+    let a = b .args in
     ap length (l .inv .3 ∙ ap (map (evenPower (a .m) (l .k))) d) ∙ length-map (a .v .now) (evenPower (a .m) (l .k))
 
 returns : tie.Need-returns Inv-loop μ-loop
@@ -93,7 +95,7 @@ returns c =
     let l = c .before .loop in
     let u = c .before .before in
     let b = u .before .before .before .before .before .before .before in
-    let d = square-start _ _ _ _ (u .before .before .before .before .block .ensures) (u .before .before .square-block .ensures) in
+    let d = square-start _ _ _ _ (b .pre .1) (u .before .before .before .before .block .ensures) (u .before .before .square-block .ensures) in
     l .inv .3 ∙ ap (map (evenPower (b .args .m) (l .k))) (d) ∙ powers-last (b .args .m) (b .pre .0) (b .args .v .now) (omega arith)
 
 pub inverse-block-spec : {M : Type 1} → statement M

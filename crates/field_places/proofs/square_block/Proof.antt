@@ -6,6 +6,7 @@ use borrow.Author.Needs.{needs}
 use lib.ListN.{length, take}
 use Rattle.bits.proofs.Padded.{take-padded}
 use Rattle.field.proofs.Places.{horner-start}
+use Rattle.field_places.proofs.Blocks.{block-whole}
 use Rattle.field_places.proofs.square_block.Statement.{statement}
 use Rattle.field_places.proofs.square_block.Tie as tie
 
@@ -24,7 +25,7 @@ same-length c = search needs
 returns : tie.Need-returns
 returns c =
     let b = c .before .before .before .before .before .before .before .before in
-    let e = c .before .before .before .before .before .block .ensures in
+    let e = block-whole _ (c .before .before .before .before .before .block .ensures) (b .pre) in
     let v : List ℕ = b .args .v .now in
     c .before .before .horner-each .ensures
     ∙ horner-start (b .args .m) 0 v _ (ap (take (length v)) e ∙ take-padded 512 v (length v) refl)

@@ -1,0 +1,63 @@
+// The values at a list of points.
+use super::everywhere::everywhere;
+ghost use mathlib.Core.Path.{_≡_};
+ghost use mathlib.Core.Bool.{true};
+ghost use Prim.Native.Nat.{_%_, _^_, _≤_, _<_};
+ghost use lib.ListN.{length, getD, replicate};
+ghost use Rattle.bits.specs.Bits.{eachWith};
+ghost use Rattle.field.specs.Field.{isWidth};
+ghost use Rattle.poly.specs.Polynomials.{valuesAt};
+
+// Whether t coefficients at n points are dear enough for the transform: Horner's rule takes n·t products, the transform about 16·2^m.
+fn worth(m: u8, t: usize, n: usize) -> bool
+    requires { ⌜ n ≤ 8192 ⌝ }
+    ensures { λ r. ⌜ (r ≡ true → (isWidth m ≡ true) × (9 ≤ m) × (t < 512)) ⌝ }
+{
+    if field::modulus(m) == 0 {
+        return false;
+    }
+    if m < 9 {
+        return false;
+    }
+    if 511 < t {
+        return false;
+    }
+    levels::two(m) <= n * t / 16
+}
+
+// The place of the element a: its m low digits.
+fn place(m: u8, a: u16) -> usize
+    requires { ⌜ isWidth m ≡ true ⌝ }
+    ensures { λ r. ⌜ r ≡ a % 2 ^ m ⌝ }
+{
+    let mask: u16 = (1 << m) - 1;
+    (a & mask) as usize
+}
+
+// v at the place of each point, of at most 8192; 1 past them.
+fn gathered(m: u8, v: &[u16; 8192], points: &[u16]) -> [u16; 8192]
+    requires { ⌜ isWidth m ≡ true ⌝ }
+    ensures { λ r. ⌜ r ≡ eachWith (λ x a. getD (now (v .entry)) (a % 2 ^ m) 0) (replicate 8192 1) (now (points .entry)) ⌝ }
+{
+    let n = bits::smaller(points.len(), 8192);
+    let mut r = [1u16; 8192];
+    let mut i = 0;
+    while i < n {
+        let p = place(m, points[i]);
+        r[i] = v[p];
+        i += 1;
+    }
+    r
+}
+
+// The monic polynomial with the lower coefficients g at each point, of at most 8192; 1 past them, and everywhere where m is no
+// width. By the transform where that is shorter, else by Horner's rule.
+pub fn values(m: u8, g: &[u16], points: &[u16]) -> [u16; 8192]
+    ensures { λ r. ⌜ r ≡ valuesAt m (now (g .entry)) (now (points .entry)) ⌝ }
+{
+    if !worth(m, g.len(), bits::smaller(points.len(), 8192)) {
+        return poly::values(m, g, points);
+    }
+    let v = everywhere(m, g);
+    gathered(m, &v, points)
+}
