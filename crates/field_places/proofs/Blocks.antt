@@ -9,6 +9,7 @@ use lib.ListN.{length, take, drop, length-map, drop-of-length-le}
 use lib.Seq.{length-take-le, take-all, take-add, take-at, drop-at, drop-drop}
 use borrow.Rule.Slice.PartMut.{midOf, putMid}
 use Rattle.bits.specs.Bits.{padded}
+use Rattle.bits.proofs.Padded.{take-padded}
 
 -- the first numbers of a list, as far as it goes
 pub take-least : (v : List ℕ) (k : ℕ) {i : ℕ} → i ≡ min (length v) k → take i v ≡ take k v
@@ -20,6 +21,10 @@ take-least v k {i} e = elim (decLe (length v) k) [
 -- a copy of at most 512 numbers has them all
 pub block-whole : {a : List ℕ} (v : List ℕ) → a ≡ padded 512 (take 512 v) → length v ≤ 512 → a ≡ padded 512 v
 block-whole v e h = e ∙ ap (padded 512) (take-all 512 v h)
+
+-- and begins with them
+pub block-first : (k : ℕ) (v : List ℕ) {a : List ℕ} → length v ≡ k → k ≤ 512 → a ≡ padded 512 (take 512 v) → take k a ≡ v
+block-first k v e l ea = ap (take k) (block-whole v ea (omega arith)) ∙ take-padded 512 v k e
 
 module _ (h : ℕ → ℕ) (s : List ℕ) where
   -- the first `at` places are done

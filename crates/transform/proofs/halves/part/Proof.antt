@@ -1,20 +1,14 @@
 -- `transform::halves::part` meets its contract. Assumes nothing.
 use mathlib.Core.Path.{_≡_, sym, ap, _∙_}
-use Prim.Native.Nat.{ℕ, _+_, _≤_}
+use Prim.Native.Nat.{ℕ}
 use native.Mathlib.Omega.{arith}
 use mathlib.Core.List.{List, _++_}
-use lib.ListN.{length, take}
+use lib.ListN.{length}
 use borrow.Author.Needs.{needs}
 use Rattle.transform.proofs.halves.part.Statement.{statement}
 use Rattle.transform.proofs.halves.part.Tie as tie
-use Rattle.bits.specs.Bits.{padded}
-use Rattle.bits.proofs.Padded.{take-padded}
-use Rattle.field_places.proofs.Blocks.{block-whole}
+use Rattle.field_places.proofs.Blocks.{block-first}
 use Rattle.transform.specs.Halves.{unzip}
-
--- the copy's first numbers are those copied
-copy : (h : ℕ) (c : List ℕ) {t : List ℕ} → length c ≡ h + h → h ≤ 256 → t ≡ padded 512 (take 512 c) → take (h + h) t ≡ c
-copy h c e l et = ap (take (h + h)) (block-whole c et (omega arith)) ∙ take-padded 512 c (h + h) e
 
 block-requires : tie.Need-block-requires
 block-requires c κs = tt
@@ -28,12 +22,12 @@ array-share-prefix-t c = let e : length (c .block .result) ≡ 512 = search need
 slice-aggregate-unzip : tie.Need-slice-aggregate-unzip
 slice-aggregate-unzip c =
     let s = c .before .before .before .before in
-    sym (ap length (copy (s .args .h) (s .args .c .now) (s .pre .0) (s .pre .1) (c .before .block .ensures)) ∙ s .pre .0)
+    sym (ap length (block-first _ (s .args .c .now) (s .pre .0) (omega (arith, s .pre .1)) (c .before .block .ensures)) ∙ s .pre .0)
 
 unzip-requires : tie.Need-unzip-requires
 unzip-requires c κs =
     let s = c .before .before .before .before .before in
-    (ap length (copy (s .args .h) (s .args .c .now) (s .pre .0) (s .pre .1) (c .before .before .block .ensures)) ∙ s .pre .0, s .pre .0)
+    (ap length (block-first _ (s .args .c .now) (s .pre .0) (omega (arith, s .pre .1)) (c .before .before .block .ensures)) ∙ s .pre .0, s .pre .0)
 
 same-length : tie.Need-same-length
 same-length c = search needs
@@ -42,7 +36,7 @@ returns : tie.Need-returns
 returns c =
     let s = c .before .before .before .before .before .before .before .before in
     let a = s .args in
-    let e = copy (a .h) (a .c .now) (s .pre .0) (s .pre .1) (c .before .before .before .before .before .block .ensures) in
+    let e = block-first _ (a .c .now) (s .pre .0) (omega (arith, s .pre .1)) (c .before .before .before .before .before .block .ensures) in
     c .before .before .unzip .ensures ∙ ap (λ (l : List ℕ). unzip l .0 ++ unzip l .1) e
 
 pub part-spec : {M : Type 1} → statement M
