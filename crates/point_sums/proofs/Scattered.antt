@@ -13,7 +13,7 @@ use lib.Seq.{drop-cons, getD-set-same, getD-set-other}
 use Rattle.bits.specs.Xor.{_⊕_}
 use Rattle.bits.specs.Bits.{from, padded}
 use Rattle.bits.proofs.Bits.{zeros-at}
-use Rattle.bits.proofs.Xor.{xor-zero, zero-xor, xor-assoc, xor-comm, xor-left-comm}
+use Rattle.bits.proofs.Xor.{xor-zero, zero-xor, xor-assoc, xor-comm}
 use Rattle.field.specs.Field.{mul, power}
 use Rattle.field.proofs.Machine.{low-digits-lt}
 use Rattle.field.proofs.Table.{Width, width-narrow}
@@ -74,7 +74,7 @@ module _ (m s : ℕ) where
   ]
     where
       behind : (x y z : ℕ) → x ⊕ y ⊕ z ≡ x ⊕ z ⊕ y
-      behind x y z = simp (xor-assoc, xor-comm, xor-left-comm)
+      behind x y z = xor-assoc x y z ∙ ap (_⊕_ x) (xor-comm y z) ∙ sym (xor-assoc x z y)
 
   set-sum : (d : List ℕ) (i x : ℕ) → i < 2 ^ m → i < length d → sumTo (2 ^ m) (term (set d i (getD d i 0 ⊕ x))) ≡ sumTo (2 ^ m) (term d) ⊕ mul m x (power m i s)
   set-sum d i x h l =
