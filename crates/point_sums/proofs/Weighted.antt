@@ -88,13 +88,13 @@ module _ (m k : ℕ) where
       ∙ ap (λ (n : ℕ). map (λ s. f s ⊕ g s) (from 0 k) ++ replicate (256 - n) 0) (length-map (from 0 k) f ∙ sym (length-map (from 0 k) (λ s. f s ⊕ g s)))
       ∙ ap (λ h. padded 256 (map h (from 0 k))) (fun-ext (λ s. sum-append m s a b c d e))
 
-  pub sums-block : (w p : List ℕ) (at e : ℕ) (d : List ℕ) → at ≤ e → e ≤ length w → e ≤ length p → d ≡ padded 256 (weightedSums m k (take at w) (take at p))
-      → xorRow d (weightedSums m k (midOf at (e - at) w) (midOf at (e - at) p)) ≡ padded 256 (weightedSums m k (take e w) (take e p))
-  sums-block w p at e d h lw lp ed =
+  pub sums-block : (w p : List ℕ) (at e : ℕ) (d r : List ℕ) → at ≤ e → e ≤ length w → e ≤ length p → d ≡ padded 256 (weightedSums m k (take at w) (take at p))
+      → r ≡ xorRow d (weightedSums m k (midOf at (e - at) w) (midOf at (e - at) p)) → r ≡ padded 256 (weightedSums m k (take e w) (take e p))
+  sums-block w p at e d r h lw lp ed er =
       let q : at + (e - at) ≡ e = omega arith in
       let n : length (take at w) ≡ length (take at p) = length-take-le at w (omega arith) ∙ sym (length-take-le at p (omega arith)) in
       let both : (l : List ℕ) → take at l ++ midOf at (e - at) l ≡ take e l = λ l. sym (take-add at (e - at) l) ∙ ap (λ (n : ℕ). take n l) q in
-      ap (λ (d : List ℕ). xorRow d (weightedSums m k (midOf at (e - at) w) (midOf at (e - at) p))) ed
+      er ∙ ap (λ (d : List ℕ). xorRow d (weightedSums m k (midOf at (e - at) w) (midOf at (e - at) p))) ed
       ∙ sums-append (take at w) (midOf at (e - at) w) (take at p) (midOf at (e - at) p) n
       ∙ ap₂ (λ (w p : List ℕ). padded 256 (weightedSums m k w p)) (both w) (both p)
 

@@ -85,7 +85,7 @@ loop-again c =
     let h = c .before .block-sums in (
       omega arith,
       h .kept .1 .1 .0 ∙ l .inv .1,
-      h .ensures ∙ sums-block (a .m) (a .k) (a .w .now) (a .points .now) (l .at) e (l .s) (omega arith) (omega arith) (omega arith) (l .inv .2),
+      sums-block (a .m) (a .k) (a .w .now) (a .points .now) (l .at) e (l .s) _ (omega arith) (omega arith) (omega arith) (l .inv .2) (h .ensures),
     )
 
 returns : tie.Need-returns Inv-loop μ-loop
