@@ -10,6 +10,7 @@ use lib.Seq.{ext-getD, drop-cons, take-all}
 use Rattle.bits.specs.Xor.{_⊕_}
 use Rattle.bits.specs.Bits.{eachWith, padded, xorRow}
 use Rattle.bits.proofs.Xor.{xor-assoc, zero-xor, xor-zero}
+use Rattle.bits.proofs.Lists.{cons-eq}
 use Rattle.bits.proofs.Each.{length-eachWith, eachWith-again}
 use Rattle.bits.proofs.Rows.{xorRow-nil, xorRow-suc}
 use Rattle.bits.proofs.Padded.{length-padded, padded-at}
@@ -51,7 +52,31 @@ terms-sum m s [] p h = refl
 terms-sum m s (x ∷ w) [] h = absurd (not-suc-le-zero h)
 terms-sum m s (x ∷ w) (a ∷ p) h = ap (_⊕_ (mul m x (power m a s))) (terms-sum m s w p (le-of-suc-le-suc h))
 
--- of at most 64 points, with zeros behind
+-- a^0 is 1
+first : (m : ℕ) → Width m → (w p : List ℕ) → length w ≤ length p → map (λ x. x % 2 ^ m) w ≡ termsOf m 0 w p
+unfolding eachWith
+first m v [] p h = refl
+first m v (x ∷ w) [] h = absurd (not-suc-le-zero h)
+first m v (x ∷ w) (a ∷ p) h =
+    cons-eq (sym (ap (mul m x) (power-zero m a) ∙ mul-comm m x 1 ∙ one-mul-low m v x)) (first m v w p (le-of-suc-le-suc h))
+
+-- one power more
+next : (m s x a : ℕ) → mul m (mul m x (power m a s)) a ⊕ 0 ≡ mul m x (power m a (s + 1))
+next m s x a = xor-zero _ ∙ mul-assoc m x (power m a s) a ∙ ap (mul m x) (sym (power-suc m a s) ∙ ap (power m a) (sym (add-one s)))
+
+-- zeros behind weights and points
+zeros : (m i : ℕ) → map (λ x. x % 2 ^ m) (replicate i 0) ≡ replicate i 0
+zeros m zero = refl
+zeros m (suc i) = cons-eq (zero-mod (2 ^ m)) (zeros m i)
+
+multiples-padded : (m : ℕ) (p : List ℕ) → multiplesOf m p ≡ multiplesOf m (padded 64 p)
+multiples-padded m p =
+    ext-getD 0 (multiplesOf m p) (multiplesOf m (padded 64 p)) (length-multiples m p ∙ sym (length-multiples m (padded 64 p)))
+    (λ q b.
+    let c : q < 832 = rw (length-multiples m p) at b in
+    multiples-at m p q c ∙ ap (λ (x : ℕ). mul m x (2 ^ (q / 64))) (sym (padded-at 64 p (q % 64))) ∙ sym (multiples-at m (padded 64 p) q c))
+
+-- the terms of at most 64 points, with zeros behind
 module _ (m : ℕ) (w p : List ℕ) where
   unfoldable pub terms : ℕ → List ℕ
   terms s = termsOf m s (padded 64 w) (padded 64 p)
@@ -68,46 +93,24 @@ module _ (m : ℕ) (w p : List ℕ) where
     terms-total s = terms-sum m s (padded 64 w) (padded 64 p) (omega (arith, length-weights, length-points)) ∙ sum-padded m s 64 w p e
 
     module _ (v : Width m) where
-      -- a^0 is 1
-      first : (w p : List ℕ) → length w ≤ length p → map (λ x. x % 2 ^ m) w ≡ termsOf m 0 w p
-      unfolding eachWith
-      first [] p h = refl
-      first (x ∷ w) [] h = absurd (not-suc-le-zero h)
-      first (x ∷ w) (a ∷ p) h =
-          ap₂ (λ (x : ℕ) (l : List ℕ). x ∷ l) (sym (ap (mul m x) (power-zero m a) ∙ mul-comm m x 1 ∙ one-mul-low m v x)) (first w p (le-of-suc-le-suc h))
-
-      zeros : (i : ℕ) → map (λ x. x % 2 ^ m) (replicate i 0) ≡ replicate i 0
-      zeros zero = refl
-      zeros (suc i) = ap₂ (λ (x : ℕ) (l : List ℕ). x ∷ l) (zero-mod (2 ^ m)) (zeros i)
-
       pub terms-start : padded 64 (map (λ x. x % 2 ^ m) w) ≡ terms 0
       unfolding terms padded
       terms-start =
           let low : ℕ → ℕ = λ x. x % 2 ^ m in
           ap (λ (n : ℕ). map low w ++ replicate (64 - n) 0) (length-map w low)
-          ∙ sym (map-append low w (replicate (64 - length w) 0) ∙ ap (_++_ (map low w)) (zeros (64 - length w)))
-          ∙ first (padded 64 w) (padded 64 p) (omega (arith, length-weights, length-points))
+          ∙ sym (map-append low w (replicate (64 - length w) 0) ∙ ap (_++_ (map low w)) (zeros m (64 - length w)))
+          ∙ first m v (padded 64 w) (padded 64 p) (omega (arith, length-weights, length-points))
 
-      next : (s x a : ℕ) → mul m (mul m x (power m a s)) a ⊕ 0 ≡ mul m x (power m a (s + 1))
-      next s x a = xor-zero _ ∙ mul-assoc m x (power m a s) a ∙ ap (mul m x) (sym (power-suc m a s) ∙ ap (power m a) (sym (add-one s)))
-
-      multiples-padded : multiplesOf m p ≡ multiplesOf m (padded 64 p)
-      multiples-padded =
-          ext-getD 0 (multiplesOf m p) (multiplesOf m (padded 64 p)) (length-multiples m p ∙ sym (length-multiples m (padded 64 p)))
-          (λ q b.
-          let c : q < 832 = rw (length-multiples m p) at b in
-          multiples-at m p q c ∙ ap (λ (x : ℕ). mul m x (2 ^ (q / 64))) (sym (padded-at 64 p (q % 64))) ∙ sym (multiples-at m (padded 64 p) q c))
-
-      -- one power more, by the multiples t of the points
+      -- by the multiples t of the points
       pub terms-next : (t : List ℕ) → t ≡ multiplesOf m p → (s : ℕ) → combineEach t 0 (terms s) ≡ terms (s + 1)
       unfolding terms
       terms-next t et s =
           let n : length (terms s) ≡ 64 = length-eachWith (λ x a. mul m x (power m a s)) (padded 64 w) (padded 64 p) ∙ length-weights in
-          ap (λ (t : List ℕ). combineEach t 0 (terms s)) (et ∙ multiples-padded)
+          ap (λ (t : List ℕ). combineEach t 0 (terms s)) (et ∙ multiples-padded m p)
           ∙ combineEach-horner m v (padded 64 p) 0 (terms s) (omega (arith, length-points)) (omega arith)
           ∙ hornerEach-width m 0 (terms s) (padded 64 p) v
           ∙ eachWith-again (λ x a. mul m x (power m a s)) (λ x a. mul m x a ⊕ 0) (padded 64 w) (padded 64 p)
-          ∙ ap (λ f. eachWith f (padded 64 w) (padded 64 p)) (fun-ext (λ x. fun-ext (λ a. next s x a)))
+          ∙ ap (λ f. eachWith f (padded 64 w) (padded 64 p)) (fun-ext (λ x. fun-ext (λ a. next m s x a)))
 
   -- the sums added to d: none yet; one more; all
   module _ (k : ℕ) (d : List ℕ) where

@@ -19,7 +19,8 @@ use Rattle.field.proofs.Machine.{low-digits-lt}
 use Rattle.field.proofs.Table.{Width, width-narrow}
 use Rattle.field.proofs.Laws.{add-mul, zero-mul, power-low}
 use Rattle.power_sums.specs.Sums.{sumTo, powerSums, sumsAll}
-use Rattle.point_sums.specs.Weighted.{weightedSum, weightedSums, addedAt, scattered}
+use Rattle.point_sums.specs.Weighted.{weightedSum, weightedSums}
+use Rattle.point_sums.specs.Parts.{addedAt, scattered}
 use Rattle.point_sums.proofs.Weighted.{take-sums}
 
 -- a point's place
@@ -52,29 +53,30 @@ module _ (m : ℕ) (w p : List ℕ) where
       | no a ↦ ap (λ (l : List ℕ). addedAt m d l (drop i p)) (drop-of-length-le w {i = i} (omega arith))
     ]
 
+-- sums of equal terms
+same : (n : ℕ) (f g : ℕ → ℕ) → ((a : ℕ) → a < n → f a ≡ g a) → sumTo n f ≡ sumTo n g
+unfolding sumTo
+same zero f g e = refl
+same (suc n) f g e = ap₂ _⊕_ (same n f g (λ a h. e a (omega arith))) (e n (omega arith))
+
+-- equal but for v at the place i
+one : (n i : ℕ) (f g : ℕ → ℕ) (v : ℕ) → i < n → ((a : ℕ) → (a ≡ i → ⊥) → f a ≡ g a) → f i ≡ g i ⊕ v → sumTo n f ≡ sumTo n g ⊕ v
+unfolding sumTo
+one zero i f g v h e k = absurd (omega arith)
+one (suc n) i f g v h e k = elim (decLt i n) [
+  | yes a ↦ ap₂ _⊕_ (one n i f g v a e k) (e n (λ q. omega arith)) ∙ behind (sumTo n g) v (g n)
+  | no a ↦
+      let q : n ≡ i = omega arith in
+      ap₂ _⊕_ (same n f g (λ b c. e b (λ z. omega arith))) (ap f q ∙ k ∙ ap (λ (a : ℕ). g a ⊕ v) (sym q)) ∙ sym (xor-assoc _ _ _)
+]
+  where
+    behind : (x y z : ℕ) → x ⊕ y ⊕ z ≡ x ⊕ z ⊕ y
+    behind x y z = xor-assoc x y z ∙ ap (_⊕_ x) (xor-comm y z) ∙ sym (xor-assoc x z y)
+
 -- the sum of w_a·a^s over all elements a
 module _ (m s : ℕ) where
   abbrev term : List ℕ → ℕ → ℕ
   term d a = mul m (getD d a 0) (power m a s)
-
-  same : (n : ℕ) (f g : ℕ → ℕ) → ((a : ℕ) → a < n → f a ≡ g a) → sumTo n f ≡ sumTo n g
-  unfolding sumTo
-  same zero f g e = refl
-  same (suc n) f g e = ap₂ _⊕_ (same n f g (λ a h. e a (omega arith))) (e n (omega arith))
-
-  -- v added at the place i
-  one : (n i : ℕ) (f g : ℕ → ℕ) (v : ℕ) → i < n → ((a : ℕ) → (a ≡ i → ⊥) → f a ≡ g a) → f i ≡ g i ⊕ v → sumTo n f ≡ sumTo n g ⊕ v
-  unfolding sumTo
-  one zero i f g v h e k = absurd (omega arith)
-  one (suc n) i f g v h e k = elim (decLt i n) [
-    | yes a ↦ ap₂ _⊕_ (one n i f g v a e k) (e n (λ q. omega arith)) ∙ behind (sumTo n g) v (g n)
-    | no a ↦
-        let q : n ≡ i = omega arith in
-        ap₂ _⊕_ (same n f g (λ b c. e b (λ z. omega arith))) (ap f q ∙ k ∙ ap (λ (a : ℕ). g a ⊕ v) (sym q)) ∙ sym (xor-assoc _ _ _)
-  ]
-    where
-      behind : (x y z : ℕ) → x ⊕ y ⊕ z ≡ x ⊕ z ⊕ y
-      behind x y z = xor-assoc x y z ∙ ap (_⊕_ x) (xor-comm y z) ∙ sym (xor-assoc x z y)
 
   set-sum : (d : List ℕ) (i x : ℕ) → i < 2 ^ m → i < length d → sumTo (2 ^ m) (term (set d i (getD d i 0 ⊕ x))) ≡ sumTo (2 ^ m) (term d) ⊕ mul m x (power m i s)
   set-sum d i x h l =

@@ -1,1 +1,2 @@
 pub mod Weighted
+pub mod Parts

@@ -1,8 +1,7 @@
 -- Weighted sums of powers over points. Assumes nothing.
-use Prim.Native.Nat.{ℕ, _%_, _^_, min}
+use Prim.Native.Nat.{ℕ, min}
 use mathlib.Core.Bool.{cond}
 use mathlib.Core.List.{List, [], _∷_, map}
-use lib.ListN.{getD, set, replicate}
 use Rattle.bits.specs.Xor.{_⊕_}
 use Rattle.bits.specs.Bits.{from, padded}
 use Rattle.field.specs.Field.{isWidth, mul, power}
@@ -20,13 +19,3 @@ weightedSums m k w points = map (λ s. weightedSum m s w points) (from 0 k)
 -- the first k powers, at most 256, with zeros behind; zeros only where m is no width
 unfoldable pub weightedAll : ℕ → ℕ → List ℕ → List ℕ → List ℕ
 weightedAll m k w points = padded 256 (cond (isWidth m) (weightedSums m (min k 256) w points) [])
-
--- d with each weight added at the place of its point's m low digits, as far as both lists go
-unfoldable pub addedAt : ℕ → List ℕ → List ℕ → List ℕ → List ℕ
-addedAt m d [] points = d
-addedAt m d (x ∷ w) [] = d
-addedAt m d (x ∷ w) (a ∷ points) = addedAt m (set d (a % 2 ^ m) (getD d (a % 2 ^ m) 0 ⊕ x)) w points
-
--- zeros with them added, a place for each number below 8192
-unfoldable pub scattered : ℕ → List ℕ → List ℕ → List ℕ
-scattered m w points = addedAt m (replicate 8192 0) w points

@@ -5,7 +5,8 @@ ghost use Prim.Native.Nat.{_≤_};
 ghost use lib.ListN.{take};
 ghost use Rattle.bits.specs.Bits.{padded};
 ghost use Rattle.field.specs.Field.{isWidth};
-ghost use Rattle.point_sums.specs.Weighted.{weightedSums, scattered};
+ghost use Rattle.point_sums.specs.Weighted.{weightedSums};
+ghost use Rattle.point_sums.specs.Parts.{scattered};
 
 // The weights, each added at the place of its point's m low digits, as far as both lists go.
 fn scatter(m: u8, w: &[u16], points: &[u16]) -> [u16; 8192]

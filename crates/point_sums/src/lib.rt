@@ -10,7 +10,8 @@ ghost use Prim.Native.Nat.{_≤_};
 ghost use Rattle.field.specs.Field.{isWidth};
 ghost use Rattle.point_sums.specs.Weighted.{weightedAll};
 
-// The sums over all elements take less time than those over n points, for k powers.
+// The products for n points and k powers are more than the sums over all elements take, about 16·2^m; those are 256 from the
+// width 8 on.
 fn dense(m: u8, k: usize, n: usize) -> bool
     requires { ⌜ (isWidth m ≡ true) × (k ≤ 256) ⌝ }
     ensures { λ r. ⌜ (r ≡ true → 8 ≤ m) ⌝ }

@@ -8,7 +8,7 @@ use borrow.Author.Needs.{needs}
 use Rattle.bits.specs.Xor.{_⊕_}
 use Rattle.field.proofs.Machine.{one-shl, low-digits}
 use Rattle.field.proofs.Table.{width-narrow}
-use Rattle.point_sums.specs.Weighted.{addedAt, scattered}
+use Rattle.point_sums.specs.Parts.{addedAt, scattered}
 use Rattle.point_sums.proofs.Scattered.{place-lt, added-start, added-next, added-all}
 use Rattle.point_sums.proofs.elements.scatter.Statement.{statement}
 use Rattle.point_sums.proofs.elements.scatter.Tie as tie
