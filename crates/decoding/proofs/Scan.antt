@@ -1,4 +1,4 @@
--- The sum of a list and the comparison of two, place by place. Assumes nothing.
+-- Two lists compared, place by place. Assumes nothing.
 use mathlib.Core.Path.{_≡_}
 use mathlib.Core.Bool.{true, false}
 use mathlib.Core.List.{List}
@@ -7,27 +7,7 @@ use native.Mathlib.Numerals.{add-one}
 use borrow.Author.Tests.{eq-eqb, ne-eqb}
 use lib.ListN.{length, getD, drop, drop-of-length-le}
 use lib.Seq.{drop-cons}
-use Rattle.bits.specs.Xor.{_⊕_}
-use Rattle.bits.proofs.Xor.{xor-assoc, zero-xor, xor-zero}
-use Rattle.poly.specs.Polynomials.{sum, same}
-use Rattle.poly.proofs.Steps.{sum-nil, sum-cons}
-
--- d and the numbers from i on
-module _ (p : List ℕ) where
-  unfoldable pub rest : ℕ → ℕ → ℕ
-  rest d i = d ⊕ sum (drop i p)
-
-  pub rest-start : rest 0 0 ≡ sum p
-  unfolding rest
-  rest-start = zero-xor (sum p)
-
-  pub rest-next : (d i : ℕ) → i < length p → rest (d ⊕ getD p i 0) (i + 1) ≡ rest d i
-  unfolding rest
-  rest-next d i h = rw (add-one, drop-cons p i 0, sum-cons) (xor-assoc d _ _)
-
-  pub rest-end : (d i : ℕ) → length p ≤ i → rest d i ≡ d
-  unfolding rest
-  rest-end d i h = rw (drop-of-length-le p h, sum-nil) (xor-zero d)
+use Rattle.poly.specs.Polynomials.{same}
 
 -- two lists are the same as far as the places from i on are
 module _ (a b : List ℕ) (i : ℕ) where

@@ -38,16 +38,16 @@ array-borrow-prefix-v c =
     let l : length (c .values .result) ≡ 8192 = search needs in
     omega (arith, h .chosen .ensures .1, length-chosen-le (unpack (length (a .support .now)) (a .word .now)) (a .support .now))
 
-slice-aggregate-point-sums : tie.Need-slice-aggregate-point-sums
-slice-aggregate-point-sums c =
+slice-aggregate-sums-by-values : tie.Need-slice-aggregate-sums-by-values
+slice-aggregate-sums-by-values c =
     let h = c .before .before .before .before in
     let a = h .before .before .before .before .args in
     let l : length (c .before .values .result) ≡ 8192 = search needs in
     sym (length-take-le (h .chosen .result .count) (c .before .values .result)
     (omega (arith, h .chosen .ensures .1, length-chosen-le (unpack (length (a .support .now)) (a .word .now)) (a .support .now))))
 
-point-sums-requires : tie.Need-point-sums-requires
-point-sums-requires c κs =
+sums-by-values-requires : tie.Need-sums-by-values-requires
+sums-by-values-requires c κs =
     let h = c .before .before .before .before in
     let b = h .before .before .before .before in
     let a = b .args in
@@ -67,7 +67,7 @@ returns c =
     omega (arith, h .chosen .ensures .1, length-chosen-le (unpack (length (a .support .now)) (a .word .now)) (a .support .now)) in
     let e = h .chosen .ensures .0 in
     let n = ap length e ∙ sym (h .chosen .ensures .1) in
-    c .before .point-sums .ensures
+    c .before .sums-by-values .ensures
     ∙ ap₂ (λ (x s : List ℕ). sumsOf (inverseNumber (a .m) x) s)
     (values-points (a .m) (b .pre .0) (a .g .now) _ n few (v .values .ensures) ∙ ap (map (goppaAt (keyOf (a .m) (a .support .now) (a .g .now)))) e)
     (ap (pointSums (a .m) (a .g .now)) e ∙ chosen-sums (a .m) (a .support .now) (a .g .now) (row-unpack (length (a .support .now)) (a .word .now)))
@@ -81,6 +81,6 @@ word-sums-spec =
     slice-aggregate-points
     values-requires
     array-borrow-prefix-v
-    slice-aggregate-point-sums
-    point-sums-requires
+    slice-aggregate-sums-by-values
+    sums-by-values-requires
     returns)
