@@ -7,22 +7,25 @@ use mathlib.Core.Option.{Option, none, some}
 use Prim.Native.Nat.{ℕ, zero, suc, _*_, _≤_, _<_}
 use native.Mathlib.Nat.{le-of-suc-le-suc}
 use native.Mathlib.Omega.{arith}
-use lib.Dec.{eqb, leb}
+use lib.Dec.{leb}
 use lib.ListN.{length, take}
 use lib.Pow.{pow-mono}
-use borrow.Author.Tests.{lt-leb, le-leb}
-use Rattle.bits.specs.Bits.{Row, unpack, ones, weight, padded}
+use borrow.Author.Tests.{lt-leb, le-leb, leb-true, leb-false}
+use Rattle.bits.specs.Bits.{Row, every, unpack, ones, weight, padded}
+use lib.Seq.{length-take-le}
+use Rattle.bits.proofs.Lists.{and-left, and-right}
 use Rattle.bits.proofs.Pack.{row-unpack}
-use Rattle.field.specs.Field.{isWidth}
+use Rattle.field.specs.Field.{isWidth, isElement}
 use Rattle.field.specs.Answers.{inverseNumber}
 use Rattle.field.specs.Verdicts.{verdictOf}
 use Rattle.field.specs.declared.Verdict.{Verdict}
 use Rattle.field.specs.declared.Verdict.the-variants as variants
-use Rattle.field.proofs.Verdicts.{refuses, accepts, verdict-accepted, verdict-refused}
-use Rattle.field.proofs.Table.{Width, width-narrow}
+use Rattle.field.proofs.Verdicts.{refuses, accepts, verdict-refused}
+use Rattle.field.proofs.Table.{width-narrow}
 use Rattle.field.proofs.Units.{units-number, inverse-numbers}
 use Rattle.poly.specs.Polynomials.{same}
-use Rattle.poly.specs.Register.{register, registerNumber}
+use Rattle.poly.specs.Register.{register}
+use Rattle.poly.proofs.Answers.{accepted as accepted-list}
 use Rattle.poly.proofs.Laws.{same-eq, eq-same}
 use Rattle.key.specs.Keys.{keyNumber, keyOf}
 use Rattle.key.specs.Keys as Keys
@@ -30,14 +33,15 @@ use Rattle.key.specs.Kept.{kept}
 use Rattle.key.specs.declared.kept.Key.{Key}
 use Rattle.key.proofs.Accepted.{Accepted, accepted}
 use Rattle.key.proofs.Units.{goppa-units}
+use Rattle.key.proofs.Parts.{keyOf-parts}
 use Rattle.decoder.specs.Reading.{reading}
 use Rattle.decoder.specs.Decoding.{squareSums, places, located, explained}
 use Rattle.decoder.proofs.Sums.{length-squareSums, squareSums-number}
-use Rattle.decoder.proofs.Decoding.{row-located, explained-some, explained-none, reading-explained}
-use Rattle.decoding.specs.Parts.{sumsOf, divisors, decodedDivisors, decodedNumber, decoded, packed, nothingOf, foundOf}
+use Rattle.decoder.proofs.Decoding.{row-places, row-located, explained-some, explained-none, reading-explained}
+use Rattle.decoding.specs.Parts.{sumsOf, divisors, decodedDivisors, decodedNumber, decoded, packed, nothingOf, foundOf, foundBy, candidateOf, settledOf}
 use Rattle.decoding.specs.declared.sums.Sums.{Sums}
 use Rattle.decoding.specs.declared.decoding.Found.{Found}
-use Rattle.bits.proofs.Padded.{length-padded, take-padded}
+use Rattle.bits.proofs.Padded.{take-padded}
 use Rattle.decoding.proofs.Packed.{unpack-packed, weight-packed}
 use Rattle.decoding.proofs.Divisors.{number-word, number-many, number-few, divisors-units, sums-verdict, sums-given}
 
@@ -58,108 +62,158 @@ unfolding foundOf
 found-refused zero o e h = absurd (verdict-refused 0 e h refl)
 found-refused (suc q) o e h = ap nothingOf (e ∙ sym (refuses refl))
 
-module _ (m : ℕ) (support g : List ℕ) (wide : Width m) (few : length g ≤ 128) where
+-- the places that the register of the sums w gives
+module _ (m : ℕ) (support : List ℕ) (t : ℕ) (w : Sums) where
+  abbrev s : List ℕ
+  s = take (2 * t) (w .s)
+
+  abbrev e : List ℕ
+  e = places (keyOf m support []) (register m s)
+
+  pub candidate-refused : {x : ℕ} → w .verdict ≡ variants.Refused x → nothingOf (w .verdict) ≡ candidateOf m support t w
+  unfolding candidateOf foundBy
+  candidate-refused h = rw h
+
+  module _ (ea : w .verdict ≡ variants.Accepted) where
+    pub candidate-outside : (isWidth m && leb (length support) 8192 && leb t 128) ≡ false → nothingOf variants.Accepted ≡ candidateOf m support t w
+    unfolding candidateOf foundBy foundOf
+    candidate-outside h = rw (ea, h)
+
+    module _ (inside : (isWidth m && leb (length support) 8192 && leb t 128) ≡ true) where
+      pub candidate-no-element : every (isElement m) s ≡ false → nothingOf variants.Accepted ≡ candidateOf m support t w
+      unfolding candidateOf foundBy foundOf
+      candidate-no-element h = rw (ea, inside, h)
+
+      -- as the code holds them
+      module _ (all : every (isElement m) s ≡ true) {pattern : List ℕ} {i : ℕ} (ep : pattern ≡ packed e) (ei : i ≡ weight (length support) pattern) where
+        number-ones : i ≡ ones e
+        unfolding keyOf
+        number-ones = ei ∙ ap (weight (length support)) ep ∙ weight-packed (row-places (keyOf m support []) refl (register m s))
+
+        pub candidate-many : t < i → nothingOf variants.Accepted ≡ candidateOf m support t w
+        unfolding candidateOf foundBy foundOf
+        candidate-many h = rw (ea, inside, all, lt-leb (ones e) t (rw (sym number-ones) h))
+
+        pub candidate-few : i ≤ t → _≡_ {A = Found} record { verdict = variants.Accepted; found = true; ones = i; pattern = pattern } (candidateOf m support t w)
+        unfolding candidateOf foundBy foundOf
+        candidate-few h = rw (ea, inside, all, le-leb (ones e) t (rw (sym number-ones) h), number-ones, ep)
+
+-- what is found, by its own sums
+module _ (f : Found) (w own : Sums) where
+  pub settled-refused : {x : ℕ} → own .verdict ≡ variants.Refused x → nothingOf (own .verdict) ≡ settledOf f w own
+  unfolding settledOf foundBy
+  settled-refused h = rw h
+
+  module _ (ea : own .verdict ≡ variants.Accepted) where
+    pub settled-other : same (own .s) (w .s) ≡ false → nothingOf variants.Accepted ≡ settledOf f w own
+    unfolding settledOf foundBy
+    settled-other h = rw (ea, h)
+
+    pub settled-same : same (own .s) (w .s) ≡ true → f ≡ settledOf f w own
+    unfolding settledOf foundBy
+    settled-same h = rw (ea, h)
+
+-- the sums w of a word, and what is found by them
+module _ (m : ℕ) (support g : List ℕ) (pre : (isWidth m ≡ true) × (length support ≤ 8192) × (length g ≤ 128)) (word : List ℕ) where
   abbrev k : Keys.Key
   k = keyOf m support g
 
-  pub sums-length : (x : ℕ) (c : List ℕ) {r : Sums} → r ≡ sumsOf x (squareSums k c) → length (r .s) ≡ 256
-  unfolding keyOf sumsOf
-  sums-length x c e = ap (λ (r : Sums). length (r .s)) e ∙ go (eqb x 0)
-    where
-      go : (b : Bool) → length (padded 256 (cond b (squareSums k c) [])) ≡ 256
-      go true = length-padded 256 (squareSums k c) (omega (arith, length-squareSums k c))
-      go false = length-padded 256 [] (omega arith)
+  abbrev c : List ℕ
+  c = unpack (length support) word
 
-  -- the sums w of a word c
-  module _ (word : List ℕ) (w : Sums)
-      (ew : w ≡ sumsOf (inverseNumber m (divisors k (unpack (length support) word))) (squareSums k (unpack (length support) word))) where
-    abbrev c : List ℕ
-    c = unpack (length support) word
+  abbrev sumsFor : List ℕ → Sums
+  sumsFor w = sumsOf (inverseNumber m (divisors k w)) (squareSums k w)
 
-    -- what is to be found
-    abbrev answer : Found
-    answer = foundOf (inverseNumber m (decodedDivisors k c)) (explained k c)
+  -- what is to be found
+  abbrev answer : Found
+  answer = foundOf (inverseNumber m (decodedDivisors k c)) (explained k c)
 
-    pub word-refused : {x : ℕ} → w .verdict ≡ variants.Refused x → nothingOf (w .verdict) ≡ answer
-    unfolding keyOf
-    word-refused h =
-        let e = sums-verdict _ _ ew in
-        found-refused _ _ (e ∙ ap verdictOf (sym (number-word k c (verdict-refused _ e h)))) h
+  sums-whole : (w : List ℕ) → take (2 * length g) (padded 256 (squareSums k w)) ≡ squareSums k w
+  unfolding keyOf
+  sums-whole w = take-padded 256 (squareSums k w) (2 * length g) (length-squareSums k w)
 
-    module _ (ea : w .verdict ≡ variants.Accepted) where
-      none-zero : inverseNumber m (divisors k c) ≡ 0
-      none-zero = verdict-accepted _ (sums-verdict _ _ ew) ea
+  sums-elements : every (isElement m) (squareSums k c) ≡ true
+  unfolding keyOf
+  sums-elements = accepted-list m (squareSums k c) (squareSums-number k (row-unpack (length support) word) (pre .0) (pre .2)) .2
 
-      es : w .s ≡ padded 256 (squareSums k c)
-      es = sums-given _ _ ew none-zero
+  module _ {w : Sums} {f : Found} (ew : w ≡ sumsFor c) (ef : f ≡ candidateOf m support (length g) w) where
+    -- by the number x of the word's divisors
+    located-by : (x : ℕ) → f ≡ candidateOf m support (length g) (sumsOf x (squareSums k c))
+        → f ≡ foundOf x (cond (leb (ones (located k c)) (length g)) (some (located k c)) none)
+    unfolding candidateOf foundBy foundOf sumsOf located places keyOf
+    located-by zero e =
+        e ∙ rw (sym (accepts {q = 0} refl), pre .0, le-leb (length support) 8192 (pre .1), le-leb (length g) 128 (pre .2), sums-whole c, sums-elements)
+    located-by (suc x) e = e ∙ rw (sym (refuses {x = x} refl))
 
-      sums-whole : take (2 * length g) (w .s) ≡ squareSums k c
+    located-found : f ≡ foundOf (inverseNumber m (divisors k c)) (cond (leb (ones (located k c)) (length g)) (some (located k c)) none)
+    located-found = located-by _ (ef ∙ ap (candidateOf m support (length g)) ew)
+
+    -- nothing is found
+    pub found-none : f .found ≡ false → f ≡ answer
+    unfolding foundOf nothingOf keyOf
+    found-none h = go (inverseNumber m (divisors k c)) (leb (ones (located k c)) (length g)) refl refl located-found
+      where
+        go : (x : ℕ) (b : Bool) → inverseNumber m (divisors k c) ≡ x → leb (ones (located k c)) (length g) ≡ b
+            → f ≡ foundOf x (cond b (some (located k c)) none) → f ≡ answer
+        go zero true ex eb e = absurd (true≢false (sym (ap (λ (f : Found). f .found) e) ∙ h))
+        go zero false ex eb e =
+            let n : length g < ones (located k c) = leb-false (ones (located k c)) (length g) eb in
+            e ∙ found-nothing (number-many k c ex n) (explained-none k c (λ least same. omega arith))
+        go (suc x) b ex eb e = e ∙ ap (λ (q : ℕ). foundOf q (explained k c)) (sym (number-word k c (λ z. omega arith) ∙ ex))
+
+    -- places are found
+    found-located : f .found ≡ true → (inverseNumber m (divisors k c) ≡ 0) × (ones (located k c) ≤ length g) × (f ≡ foundOf 0 (some (located k c)))
+    unfolding foundOf nothingOf
+    found-located h = go (inverseNumber m (divisors k c)) (leb (ones (located k c)) (length g)) refl refl located-found
+      where
+        go : (x : ℕ) (b : Bool) → inverseNumber m (divisors k c) ≡ x → leb (ones (located k c)) (length g) ≡ b
+            → f ≡ foundOf x (cond b (some (located k c)) none)
+            → (inverseNumber m (divisors k c) ≡ 0) × (ones (located k c) ≤ length g) × (f ≡ foundOf 0 (some (located k c)))
+        go zero true ex eb e = (ex, leb-true (ones (located k c)) (length g) eb, e)
+        go zero false ex eb e = absurd (true≢false (sym h ∙ ap (λ (f : Found). f .found) e))
+        go (suc x) b ex eb e = absurd (true≢false (sym h ∙ ap (λ (f : Found). f .found) e))
+
+    -- and their own sums o decide
+    module _ (h : f .found ≡ true) {o : Sums} (eo : o ≡ sumsFor (unpack (length support) (f .pattern))) where
+      row : Row (length support) (located k c)
       unfolding keyOf
-      sums-whole = ap (take (2 * length g)) es ∙ take-padded 256 (squareSums k c) (2 * length g) (length-squareSums k c)
+      row = row-located k refl c
 
-      pub sums-number : registerNumber m (take (2 * length g) (w .s)) ≡ 0
+      own : o ≡ sumsFor (located k c)
+      unfolding foundOf
+      own = eo ∙ ap sumsFor (ap (λ (f : Found). unpack (length support) (f .pattern)) (found-located h .2) ∙ unpack-packed row)
+
+      number : inverseNumber m (decodedDivisors k c) ≡ inverseNumber m (divisors k (located k c))
       unfolding keyOf
-      sums-number = ap (registerNumber m) sums-whole ∙ squareSums-number k (row-unpack (length support) word) wide few
+      number = number-few k c (found-located h .0) (found-located h .1)
 
-      -- the places found
-      module _ (pattern : List ℕ) (ep : pattern ≡ packed (places (keyOf m support []) (register m (take (2 * length g) (w .s))))) where
-        row : Row (length support) (located k c)
+      module _ (z : inverseNumber m (divisors k (located k c)) ≡ 0) where
+        es : w .s ≡ padded 256 (squareSums k c)
+        es = sums-given _ _ ew (found-located h .0)
+
+        own-sums : o .s ≡ padded 256 (squareSums k (located k c))
+        own-sums = sums-given _ _ own z
+
+        by-sums : (b : Bool) → same (o .s) (w .s) ≡ b → cond b f (nothingOf variants.Accepted) ≡ answer
         unfolding keyOf
-        row = row-located k refl c
+        by-sums true e =
+            found-located h .2
+            ∙ ap₂ foundOf (sym (number ∙ z)) (sym (explained-some k c (found-located h .1)
+            (sym (sums-whole (located k c)) ∙ ap (take (2 * length g)) (sym own-sums ∙ same-eq (o .s) (w .s) e ∙ es) ∙ sums-whole c)))
+        by-sums false e =
+            found-nothing (number ∙ z) (explained-none k c (λ l q.
+            true≢false (sym (eq-same (o .s) (w .s) (own-sums ∙ ap (padded 256) q ∙ sym es)) ∙ e)))
 
-        pattern-located : pattern ≡ packed (located k c)
-        unfolding keyOf located places
-        pattern-located = ep ∙ ap (λ (l : List ℕ). packed (places k (register m l))) sums-whole
+      own-verdict : o .verdict ≡ verdictOf (inverseNumber m (divisors k (located k c)))
+      own-verdict = sums-verdict _ _ own
 
-        pattern-weight : weight (length support) pattern ≡ ones (located k c)
-        pattern-weight = ap (weight (length support)) pattern-located ∙ weight-packed row
-
-        pattern-bits : unpack (length support) pattern ≡ located k c
-        pattern-bits = ap (unpack (length support)) pattern-located ∙ unpack-packed row
-
-        -- too many
-        pub found-many : length g < weight (length support) pattern → nothingOf variants.Accepted ≡ answer
-        unfolding keyOf
-        found-many h =
-            found-nothing (number-many k c none-zero (omega (arith, pattern-weight)))
-            (explained-none k c (λ least e. omega (arith, pattern-weight, least)))
-
-        -- their own sums o
-        module _ (least : weight (length support) pattern ≤ length g) (o : Sums)
-            (eo : o ≡ sumsOf (inverseNumber m (divisors k (unpack (length support) pattern))) (squareSums k (unpack (length support) pattern))) where
-          own : o ≡ sumsOf (inverseNumber m (divisors k (located k c))) (squareSums k (located k c))
-          own = eo ∙ ap (λ (e : List ℕ). sumsOf (inverseNumber m (divisors k e)) (squareSums k e)) pattern-bits
-
-          number : inverseNumber m (decodedDivisors k c) ≡ inverseNumber m (divisors k (located k c))
-          unfolding keyOf
-          number = number-few k c none-zero (omega (arith, pattern-weight))
-
-          pub pattern-refused : {x : ℕ} → o .verdict ≡ variants.Refused x → nothingOf (o .verdict) ≡ answer
-          pattern-refused h = found-refused _ _ (sums-verdict _ _ own ∙ ap verdictOf (sym number)) h
-
-          module _ (oa : o .verdict ≡ variants.Accepted) where
-            own-zero : inverseNumber m (divisors k (located k c)) ≡ 0
-            own-zero = verdict-accepted _ (sums-verdict _ _ own) oa
-
-            own-sums : o .s ≡ padded 256 (squareSums k (located k c))
-            own-sums = sums-given _ _ own own-zero
-
-            -- other sums
-            pub found-other : same (o .s) (w .s) ≡ false → nothingOf variants.Accepted ≡ answer
-            found-other h =
-                found-nothing (number ∙ own-zero) (explained-none k c (λ l e.
-                true≢false (sym (eq-same (o .s) (w .s) (own-sums ∙ ap (padded 256) e ∙ sym es)) ∙ h)))
-
-            -- the word's
-            pub found-pattern : same (o .s) (w .s) ≡ true → (i : ℕ) → i ≡ weight (length support) pattern
-                → _≡_ {A = Found} record { verdict = variants.Accepted; found = true; ones = i; pattern = pattern } answer
-            unfolding keyOf foundOf
-            found-pattern h i ei =
-                ap₂ (λ (i : ℕ) (p : List ℕ). record { verdict = variants.Accepted; found = true; ones = i; pattern = p }) (ei ∙ pattern-weight) pattern-located
-                ∙ ap₂ foundOf (sym (number ∙ own-zero)) (sym (explained-some k c (omega (arith, pattern-weight, least))
-                (sym (take-padded 256 _ (2 * length g) (length-squareSums k (located k c)))
-                ∙ ap (take (2 * length g)) (sym own-sums ∙ same-eq (o .s) (w .s) h)
-                ∙ sums-whole)))
+      pub found-settled : settledOf f w o ≡ answer
+      unfolding settledOf foundBy foundOf
+      found-settled = go (inverseNumber m (divisors k (located k c))) refl own-verdict
+        where
+          go : (y : ℕ) → inverseNumber m (divisors k (located k c)) ≡ y → o .verdict ≡ verdictOf y → settledOf f w o ≡ answer
+          go zero ey e = rw (e ∙ sym (accepts refl)) (by-sums ey (same (o .s) (w .s)) refl)
+          go (suc y) ey e = rw (e ∙ sym (refuses refl)) (ap (λ (q : ℕ). foundOf q (explained k c)) (sym (number ∙ ey)))
 
 -- 32 is the only refusal
 pub decoded-numbers : (k : Keys.Key) (w : List ℕ) → (decodedNumber k w ≡ 0) ⊎ (decodedNumber k w ≡ 32)
@@ -175,48 +229,68 @@ decoded-numbers k w = go (isWidth (k .m)) (leb (k .n) 8192) (leb (k .t) 128) ref
     go true true false e = inl refl
     go true true true e = inverse-numbers (k .m) (decodedDivisors k w) e
 
+-- m is a width, and n and t are at most the arrays' lengths
+module _ (m n t : ℕ) where
+  pub in-limits : (isWidth m && leb n 8192 && leb t 128) ≡ true → (isWidth m ≡ true) × (n ≤ 8192) × (t ≤ 128)
+  in-limits e =
+      let l : (isWidth m && leb n 8192) ≡ true = and-left (isWidth m && leb n 8192) (leb t 128) e in (
+        and-left (isWidth m) (leb n 8192) l,
+        leb-true n 8192 (and-right (isWidth m) (leb n 8192) l),
+        leb-true t 128 (and-right (isWidth m && leb n 8192) (leb t 128) e),
+      )
+
 -- a kept key by its numbers
 module _ (k : Key) (word : List ℕ) where
-  pub decoded-no-width : isWidth (k .m) ≡ false → nothingOf variants.Accepted ≡ foundOf (decodedNumber (kept k) (unpack (k .n) word)) (decoded (kept k) (unpack (k .n) word))
+  abbrev inside : Bool
+  inside = isWidth (k .m) && leb (k .n) 8192 && leb (k .t) 128
+
+  abbrev decodes : Found
+  decodes = foundOf (decodedNumber (kept k) (unpack (k .n) word)) (decoded (kept k) (unpack (k .n) word))
+
+  pub decoded-outside : inside ≡ false → nothingOf variants.Accepted ≡ decodes
   unfolding decodedNumber decoded foundOf kept
-  decoded-no-width w = rw w
+  decoded-outside h = rw h
 
-  module _ (wide : Width (k .m)) where
-    pub decoded-many-places : 8192 < k .n → nothingOf variants.Accepted ≡ foundOf (decodedNumber (kept k) (unpack (k .n) word)) (decoded (kept k) (unpack (k .n) word))
-    unfolding decodedNumber decoded foundOf kept
-    decoded-many-places h = rw (wide, lt-leb (k .n) 8192 h)
+  decoded-explained : inside ≡ true → decoded (kept k) (unpack (k .n) word) ≡ explained (kept k) (unpack (k .n) word)
+  unfolding decoded kept
+  decoded-explained h = rw h
 
-    module _ (few : k .n ≤ 8192) where
-      pub decoded-many-errors : 128 < k .t → nothingOf variants.Accepted ≡ foundOf (decodedNumber (kept k) (unpack (k .n) word)) (decoded (kept k) (unpack (k .n) word))
-      unfolding decodedNumber decoded foundOf kept
-      decoded-many-errors h = rw (wide, le-leb (k .n) 8192 few, lt-leb (k .t) 128 h)
+  number-explained : inside ≡ true → decodedNumber (kept k) (unpack (k .n) word) ≡ inverseNumber (k .m) (decodedDivisors (kept k) (unpack (k .n) word))
+  unfolding decodedNumber kept
+  number-explained h = rw h
 
-      module _ (less : k .t ≤ 128) where
-        pub decoded-explained : decoded (kept k) (unpack (k .n) word) ≡ explained (kept k) (unpack (k .n) word)
-        unfolding decoded kept
-        decoded-explained = rw (wide, le-leb (k .n) 8192 few, le-leb (k .t) 128 less)
+  -- by its arrays' first n and t numbers
+  module _ (h : inside ≡ true) (places : length (k .support) ≡ 8192) (errors : length (k .g) ≡ 128) where
+    pub lent-places : length (take (k .n) (k .support)) ≡ k .n
+    lent-places = let l = in-limits (k .m) (k .n) (k .t) h in length-take-le (k .n) (k .support) (omega arith)
 
-        pub number-explained : decodedNumber (kept k) (unpack (k .n) word) ≡ inverseNumber (k .m) (decodedDivisors (kept k) (unpack (k .n) word))
-        unfolding decodedNumber kept
-        number-explained = rw (wide, le-leb (k .n) 8192 few, le-leb (k .t) 128 less)
+    pub lent-errors : length (take (k .t) (k .g)) ≡ k .t
+    lent-errors = let l = in-limits (k .m) (k .n) (k .t) h in length-take-le (k .t) (k .g) (omega arith)
 
-        pub decoded-found : foundOf (inverseNumber (k .m) (decodedDivisors (kept k) (unpack (k .n) word))) (explained (kept k) (unpack (k .n) word))
-            ≡ foundOf (decodedNumber (kept k) (unpack (k .n) word)) (decoded (kept k) (unpack (k .n) word))
-        decoded-found = ap₂ foundOf (sym number-explained) (sym decoded-explained)
+    pub lent-limits : (isWidth (k .m) ≡ true) × (length (take (k .n) (k .support)) ≤ 8192) × (length (take (k .t) (k .g)) ≤ 128)
+    lent-limits = let l = in-limits (k .m) (k .n) (k .t) h in (l .0, omega (arith, lent-places), omega (arith, lent-errors))
 
-  -- a key that load accepts has at most 8192 places
-  few-places : keyNumber (kept k) ≡ 0 → k .n ≤ 8192
+    pub lent-found : {f : Found}
+        → f ≡ (let x = keyOf (k .m) (take (k .n) (k .support)) (take (k .t) (k .g)) in let c = unpack (length (take (k .n) (k .support))) word in foundOf (inverseNumber (k .m) (decodedDivisors x c)) (explained x c))
+        → f ≡ decodes
+    lent-found e =
+        e
+        ∙ ap₂ (λ (x : Keys.Key) (i : ℕ). foundOf (inverseNumber (k .m) (decodedDivisors x (unpack i word))) (explained x (unpack i word))) (keyOf-parts k lent-places lent-errors) lent-places
+        ∙ sym (ap₂ foundOf (number-explained h) (decoded-explained h))
+
+  -- a key that load accepts is inside
+  accepted-inside : Accepted (kept k) → inside ≡ true
   unfolding kept
-  few-places z =
-      let A : Accepted (kept k) = accepted (kept k) z in
-      omega (arith, A .limits .fits, pow-mono (le-of-suc-le-suc (width-narrow (k .m) (A .width))))
+  accepted-inside A =
+      let f : k .n ≤ 8192 = omega (arith, A .limits .fits, pow-mono (le-of-suc-le-suc (width-narrow (k .m) (A .width)))) in
+      rw (A .width, le-leb (k .n) 8192 f, le-leb (k .t) 128 (A .limits .few))
 
   -- g has no root in its support, so that decoding does not divide by 0
   pub decoded-divides : keyNumber (kept k) ≡ 0 → decodedNumber (kept k) (unpack (k .n) word) ≡ 0
   unfolding kept
   decoded-divides z =
       let A : Accepted (kept k) = accepted (kept k) z in
-      number-explained (A .width) (few-places z) (A .limits .few)
+      number-explained (accepted-inside A)
       ∙ units-number (k .m) _ (A .width) (divisors-units (kept k) (goppa-units (kept k) A) (unpack (k .n) word))
 
   -- and decoding finds what reading does
@@ -224,5 +298,4 @@ module _ (k : Key) (word : List ℕ) where
   unfolding kept
   decoded-reading z =
       let A : Accepted (kept k) = accepted (kept k) z in
-      decoded-explained (A .width) (few-places z) (A .limits .few)
-      ∙ sym (reading-explained (kept k) A (row-unpack (k .n) word))
+      decoded-explained (accepted-inside A) ∙ sym (reading-explained (kept k) A (row-unpack (k .n) word))
