@@ -8,7 +8,7 @@ use native.Mathlib.Nat.{suc-ne-zero}
 use native.Mathlib.Omega.{arith}
 use borrow.Author.Tests.{eq-eqb, ne-eqb}
 use lib.ListN.{length, replicate}
-use Rattle.bits.specs.Bits.{Row, from, bytesFor, bitAt, unpack, pack, ones, wellFormed, over, rowWritten}
+use Rattle.bits.specs.Bits.{Row, from, bytesFor, bitAt, unpack, pack, ones, wellFormed, over}
 use Rattle.bits.proofs.Lists.{map-from}
 use Rattle.bits.proofs.PutBits.{written-row}
 use Rattle.bits.proofs.Pack.{length-unpack, unpack-add, well-formed-past}
@@ -24,78 +24,45 @@ use Rattle.decoder.specs.Reading.{reading, filled, exactly, opening}
 use Rattle.decoder.specs.Calls.{found, isNone, patternOutput, openNumber, readNumber, openOutput, readOutput}
 use Rattle.decoder.proofs.Sanity.{reading-sound}
 use Rattle.decoder.proofs.Openings.{exactly-some}
-use Rattle.decoding.specs.Parts.{decodedNumber, decoded, nothingOf, foundOf}
+use Rattle.decoding.specs.Parts.{decodedNumber, decoded, packed, nothingOf, foundOf}
 use Rattle.decoding.specs.declared.decoding.Found.{Found}
 use Rattle.decoding.proofs.Packed.{unpack-packed}
 use Rattle.decoding.proofs.Explained.{found-verdict, found-refused, decoded-divides, decoded-reading}
-use Rattle.reading.specs.Answers.{answerOf, readOf, openOf, readChecks, openChecks, answerBy, countedOf}
-use Rattle.reading.specs.declared.calls.Answer.{Answer}
-use Rattle.reading.specs.declared.calls.Answer.the-variants.{Ones, Refused}
+use Rattle.reading.specs.Answers.{answerOf, readOf, openOf, readChecks, openChecks, answerBy, countedOf, writtenBy, givenOf}
+use Rattle.reading.specs.declared.calls.Answer.the-variants.{Refused}
 use Rattle.reading.proofs.Refusals.{read-clear, read-refused, read-number, open-clear, open-refused, open-number}
 
--- the answer and the output for a number q and a pattern o
-module _ (q : ℕ) (o : Option (List ℕ)) (out : List ℕ) where
-  refusal : (x : ℕ) → x ≡ q → (x ≡ 0 → ⊥) → (Refused x ≡ answerOf q (ones (found o))) × (out ≡ patternOutput q o out)
-  unfolding answerOf patternOutput
-  refusal zero e h = absurd (h refl)
-  refusal (suc x) e h = (
-    ap (λ (y : ℕ). answerOf y (ones (found o))) e,
-    sym (ap (λ (b : Bool). cond b (over (pack (found o)) out) out) (ne-eqb q 0 (λ z. h (e ∙ z)))),
-  )
+-- the answer and the output for a refusal with a number
+refusal : (q : ℕ) (o : Option (List ℕ)) (out : List ℕ) (x : ℕ) → x ≡ q → (x ≡ 0 → ⊥) → (Refused x ≡ answerOf q (ones (found o))) × (out ≡ patternOutput q o out)
+unfolding answerOf patternOutput
+refusal q o out zero e h = absurd (h refl)
+refusal q o out (suc x) e h = (
+  ap (λ (y : ℕ). answerOf y (ones (found o))) e,
+  sym (ap (λ (b : Bool). cond b (over (pack (found o)) out) out) (ne-eqb q 0 (λ z. h (e ∙ z)))),
+)
 
-  acceptance : {e : List ℕ} {w : ℕ} → q ≡ 0 → o ≡ some e → w ≡ ones e
-      → (Ones w ≡ answerOf q (ones (found o))) × (over (pack e) out ≡ patternOutput q o out)
-  unfolding answerOf patternOutput found
-  acceptance z s c = rw (z, s) (ap Ones c, refl)
+-- what is given where only the pattern o, of n bits, decides, with the number x
+module _ (x n : ℕ) (out : List ℕ) (h : x ≡ 0 → ⊥) (b : bytesFor n ≤ length out) where
+  given-pattern : (o : Option (List ℕ)) → ((e : List ℕ) → o ≡ some e → Row n e) → (q : ℕ) → q ≡ cond (isNone o) x 0
+      → (countedOf x (foundOf 0 o) ≡ answerOf q (ones (found o))) × (givenOf n (foundOf 0 o) out ≡ patternOutput q o out)
+  unfolding answerOf patternOutput found unpack countedOf answerBy givenOf writtenBy foundOf nothingOf isNone
+  given-pattern none row q e = refusal q none out x (sym e) h
+  given-pattern (some p) row q e =
+      rw e (refl, written-row (packed p) 0 n out b ∙ ap (λ (e : List ℕ). over (pack e) out) (unpack-packed (row p refl)))
 
--- a pattern of n bits that is found, with w ones
-pub record Counted (n w : ℕ) (o : Option (List ℕ)) (f : Found) : Type 0 where
-  pub e : List ℕ
-  pub is : o ≡ some e
-  pub count : w ≡ ones e
-  pub bits : unpack n (f .pattern) ≡ e
-
--- what is found where nothing is refused, and the answer for it with the number x
-module _ (x : ℕ) (o : Option (List ℕ)) {f : Found} {r : Answer} (ef : f ≡ foundOf 0 o) (er : r ≡ countedOf x f) where
-  pub counted-none : {y : ℕ} → r ≡ Refused y → (o ≡ none) × (r ≡ Refused x)
-  unfolding countedOf answerBy foundOf nothingOf
-  counted-none h = go o (er ∙ ap (countedOf x) ef)
-    where
-      go : (o : Option (List ℕ)) → r ≡ countedOf x (foundOf 0 o) → (o ≡ none) × (r ≡ Refused x)
-      go none e = (refl, e)
-      go (some p) e = let z : _≡_ {A = ℕ} 0 1 = cc in absurd (omega arith)
-
-  pub counted-some : {n w : ℕ} → ((e : List ℕ) → o ≡ some e → Row n e) → r ≡ Ones w → Counted n w o f
-  unfolding countedOf answerBy foundOf nothingOf
-  counted-some {n} {w} row h = rw ef (go o row (er ∙ ap (countedOf x) ef))
-    where
-      go : (o : Option (List ℕ)) → ((e : List ℕ) → o ≡ some e → Row n e) → r ≡ countedOf x (foundOf 0 o) → Counted n w o (foundOf 0 o)
-      go none row e = let z : _≡_ {A = ℕ} 0 1 = cc in absurd (omega arith)
-      go (some p) row e =
-          let c : w ≡ ones p = cc in
-          record { e = p; is = refl; count = c; bits = unpack-packed (row p refl) }
-
--- the answer and the output where only the pattern o decides, with the number x
-module _ {q : ℕ} (x : ℕ) (o : Option (List ℕ)) (out : List ℕ) (e : q ≡ cond (isNone o) x 0) where
-  answered-none : o ≡ none → (x ≡ 0 → ⊥) → (Refused x ≡ answerOf q (ones (found o))) × (out ≡ patternOutput q o out)
-  unfolding isNone
-  answered-none h = refusal q o out x (sym (e ∙ ap (λ (o : Option (List ℕ)). cond (isNone o) x 0) h))
-
-  -- its bits are written as a row
-  answered-some : {n w : ℕ} {f : Found} → Counted n w o f → bytesFor n ≤ length out
-      → (Ones w ≡ answerOf q (ones (found o))) × (rowWritten (f .pattern) 0 n out ≡ patternOutput q o out)
-  unfolding isNone unpack
-  answered-some {n} {f} c b =
-      let a = acceptance q o out (e ∙ ap (λ (o : Option (List ℕ)). cond (isNone o) x 0) (c .is)) (c .is) (c .count) in
-      (a .0, written-row (f .pattern) 0 n out b ∙ ap (λ (e : List ℕ). over (pack e) out) (c .bits) ∙ a .1)
+  given-found : (o : Option (List ℕ)) {f : Found} → f ≡ foundOf 0 o → ((e : List ℕ) → o ≡ some e → Row n e) → {q : ℕ} → q ≡ cond (isNone o) x 0
+      → (countedOf x f ≡ answerOf q (ones (found o))) × (givenOf n f out ≡ patternOutput q o out)
+  given-found o ef row e =
+      let r = given-pattern o row _ e in
+      (ap (countedOf x) ef ∙ r .0, ap (λ (f : Found). givenOf n f out) ef ∙ r .1)
 
 -- read
 module _ (k : Key) (word : List ℕ) where
-  pub found-reading : keyNumber (kept k) ≡ 0 → {f : Found} → f ≡ foundOf (decodedNumber (kept k) (unpack (k .n) word)) (decoded (kept k) (unpack (k .n) word))
+  found-reading : keyNumber (kept k) ≡ 0 → {f : Found} → f ≡ foundOf (decodedNumber (kept k) (unpack (k .n) word)) (decoded (kept k) (unpack (k .n) word))
       → f ≡ foundOf 0 (reading (kept k) (unpack (k .n) word))
   found-reading z e = e ∙ ap₂ foundOf (decoded-divides k word z) (decoded-reading k word z)
 
-  pub row-reading : (e : List ℕ) → reading (kept k) (unpack (k .n) word) ≡ some e → Row (k .n) e
+  row-reading : (e : List ℕ) → reading (kept k) (unpack (k .n) word) ≡ some e → Row (k .n) e
   unfolding kept
   row-reading e h = reading-sound (kept k) (unpack (k .n) word) e h .bits
 
@@ -110,14 +77,12 @@ module _ (k : Key) (word out : List ℕ) where
     unfolding kept
     number = read-number (kept k) word out z
 
-    pub read-none : reading (kept k) (unpack (k .n) word) ≡ none → (Refused 14 ≡ readOf (kept k) word out) × (out ≡ readOutput (kept k) word out)
+    pub read-given : {f : Found} → f ≡ foundOf (decodedNumber (kept k) (unpack (k .n) word)) (decoded (kept k) (unpack (k .n) word))
+        → (countedOf 14 f ≡ readOf (kept k) word out) × (givenOf (k .n) f out ≡ readOutput (kept k) word out)
     unfolding readOf readOutput kept
-    read-none h = answered-none 14 (reading (kept k) (unpack (k .n) word)) out number h (λ e. omega arith)
-
-    pub read-some : {w : ℕ} {f : Found} → Counted (k .n) w (reading (kept k) (unpack (k .n) word)) f
-        → (Ones w ≡ readOf (kept k) word out) × (rowWritten (f .pattern) 0 (k .n) out ≡ readOutput (kept k) word out)
-    unfolding readOf readOutput kept
-    read-some c = answered-some 14 (reading (kept k) (unpack (k .n) word)) out number c (read-clear (kept k) word out z .2)
+    read-given e =
+        let c = read-clear (kept k) word out z in
+        given-found 14 (k .n) out (λ e. omega arith) (c .2) _ (found-reading k word (c .0) e) (row-reading k word) number
 
 -- a capsule is the word whose other bits are 0
 zeros : (k n : ℕ) → map {B = ℕ} (λ i. 0) (from k n) ≡ replicate n 0
@@ -173,7 +138,7 @@ module _ (k : Key) (capsule : List ℕ) (z : keyNumber (kept k) ≡ 0) (w : well
       → f ≡ foundOf 0 (opening (kept k) (unpack (capsuleBits (kept k)) capsule))
   found-opening e = e ∙ ap₂ foundOf (decoded-divides k capsule z) exactly-opening
 
-  pub row-opening : (e : List ℕ) → opening (kept k) (unpack (capsuleBits (kept k)) capsule) ≡ some e → Row (k .n) e
+  row-opening : (e : List ℕ) → opening (kept k) (unpack (capsuleBits (kept k)) capsule) ≡ some e → Row (k .n) e
   row-opening e h = row-reading k capsule e (exactly-some (k .t) _ e (sym opening-exactly ∙ h) .0)
 
 module _ (unpublished : Bool) (k : Key) (capsule out : List ℕ) where
@@ -186,12 +151,10 @@ module _ (unpublished : Bool) (k : Key) (capsule out : List ℕ) where
     number-opening : openNumber unpublished (kept k) capsule out ≡ cond (isNone (opening (kept k) (unpack (capsuleBits (kept k)) capsule))) 13 0
     number-opening = open-number unpublished (kept k) capsule out z
 
-    pub open-none : opening (kept k) (unpack (capsuleBits (kept k)) capsule) ≡ none
-        → (Refused 13 ≡ openOf unpublished (kept k) capsule out) × (out ≡ openOutput unpublished (kept k) capsule out)
-    unfolding openOf openOutput
-    open-none h = answered-none 13 (opening (kept k) (unpack (capsuleBits (kept k)) capsule)) out number-opening h (λ e. omega arith)
-
-    pub open-some : {w : ℕ} {f : Found} → Counted (k .n) w (opening (kept k) (unpack (capsuleBits (kept k)) capsule)) f
-        → (Ones w ≡ openOf unpublished (kept k) capsule out) × (rowWritten (f .pattern) 0 (k .n) out ≡ openOutput unpublished (kept k) capsule out)
+    pub open-given : {f : Found}
+        → f ≡ foundOf (decodedNumber (kept k) (unpack (k .n) capsule)) (exactly (k .t) (decoded (kept k) (unpack (k .n) capsule)))
+        → (countedOf 13 f ≡ openOf unpublished (kept k) capsule out) × (givenOf (k .n) f out ≡ openOutput unpublished (kept k) capsule out)
     unfolding kept openOf openOutput
-    open-some c = answered-some 13 (opening (kept k) (unpack (capsuleBits (kept k)) capsule)) out number-opening c (open-clear unpublished (kept k) capsule out z .2)
+    open-given e =
+        let c = open-clear unpublished (kept k) capsule out z in
+        given-found 13 (k .n) out (λ e. omega arith) (c .2) _ (found-opening k capsule (c .0) (c .1) e) (row-opening k capsule (c .0) (c .1)) number-opening

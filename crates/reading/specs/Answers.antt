@@ -4,7 +4,7 @@ use mathlib.Core.List.{List, [], _∷_, _++_}
 use Prim.Native.Nat.{ℕ, zero, suc}
 use lib.Dec.{eqb, ltb}
 use lib.ListN.{length}
-use Rattle.bits.specs.Bits.{bytesFor, unpack, ones, fillerClear}
+use Rattle.bits.specs.Bits.{bytesFor, unpack, ones, fillerClear, rowWritten}
 use Rattle.field.specs.declared.Verdict.{Verdict}
 use Rattle.field.specs.declared.Verdict.the-variants as verdicts
 use Rattle.key.specs.Keys.{Key, unsound}
@@ -56,3 +56,12 @@ answerBy (verdicts.Refused x) a = variants.Refused x
 -- by the verdict, the ones of a pattern that is found, or the refusal with the number x
 unfoldable pub countedOf : ℕ → Found → Answer
 countedOf x e = answerBy (e .verdict) (cond (e .found) (variants.Ones (e .ones)) (variants.Refused x))
+
+-- what is written where the verdict accepts, else the output as it is
+unfoldable pub writtenBy : Verdict → List ℕ → List ℕ → List ℕ
+writtenBy verdicts.Accepted written out = written
+writtenBy (verdicts.Refused x) written out = out
+
+-- the pattern's n bits as a row from the output's start, where one is found
+unfoldable pub givenOf : ℕ → Found → List ℕ → List ℕ
+givenOf n e out = writtenBy (e .verdict) (cond (e .found) (rowWritten (e .pattern) 0 n out) out) out

@@ -8,14 +8,14 @@ use key::kept::Key;
 ghost use mathlib.Core.Path.{_≡_};
 ghost use mathlib.Core.Bool.{not};
 ghost use Prim.Native.Nat.{_*_};
-ghost use Rattle.bits.specs.Bits.{bytesFor, unpack, rowWritten};
+ghost use Rattle.bits.specs.Bits.{bytesFor, unpack};
 ghost use Rattle.field.specs.Numbers.{firstOf};
 ghost use Rattle.field.specs.Verdicts.{verdictOf};
 ghost use Rattle.key.specs.Kept.{kept, parts};
 ghost use Rattle.decoder.specs.Reading.{exactly};
 ghost use Rattle.decoder.specs.Calls.{openOutput, readOutput};
 ghost use Rattle.decoding.specs.Parts.{decodedNumber, decoded, foundOf};
-ghost use Rattle.reading.specs.Answers.{keyChecks, rowChecks, bufferChecks, openChecks, readChecks, countedOf, openOf, readOf};
+ghost use Rattle.reading.specs.Answers.{keyChecks, rowChecks, bufferChecks, openChecks, readChecks, countedOf, givenOf, openOf, readOf};
 
 // The number of ones of the pattern that is written, or the number of a refusal.
 pub enum Answer {
@@ -65,7 +65,7 @@ fn check_buffers(k: usize, n: usize, row: &[u8], len: usize) -> Verdict
 }
 
 // Whether a word can be read: 25, 8, 9 or 10 on refusal.
-fn check_word<'a>(
+pub fn check_word<'a>(
     m: u8,
     n: u16,
     t: u16,
@@ -124,9 +124,11 @@ fn check_capsule<'a>(
     check_buffers(capsule_bits(m, t), n as usize, capsule, len)
 }
 
-// The number of ones of the pattern found, or the refusal with a number where there is none; a refusal's own number first.
-fn counted(e: Found, number: u8) -> Answer
-    ensures { λ r. ⌜ r ≡ countedOf number e ⌝ }
+// The number of ones of the pattern found, whose n bits are written from the output's start; or the refusal with a number where
+// there is none, a refusal's own number first, and nothing is written.
+pub fn given(e: Found, number: u8, n: u16, out: &mut [u8]) -> Answer
+    ensures answer { λ r. ⌜ r ≡ countedOf number e ⌝ }
+    ensures output { λ _. ⌜ now (out .exit) ≡ givenOf n e (now (out .entry)) ⌝ }
 {
     let x = e.verdict;
     let Verdict::Accepted = x else {
@@ -135,15 +137,9 @@ fn counted(e: Found, number: u8) -> Answer
     if !e.found {
         return Answer::Refused(number);
     }
-    Answer::Ones(e.ones)
-}
-
-// The pattern's n bits from the output's start; nothing where it has no room.
-fn give(out: &mut [u8], e: Found, n: u16)
-    ensures { λ _. ⌜ now (out .exit) ≡ rowWritten (e .pattern) 0 n (now (out .entry)) ⌝ }
-{
     let p = e.pattern;
     packed::write_row(out, &p, 0, n as u32);
+    Answer::Ones(e.ones)
 }
 
 // Reading a word: its pattern is written from the output's start, and nothing on refusal, with 25, 8, 9, 10 or 14.
@@ -164,12 +160,7 @@ pub fn read<'a>(
         return Answer::Refused(field::number(x));
     };
     let e = decode(m, n, t, support, g, word);
-    let answer = counted(e, 14);
-    let Answer::Ones(w) = answer else {
-        return answer;
-    };
-    give(out, e, n);
-    Answer::Ones(w)
+    given(e, 14, n, out)
 }
 
 // The pattern found in a capsule, the word whose other bits are 0, where it has exactly t ones, or the refusal of `decode`: at a
@@ -214,10 +205,5 @@ pub fn open<'a>(
         return Answer::Refused(field::number(x));
     };
     let e = open_checked(m, n, t, support, g, capsule);
-    let answer = counted(e, 13);
-    let Answer::Ones(ones) = answer else {
-        return answer;
-    };
-    give(out, e, n);
-    Answer::Ones(ones)
+    given(e, 13, n, out)
 }

@@ -2,9 +2,8 @@
 use mathlib.Core.Path.{_∙_}
 use borrow.Author.Needs.{needs}
 use Rattle.field.proofs.Verdicts.{verdict-accepted, verdict-taken}
-use Rattle.key.specs.Kept.{kept, parts}
-use Rattle.reading.proofs.Refusals.{read-clear}
-use Rattle.reading.proofs.Answered.{counted-none, counted-some, found-reading, row-reading, read-refusal, read-none, read-some}
+use Rattle.key.specs.Kept.{parts}
+use Rattle.reading.proofs.Answered.{read-refusal, read-given}
 use Rattle.reading.proofs.calls.read.Statement.{statement}
 use Rattle.reading.proofs.calls.read.Tie as tie
 
@@ -30,47 +29,22 @@ returns c =
 decode-requires : tie.Need-decode-requires
 decode-requires c κs = tt
 
-counted-requires : tie.Need-counted-requires
-counted-requires c κs = tt
-
-enum-known-answer : tie.Need-enum-known-answer
-enum-known-answer c = search needs
-
-enum-told-3 : tie.Need-enum-told-3
-enum-told-3 c = search needs
-
-returns-2 : tie.Need-returns-2
-returns-2 c =
-    let n = c .before .before in
-    let d = n .before in
-    let t = d .before in
-    let a = t .before .before .before .before .before .args in
-    let k = parts (a .m) (a .n) (a .t) (a .support .now) (a .g .now) in
-    let clear = verdict-accepted _ (t .before .before .check-word .ensures) (t .enum-told .given .1) in
-    let z = read-clear (kept k) (a .word .now) (a .out .now) clear .0 in
-    let e = counted-none 14 _ (found-reading k (a .word .now) z (d .decode .ensures)) (n .counted .ensures) (c .enum-told3 .given .1) in
-    let r = read-none k (a .word .now) (a .out .now) clear (e .0) in
-    (e .1 ∙ r .0, r .1)
-
-give-requires : tie.Need-give-requires
-give-requires c κs = tt
+given-requires : tie.Need-given-requires
+given-requires c κs = tt
 
 same-length : tie.Need-same-length
 same-length c = search needs
 
-returns-3 : tie.Need-returns-3
-returns-3 c =
-    let v = c .before .before .before .before .before in
-    let n = v .before .before in
-    let d = n .before in
+returns-2 : tie.Need-returns-2
+returns-2 c =
+    let g = c .before .before in
+    let d = g .before .before in
     let t = d .before in
     let a = t .before .before .before .before .before .args in
     let k = parts (a .m) (a .n) (a .t) (a .support .now) (a .g .now) in
     let clear = verdict-accepted _ (t .before .before .check-word .ensures) (t .enum-told .given .1) in
-    let z = read-clear (kept k) (a .word .now) (a .out .now) clear .0 in
-    let e = counted-some 14 _ (found-reading k (a .word .now) z (d .decode .ensures)) (n .counted .ensures) (row-reading k (a .word .now)) (v .answer .given .1) in
-    let s = read-some k (a .word .now) (a .out .now) clear e in
-    (s .0, c .before .before .give .ensures ∙ s .1)
+    let r = read-given k (a .word .now) (a .out .now) clear (d .decode .ensures) in
+    (g .given .ensures .0 ∙ r .0, g .given .ensures .1 ∙ r .1)
 
 pub read-spec : {M : Type 1} → statement M
 read-spec =
@@ -82,10 +56,6 @@ read-spec =
     number-requires
     returns
     decode-requires
-    counted-requires
-    enum-known-answer
-    enum-told-3
-    returns-2
-    give-requires
+    given-requires
     same-length
-    returns-3)
+    returns-2)
