@@ -1,4 +1,4 @@
--- The powers of the points, and a sum by its own weights. Assumes nothing.
+-- The powers of the points, a sum by its own weights, and the number of what read answers. Assumes nothing.
 use mathlib.Core.Path.{_≡_, refl, sym, ap, ap₂, _∙_, fun-ext}
 use mathlib.Core.Bool.{Bool, true, false, cond}
 use mathlib.Core.List.{List, [], _∷_, map}
@@ -45,6 +45,7 @@ unfolding eachWith
 each-both f h j [] = refl
 each-both f h j (a ∷ s) = ap (_∷_ (f (h a) (j a))) (each-both f h j s)
 
+-- 1 has an inverse
 every-one : (m : ℕ) → isUnit m 1 ≡ true → (s : List ℕ) → every (isUnit m) (map (λ a. 1) s) ≡ true
 unfolding every
 every-one m u [] = refl
@@ -139,7 +140,7 @@ module _ (m : ℕ) (w : Width m) (g s : List ℕ) where
           ∙ units-number m (map (λ a. 1) s) w (every-one m (element-unit m 1 (one-lt m w) (λ z. omega arith)) s)
       go (x ∷ g) e = absurd (omega arith)
 
-  -- and where there is a sum it says so
+  -- behind the last sum none is 0: the first has said so, or there is none and g is 1
   pub values-units : (k : ℕ) → 2 * length g ≤ k → (0 < k → inverseNumber m values ≡ 0) → inverseNumber m values ≡ 0
   values-units zero n h = values-one (omega arith)
   values-units (suc k) n h = h (zero-lt-suc k)

@@ -9,10 +9,10 @@ use native.Mathlib.Nat.{le-of-suc-le-suc}
 use native.Mathlib.Omega.{arith}
 use lib.Dec.{leb}
 use lib.ListN.{length, take}
+use lib.Seq.{length-take-le}
 use lib.Pow.{pow-mono}
 use borrow.Author.Tests.{lt-leb, le-leb, leb-true, leb-false}
 use Rattle.bits.specs.Bits.{Row, every, unpack, ones, weight, padded}
-use lib.Seq.{length-take-le}
 use Rattle.bits.proofs.Lists.{and-left, and-right}
 use Rattle.bits.proofs.Pack.{row-unpack}
 use Rattle.field.specs.Field.{isWidth, isElement}
@@ -64,11 +64,11 @@ found-refused (suc q) o e h = ap nothingOf (e ∙ sym (refuses refl))
 
 -- the places that the register of the sums w gives
 module _ (m : ℕ) (support : List ℕ) (t : ℕ) (w : Sums) where
-  abbrev s : List ℕ
-  s = take (2 * t) (w .s)
+  abbrev first-sums : List ℕ
+  first-sums = take (2 * t) (w .s)
 
-  abbrev e : List ℕ
-  e = places (keyOf m support []) (register m s)
+  abbrev found-places : List ℕ
+  found-places = places (keyOf m support []) (register m first-sums)
 
   pub candidate-refused : {x : ℕ} → w .verdict ≡ variants.Refused x → nothingOf (w .verdict) ≡ candidateOf m support t w
   unfolding candidateOf foundBy
@@ -80,23 +80,23 @@ module _ (m : ℕ) (support : List ℕ) (t : ℕ) (w : Sums) where
     candidate-outside h = rw (ea, h)
 
     module _ (inside : (isWidth m && leb (length support) 8192 && leb t 128) ≡ true) where
-      pub candidate-no-element : every (isElement m) s ≡ false → nothingOf variants.Accepted ≡ candidateOf m support t w
+      pub candidate-no-element : every (isElement m) first-sums ≡ false → nothingOf variants.Accepted ≡ candidateOf m support t w
       unfolding candidateOf foundBy foundOf
       candidate-no-element h = rw (ea, inside, h)
 
       -- as the code holds them
-      module _ (all : every (isElement m) s ≡ true) {pattern : List ℕ} {i : ℕ} (ep : pattern ≡ packed e) (ei : i ≡ weight (length support) pattern) where
-        number-ones : i ≡ ones e
+      module _ (all : every (isElement m) first-sums ≡ true) {pattern : List ℕ} {i : ℕ} (ep : pattern ≡ packed found-places) (ei : i ≡ weight (length support) pattern) where
+        number-ones : i ≡ ones found-places
         unfolding keyOf
-        number-ones = ei ∙ ap (weight (length support)) ep ∙ weight-packed (row-places (keyOf m support []) refl (register m s))
+        number-ones = ei ∙ ap (weight (length support)) ep ∙ weight-packed (row-places (keyOf m support []) refl (register m first-sums))
 
         pub candidate-many : t < i → nothingOf variants.Accepted ≡ candidateOf m support t w
         unfolding candidateOf foundBy foundOf
-        candidate-many h = rw (ea, inside, all, lt-leb (ones e) t (rw (sym number-ones) h))
+        candidate-many h = rw (ea, inside, all, lt-leb (ones found-places) t (rw (sym number-ones) h))
 
         pub candidate-few : i ≤ t → _≡_ {A = Found} record { verdict = variants.Accepted; found = true; ones = i; pattern = pattern } (candidateOf m support t w)
         unfolding candidateOf foundBy foundOf
-        candidate-few h = rw (ea, inside, all, le-leb (ones e) t (rw (sym number-ones) h), number-ones, ep)
+        candidate-few h = rw (ea, inside, all, le-leb (ones found-places) t (rw (sym number-ones) h), number-ones, ep)
 
 -- what is found, by its own sums
 module _ (f : Found) (w own : Sums) where

@@ -124,8 +124,8 @@ fn check_capsule<'a>(
     check_buffers(capsule_bits(m, t), n as usize, capsule, len)
 }
 
-// The number of ones of the pattern found, whose n bits are written from the output's start; or the refusal with a number where
-// there is none, a refusal's own number first, and nothing is written.
+// The number of ones of the pattern found, whose n bits are written from the output's start where it has room; or a refusal and
+// nothing written: the verdict's, or with the number where there is no pattern.
 pub fn given(e: Found, number: u8, n: u16, out: &mut [u8]) -> Answer
     ensures answer { λ r. ⌜ r ≡ countedOf number e ⌝ }
     ensures output { λ _. ⌜ now (out .exit) ≡ givenOf n e (now (out .entry)) ⌝ }
