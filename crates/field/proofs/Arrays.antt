@@ -61,6 +61,12 @@ elements-shifted m f zero b k = map-elements m (mul m f) (mul-lt m f) b k
 elements-shifted m f (suc y) b zero = pow-pos m
 elements-shifted m f (suc y) b (suc k) = elements-shifted m f y b k
 
+-- a multiple at each place
+pub multiple-at : (m c : ℕ) (xs : List ℕ) (k : ℕ) → getD (map (mul m c) xs) k 0 ≡ mul m c (getD xs k 0)
+multiple-at m c [] k = sym (mul-zero m c)
+multiple-at m c (x ∷ xs) zero = refl
+multiple-at m c (x ∷ xs) (suc k) = multiple-at m c xs k
+
 -- Horner's rule from the lowest coefficient
 pub value-nil : (m a : ℕ) → value m [] a ≡ 0
 unfolding value
@@ -169,12 +175,7 @@ module _ (m : ℕ) (W : Width m) where
   poly-xor xs ys l = fun-ext λ k. ap (val m) (getD-xorRow xs ys k l) ∙ val-xor m _ _
 
   pub poly-scale : (c : ℕ) (xs : List ℕ) → poly m (map (mul m c) xs) ≡ C (val m c) ⊠ poly m xs
-  poly-scale c xs = fun-ext λ k. ap (val m) (at xs k) ∙ val-mul m c _ ∙ sym (C-at (laws m W) (val m c) (poly m xs) k)
-    where
-      at : (xs : List ℕ) (k : ℕ) → getD (map (mul m c) xs) k 0 ≡ mul m c (getD xs k 0)
-      at [] k = sym (mul-zero m c)
-      at (x ∷ xs) zero = refl
-      at (x ∷ xs) (suc k) = at xs k
+  poly-scale c xs = fun-ext λ k. ap (val m) (multiple-at m c xs k) ∙ val-mul m c _ ∙ sym (C-at (laws m W) (val m c) (poly m xs) k)
 
   pub poly-shift : (y : ℕ) (xs : List ℕ) → poly m (replicate y 0 ++ xs) ≡ shift (laws m W) y (poly m xs)
   unfolding shift

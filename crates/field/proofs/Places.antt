@@ -8,7 +8,8 @@ use native.Mathlib.Nat.{le-refl, le-of-suc-le-suc, not-suc-le-zero}
 use lib.ListN.{length, getD, take, replicate, length-map, length-replicate}
 use Rattle.bits.specs.Xor.{_⊕_}
 use Rattle.bits.specs.Bits.{eachWith}
-use Rattle.bits.proofs.Each.{length-eachWith, eachWith-at, eachWith-take}
+use Rattle.bits.proofs.Each.{length-eachWith, eachWith-nil, eachWith-at, eachWith-take}
+use Rattle.bits.proofs.Lists.{cons-eq}
 use Rattle.bits.proofs.Xor.{xor-zero}
 use Rattle.field.specs.Field.{isWidth, mul}
 use Rattle.field.specs.Poly.{hornerEach, ofEach}
@@ -43,8 +44,19 @@ module _ (h : ℕ → ℕ) where
   take-each zero (a ∷ s) l = absurd (not-suc-le-zero l)
   take-each (suc n) (a ∷ s) l = ap (_∷_ (h a)) (take-each n s (le-of-suc-le-suc l))
 
+-- places of the second list, from i on, that change nothing
+pub each-rest : (f : ℕ → ℕ → ℕ) (d s : List ℕ) (i : ℕ) → ((j : ℕ) → i ≤ j → f (getD d j 0) (getD s j 0) ≡ getD d j 0)
+    → eachWith f d (take i s) ≡ eachWith f d s
+unfolding eachWith
+each-rest f [] s i h = refl
+each-rest f (x ∷ d) [] zero h = refl
+each-rest f (x ∷ d) [] (suc i) h = refl
+each-rest f (x ∷ d) (y ∷ s) zero h =
+    cons-eq (sym (h 0 (le-refl 0))) (sym (eachWith-nil f d) ∙ each-rest f d s zero (λ j l. h (suc j) (omega arith)))
+each-rest f (x ∷ d) (y ∷ s) (suc i) h = ap (_∷_ (f x y)) (each-rest f d s i (λ j l. h (suc j) (omega arith)))
+
 -- squares, and products with a list that goes on
-each-self : (f : ℕ → ℕ → ℕ) (s : List ℕ) → eachWith f s s ≡ map (λ a. f a a) s
+pub each-self : (f : ℕ → ℕ → ℕ) (s : List ℕ) → eachWith f s s ≡ map (λ a. f a a) s
 unfolding eachWith
 each-self f [] = refl
 each-self f (a ∷ s) = ap (_∷_ (f a a)) (each-self f s)

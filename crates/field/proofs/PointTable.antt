@@ -88,8 +88,24 @@ module _ (m : ℕ) (w : Width m) (x : ℕ) where
       ∙ ap (mul m x) (ap (λ (n : ℕ). 2 ^ n % 2 ^ m) e ∙ ap (λ (n : ℕ). n % 2 ^ m) (pow-add 2 (j - m) m) ∙ mul-mod-left (2 ^ (j - m)) (2 ^ m))
       ∙ mul-zero m x
 
-  mul-first : mul m x (2 ^ 0) ≡ x % 2 ^ m
+  pub mul-first : mul m x (2 ^ 0) ≡ x % 2 ^ m
   mul-first = mul-comm m x 1 ∙ one-mul-low m w x
+
+  -- the next multiple
+  pub doubled-mul : (f j v : ℕ) → f ≡ modulusOf m → suc j < m → v ≡ mul m x (2 ^ j) → doubled m f v ≡ mul m x (2 ^ suc j)
+  doubled-mul f j v e h k =
+      ap₂ (doubled m) e k ∙ doubled-xtime m (modulusOf m) (mul m x (2 ^ j)) (width-narrow m w) (mul-lt m x (2 ^ j)) ∙ mul-double j h
+
+  -- a product as the sum of 13 multiples
+  pub digitSum-mul : (v : ℕ → ℕ) → ((j : ℕ) → j < 13 → v j ≡ mul m x (2 ^ j)) → (r : ℕ) → digitSum 13 v r ≡ mul m x r
+  digitSum-mul v at r =
+      let n : m < 14 = width-narrow m w in
+      let e : 13 ≡ 13 - m + m = omega arith in
+      digitSum-same 13 v (λ j. mul m x (2 ^ j)) r at
+      ∙ digitSum-additive (mul m x) (mul-add m x) 13 r
+      ∙ sym (low-mul m x (r % 2 ^ 13))
+      ∙ ap (mul m x) (ap (λ (k : ℕ). r % 2 ^ k % 2 ^ m) e ∙ mod-mod-pow r (13 - m) m)
+      ∙ low-mul m x r
 
 module _ (m : ℕ) (a : List ℕ) where
   pub length-multiples : length (multiplesOf m a) ≡ 832
@@ -184,10 +200,7 @@ module _ (m : ℕ) (a : List ℕ) where
         let n : m < 14 = width-narrow m w in
         let j : suc (q / 64 - 1) ≡ q / 64 = omega arith in
         let x : ℕ = getD a (q % 64) 0 in
-        ap (set (made q) q)
-        (ap₂ (doubled m) e (rows-at q h (omega arith))
-        ∙ doubled-xtime m (modulusOf m) (mul m x (2 ^ (q / 64 - 1))) n (mul-lt m x (2 ^ (q / 64 - 1)))
-        ∙ mul-double m w x (q / 64 - 1) (omega arith) ∙ ap (λ (j : ℕ). mul m x (2 ^ j)) j)
+        ap (set (made q) q) (doubled-mul m w x f (q / 64 - 1) _ e (omega arith) (rows-at q h (omega arith)) ∙ ap (λ (j : ℕ). mul m x (2 ^ j)) j)
         ∙ made-next q (omega arith)
 
     pub rows-all : (q : ℕ) → 64 * m ≤ q → q ≤ 832 → made q ≡ multiplesOf m a
@@ -224,15 +237,7 @@ combination-digits t i r = refl
 module _ (m : ℕ) (w : Width m) (a : List ℕ) where
   pub combination-mul : (i : ℕ) → i < 64 → (r : ℕ) → combination (multiplesOf m a) i r ≡ mul m (getD a i 0) r
   unfolding combination
-  combination-mul i h r =
-      let n : m < 14 = width-narrow m w in
-      let e : 13 ≡ 13 - m + m = omega arith in
-      let x : ℕ = getD a i 0 in
-      digitSum-same 13 _ (λ j. mul m x (2 ^ j)) r (λ j l. at j l)
-      ∙ digitSum-additive (mul m x) (mul-add m x) 13 r
-      ∙ sym (low-mul m x (r % 2 ^ 13))
-      ∙ ap (mul m x) (ap (λ (k : ℕ). r % 2 ^ k % 2 ^ m) e ∙ mod-mod-pow r (13 - m) m)
-      ∙ low-mul m x r
+  combination-mul i h r = digitSum-mul m w (getD a i 0) _ at r
     where
       at : (j : ℕ) → j < 13 → getD (multiplesOf m a) (64 * j + i) 0 ≡ mul m (getD a i 0) (2 ^ j)
       at j l =

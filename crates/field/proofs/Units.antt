@@ -1,5 +1,5 @@
 -- The numbers that have an inverse, and what the inverses answer. Assumes nothing.
-use mathlib.Core.Path.{_≡_, refl, sym, ap, _∙_}
+use mathlib.Core.Path.{_≡_, refl, sym, ap, ap₂, _∙_}
 use mathlib.Core.Logic.{_⊎_, inl, inr}
 use mathlib.Core.Bool.{Bool, true, false, not, cond, _&&_}
 use mathlib.Core.List.{List, [], _∷_, _++_, map}
@@ -19,7 +19,7 @@ use Rattle.field.specs.declared.Answer.the-variants.{Value, Refused}
 use Rattle.field.specs.declared.Verdict.{Verdict}
 use Rattle.field.specs.declared.Verdict.the-variants as verdicts
 use Rattle.field.proofs.Table.{Width}
-use Rattle.field.proofs.Laws.{mul-low, zero-mul, mul-inv, mul-inv-low, inv-lt, inv-unique}
+use Rattle.field.proofs.Laws.{mul-comm, mul-assoc, mul-left-comm, mul-low, zero-mul, one-lt, one-mul, mul-inv, mul-inv-low, inv-lt, inv-unique}
 use Rattle.field.proofs.Verdicts.{verdict-refused}
 
 module _ (m a : ℕ) where
@@ -49,6 +49,27 @@ no-unit-no-inverse m a b e h =
     let z : a % 2 ^ m ≡ 0 = eqb-true (a % 2 ^ m) 0 (not-false _ e) in
     let o : mul m a b ≡ 0 = sym (mul-low m a b) ∙ ap (λ (x : ℕ). mul m x b) z ∙ zero-mul m b in
     omega arith
+
+pub inverse-unit : (m a b : ℕ) → mul m a b ≡ 1 → isUnit m a ≡ true
+inverse-unit m a b h = go (isUnit m a) refl
+  where
+    go : (u : Bool) → isUnit m a ≡ u → u ≡ true
+    go true e = refl
+    go false e = absurd (no-unit-no-inverse m a b e h)
+
+-- a product of units is one, and a unit is divided out
+module _ (m : ℕ) (w : Width m) where
+  pub unit-mul : (a b : ℕ) → isUnit m a ≡ true → isUnit m b ≡ true → isUnit m (mul m a b) ≡ true
+  unit-mul a b u v =
+      inverse-unit m (mul m a b) (mul m (inv m a) (inv m b))
+      (four a b (inv m a) (inv m b) ∙ ap₂ (mul m) (unit-inverse m w a u) (unit-inverse m w b v) ∙ one-mul m w (one-lt m w))
+    where
+      four : (a b x y : ℕ) → mul m (mul m a b) (mul m x y) ≡ mul m (mul m a x) (mul m b y)
+      four a b x y = simp (mul-assoc m, mul-left-comm m)
+
+  pub unit-divided : (a : ℕ) → isUnit m a ≡ true → {x : ℕ} → x < 2 ^ m → mul m (inv m a) (mul m a x) ≡ x
+  unit-divided a u {x} h =
+      sym (mul-assoc m (inv m a) a x) ∙ ap (λ (y : ℕ). mul m y x) (mul-comm m (inv m a) a ∙ unit-inverse m w a u) ∙ one-mul m w h
 
 -- the number of the refusal
 module _ (m : ℕ) (xs : List ℕ) where

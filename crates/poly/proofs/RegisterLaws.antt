@@ -1,7 +1,8 @@
 -- The register of a list of elements is Figure 1's of `algebra` on the list's series: it is shortest, and unique where
 -- twice its length is at most the list's. Assumes nothing.
-use mathlib.Core.Path.{_≡_, refl, sym, ap, ap₂, _∙_, fun-ext}
+use mathlib.Core.Path.{_≡_, refl, sym, ap, ap₂, _∙_, fun-ext, subst}
 use mathlib.Core.Logic.{_≢_}
+use mathlib.Core.Bool.{true}
 use mathlib.Core.List.{List, _∷_, _++_, map}
 use Prim.Native.Nat.{ℕ, zero, suc, _+_, _-_, _^_, _≤_, _<_}
 use native.Mathlib.Nat.{add-zero as nat-add-zero, zero-add as nat-zero-add}
@@ -20,8 +21,9 @@ use Rattle.algebra.proofs.Sum.{sum-zero, sum-head, sum-cong}
 use Rattle.algebra.proofs.Sum as Sum
 use Rattle.algebra.proofs.Register.{Generates, Shortest, unique}
 use Rattle.algebra.proofs.Figure1 as Figure1
-use Rattle.algebra.proofs.Figure1.{State, Inv, mend, mend-below, discrepancy-from-one, step, step-skip, step-fix, step-grow, run, run-zero, run-suc, run-inv, fits}
+use Rattle.algebra.proofs.Figure1.{State, Inv, mend, mend-below, discrepancy-from-one, step, step-skip, step-fix, step-grow, run, run-zero, run-suc, run-inv, fits, y-fits, B-past}
 use Rattle.field.specs.Field.{mul, inv}
+use Rattle.field.specs.Answers.{isUnit}
 use Rattle.field.proofs.Table.{Width}
 use Rattle.field.proofs.Laws.{one-lt}
 use Rattle.field.proofs.Gf.{Elem, val, val-inj, val-zero, val-one, val-xor, val-mul, val-inv, plus, times, inverse, zero-elem, one-elem, laws, gf}
@@ -29,8 +31,8 @@ use Rattle.field.proofs.Arrays.{Elements, elements-xor, elements-shifted, poly,
 use Rattle.bits.proofs.Bits.{zeros-at}
 use Rattle.poly.specs.Polynomials.{sum}
 use Rattle.poly.specs.Register.{Register, longest, start, discrepancy, corrected, turn, turns, register}
-use Rattle.poly.proofs.Steps.{term, sum-nil, sum-cons, turn-cases}
-use Rattle.poly.proofs.Units.{discrepancy-element}
+use Rattle.poly.proofs.Steps.{term, sum-nil, sum-cons, turn-cases, after, after-none, after-next, after-all}
+use Rattle.poly.proofs.Units.{discrepancy-element, start-unit, turn-unit}
 
 -- lists of elements
 module _ (m : ℕ) where
@@ -185,19 +187,46 @@ module _ (m : ℕ) (W : Width m) where
         let z : n + 1 + k ≡ n + suc k = omega arith in
         let g = image-turns k (n + 1) t (omega arith) (formed-turn m _ n r f) q in (g .0 ∙ ap (run (gf m W) (poly m s)) z, g .1)
 
+    -- after the first n turns
+    pub after-unit : (n : ℕ) → isUnit m (after m s n .d) ≡ true
+    after-unit zero = start-unit m W (after m s 0) (after-none m s)
+    after-unit (suc n) =
+        turn-unit m (discrepancy m s (after m s n) n) n (after m s n) (after m s (suc n)) (ap (after m s) (sym (add-one n)) ∙ after-next m s n)
+        (discrepancy-element m s (after m s n) n e) (after-unit n)
+
+    module _ (n : ℕ) (h : n ≤ 256) where
+      both : (image (after m s n) ≡ run (gf m W) (poly m s) n) × Formed m (after m s n)
+      unfolding after
+      both =
+          let g = image-turns n 0 start (omega arith) (formed-start m (one-lt m W)) (image-start ∙ sym (run-zero (gf m W) (poly m s))) in
+          (g .0 ∙ ap (run (gf m W) (poly m s)) (nat-zero-add n), g .1)
+
+      after-invariant : Inv (gf m W) (poly m s) n (image (after m s n))
+      after-invariant = rw (both .0) (run-inv (gf m W) (poly m s) n)
+
+      pub after-fits : (after m s n .l ≤ n) × (after m s n .l + after m s n .y ≤ n + 1)
+      after-fits = let y = y-fits (gf m W) after-invariant in (fits (gf m W) after-invariant, omega arith)
+
+      pub after-lead : getD (after m s n .c) 0 0 ≡ 1
+      after-lead = val-inj m (both .1 .elements-c 0) (one-lt m W) (after-invariant .shortest .gen .lead ∙ sym (val-one m W))
+
+      -- C(x) has no coefficient past l, and x^y·B(x) none past n + 1 - l
+      pub after-past : (k : ℕ) → after m s n .l < k → getD (after m s n .c) k 0 ≡ 0
+      after-past k l = val-inj m (both .1 .elements-c k) (pow-pos m) (after-invariant .shortest .gen .kills .short k l ∙ sym (val-zero m))
+
+      pub after-earlier-past : (k : ℕ) → n + 1 - after m s n .l - after m s n .y < k → getD (after m s n .b) k 0 ≡ 0
+      after-earlier-past k l = val-inj m (both .1 .elements-b k) (pow-pos m) (B-past (gf m W) after-invariant k (omega arith) ∙ sym (val-zero m))
+
+      pub after-elements : Elements m (after m s n .c)
+      after-elements = both .1 .elements-c
+
     -- the laws of the register of s
     module _ (short : length s ≤ 256) where
-      both : (image (register m s) ≡ run (gf m W) (poly m s) (length s)) × Formed m (register m s)
-      unfolding register
-      both =
-          let g = image-turns (length s) 0 start (omega arith) (formed-start m (one-lt m W)) (image-start ∙ sym (run-zero (gf m W) (poly m s))) in
-          (g .0 ∙ ap (run (gf m W) (poly m s)) (nat-zero-add (length s)), g .1)
-
       pub register-run : image (register m s) ≡ run (gf m W) (poly m s) (length s)
-      register-run = both .0
+      register-run = ap image (sym (after-all m s)) ∙ both (length s) short .0
 
       pub register-formed : Formed m (register m s)
-      register-formed = both .1
+      register-formed = subst (Formed m) (after-all m s) (both (length s) short .1)
 
       pub register-invariant : Inv (gf m W) (poly m s) (length s) (image (register m s))
       register-invariant = rw register-run (run-inv (gf m W) (poly m s) (length s))

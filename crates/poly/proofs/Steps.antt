@@ -2,7 +2,7 @@
 use mathlib.Core.Path.{_≡_, refl, sym, ap, ap₂, _∙_}
 use mathlib.Core.List.{List, [], _∷_, _++_, map}
 use Prim.Native.Nat.{ℕ, zero, suc, _+_, _-_, _*_, _≤_, _<_}
-use native.Mathlib.Nat.{sub-zero}
+use native.Mathlib.Nat.{add-zero, zero-add, sub-zero}
 use native.Mathlib.Omega.{arith}
 use native.Mathlib.Decide.{decLt}
 use native.Mathlib.Numerals.{add-one}
@@ -152,6 +152,35 @@ module _ (m d n : ℕ) (r : Register) where
 pub start-small : (r : Register) → r ≡ start → (r .l ≤ 0) × (r .y ≤ 1)
 unfolding start
 start-small r e = rw e (omega arith, omega arith)
+
+-- the last of k + 1 turns
+turns-last : (m : ℕ) (s : List ℕ) (k n : ℕ) (r : Register)
+    → turns m s (suc k) n r ≡ turn m (discrepancy m s (turns m s k n r) (n + k)) (n + k) (turns m s k n r)
+unfolding turns
+turns-last m s zero n r = ap (λ (j : ℕ). turn m (discrepancy m s r j) j r) (sym (add-zero n))
+turns-last m s (suc k) n r =
+    let e : n + 1 + k ≡ n + suc k = omega arith in
+    let t : Register = turns m s (suc k) n r in
+    turns-last m s k (n + 1) (turn m (discrepancy m s r n) n r) ∙ ap (λ (j : ℕ). turn m (discrepancy m s t j) j t) e
+
+-- after the first n turns
+module _ (m : ℕ) (s : List ℕ) where
+  unfoldable pub after : ℕ → Register
+  after n = turns m s n 0 start
+
+  pub after-none : after 0 ≡ start
+  unfolding after turns
+  after-none = refl
+
+  pub after-next : (n : ℕ) → after (n + 1) ≡ turn m (discrepancy m s (after n) n) n (after n)
+  unfolding after
+  after-next n =
+      let t : Register = after n in
+      ap after (add-one n) ∙ turns-last m s n 0 start ∙ ap (λ (k : ℕ). turn m (discrepancy m s t k) k t) (zero-add n)
+
+  pub after-all : after (length s) ≡ register m s
+  unfolding after register
+  after-all = refl
 
 -- the turns that are left, from n on
 module _ (m : ℕ) (s : List ℕ) (n : ℕ) (r : Register) where

@@ -1,9 +1,9 @@
 -- What the call answers: a refusal, or the register. Assumes nothing.
-use mathlib.Core.Path.{_≡_, refl, sym, ap, _∙_}
+use mathlib.Core.Path.{_≡_, refl, sym, ap, ap₂, _∙_}
 use mathlib.Core.List.{List}
 use Prim.Native.Nat.{ℕ, zero, suc}
 use lib.ListN.{replicate}
-use Rattle.poly.specs.Register.{Register, longest, register, registerNumber}
+use Rattle.poly.specs.Register.{longest, register, registerNumber}
 use Rattle.register.specs.Registered.{registered, registeredOf}
 use Rattle.register.specs.declared.Registered.{Registered}
 
@@ -14,7 +14,8 @@ module _ (m : ℕ) (s : List ℕ) where
   refused zero e h = absurd (h refl)
   refused (suc n) e h = ap (λ (k : ℕ). registered k (register m s)) e
 
-  pub found : (r : Register) → registerNumber m s ≡ 0 → r ≡ register m s
-      → _≡_ {A = Registered} record { refused = 0; length = r .l; c = r .c } (registeredOf m s)
+  pub found : (l : ℕ) (c : List ℕ) → registerNumber m s ≡ 0 → l ≡ register m s .l → c ≡ register m s .c
+      → _≡_ {A = Registered} record { refused = 0; length = l; c = c } (registeredOf m s)
   unfolding registeredOf registered
-  found r e h = ap (registered 0) h ∙ ap (λ (k : ℕ). registered k (register m s)) (sym e)
+  found l c e h k =
+      ap₂ (λ (l : ℕ) (c : List ℕ). record { refused = 0; length = l; c = c }) h k ∙ ap (λ (k : ℕ). registered k (register m s)) (sym e)

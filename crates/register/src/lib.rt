@@ -4,24 +4,19 @@ use field::Verdict;
 ghost use mathlib.Core.Path.{_≡_};
 ghost use mathlib.Core.Bool.{true};
 ghost use mathlib.Core.List.{_++_, map};
-ghost use Prim.Native.Nat.{_+_, _≤_, _<_};
+ghost use Prim.Native.Nat.{_+_, _-_, _*_, _/_, _≤_, _<_, min};
 ghost use lib.ListN.{length, getD, replicate};
 ghost use Rattle.bits.specs.Xor.{_⊕_};
 ghost use Rattle.bits.specs.Bits.{from, every, xorRow};
-ghost use Rattle.field.specs.Field.{isWidth, isElement};
+ghost use Rattle.field.specs.Field.{isWidth, isElement, mul};
 ghost use Rattle.field.specs.Answers.{isUnit};
 ghost use Rattle.field.specs.Verdicts.{verdictOf};
+ghost use Rattle.field.specs.PointTable.{digitSum};
 ghost use Rattle.poly.specs.Polynomials.{sum};
-ghost use Rattle.poly.specs.Register.{
-  start as startOf,
-  discrepancy as discrepancyOf,
-  corrected as correctedOf,
-  turn as turnOf,
-  register as registerOf,
-  registerNumber,
-};
+ghost use Rattle.poly.specs.Register.{start as startOf, register as registerOf, registerNumber};
 ghost use Rattle.poly.specs.Parts.{Earlier};
 ghost use Rattle.register.specs.Registered.{figure, registeredOf};
+ghost use Rattle.register.specs.Across.{Past, Multiples, Fits, discrepancyAcross, correctedAcross, turnAcross, divided};
 
 // A register: its length and its connection polynomial's coefficients 0 to 256, with 0 past the length; or the number of
 // a refusal, with length 0 and coefficients 0.
@@ -32,7 +27,7 @@ pub struct Registered {
     pub c: [u16; Registered::COEFFICIENTS],
 }
 
-// Figure 1's C(x), l, B(x), d_m and y.
+// Figure 1's l and y, its C(x) multiplied by a unit, and its B(x) and d_m by another.
 struct State {
     c: [u16; Registered::COEFFICIENTS],
     l: usize,
@@ -61,7 +56,8 @@ impl Registered {
             };
         };
         let r = run(m, s);
-        let c = r.c;
+        let q = r.c;
+        let c = quotient(m, q, r.l);
         Registered {
             refused: 0,
             length: r.l,
@@ -86,15 +82,17 @@ fn check(m: u8, s: &[u16]) -> Verdict
     Verdict::Accepted
 }
 
-// Figure 1 over the whole list.
+// Figure 1 over the whole list, without quotients.
 fn run(m: u8, s: &[u16]) -> State
     requires { ⌜ (isWidth m ≡ true) × (length (now s) ≤ 256) × (every (isElement m) (now s) ≡ true) ⌝ }
-    ensures { λ r. ⌜ figure r ≡ registerOf m (now (s .entry)) ⌝ }
+    ensures { λ r. ⌜ (r .l ≡ registerOf m (now (s .entry)) .l) × (Past (r .l) (r .c)) × (isUnit m (getD (r .c) 0 0) ≡ true)
+        × (divided m (r .c) ≡ registerOf m (now (s .entry)) .c) ⌝ }
 {
     let mut r = start();
     let mut n = 0;
     while n < s.len() {
-        let d = discrepancy(m, s, r, n);
+        let c = r.c;
+        let d = discrepancy(m, s, c, r.l, n);
         r = turn(m, d, n, r);
         n += 1;
     }
@@ -116,17 +114,24 @@ fn start() -> State
     }
 }
 
-// Line 3: s_n + the sum of c_i·s_{n-i}, i from 1 to l, the products over all places at once.
-fn discrepancy(m: u8, s: &[u16], r: State, n: usize) -> u16
-    requires { ⌜ (isWidth m ≡ true) × (r .l ≤ n) × (n < length (now s)) × (n < 256) ⌝ }
-    ensures { λ d. ⌜ d ≡ discrepancyOf m (now (s .entry)) (figure r) n ⌝ }
+// The first l + 1 places, with others up to a multiple of 16, so that the loops over places vectorise.
+fn places(l: usize) -> usize
+    requires { ⌜ l ≤ 256 ⌝ }
+    ensures { λ e. ⌜ e ≡ min ((l / 16 + 1) * 16) 257 ⌝ }
 {
-    let l = r.l;
-    let e = l + 1;
-    let c = r.c;
+    bits::smaller((l / 16 + 1) * 16, Registered::COEFFICIENTS)
+}
+
+// Line 3 for any c_0: c_0·s_n + the sum of c_i·s_{n-i}, i from 1 to l, the products over all places at once.
+fn discrepancy(m: u8, s: &[u16], c: [u16; Registered::COEFFICIENTS], l: usize, n: usize) -> u16
+    requires { ⌜ (isWidth m ≡ true) × (l ≤ n) × (n < length (now s)) × (n < 256) ⌝ }
+    ensures { λ d. ⌜ d ≡ discrepancyAcross m (now (s .entry)) c l n ⌝ }
+{
+    let e = places(l);
     let mut p = earlier(s, n, l);
+    p[0] = s[n];
     field_places::horner_each(m, &mut p, &c[..e], 0);
-    total(s[n], p, l)
+    total(p[0], p, l)
 }
 
 // s_{n-i} at the places i from 1 to l.
@@ -159,8 +164,8 @@ fn total(x: u16, p: [u16; Registered::COEFFICIENTS], l: usize) -> u16
 
 // Lines 4 to 16.
 fn turn(m: u8, d: u16, n: usize, r: State) -> State
-    requires { ⌜ (isWidth m ≡ true) × (r .l ≤ n) × (r .y ≤ n + 1) × (n < 256) × (isUnit m (r .d) ≡ true) ⌝ }
-    ensures { λ t. ⌜ figure t ≡ turnOf m d n (figure r) ⌝ }
+    requires { ⌜ (isWidth m ≡ true) × (r .l + r .y ≤ n + 1) × (n < 256) × Past (r .l) (r .c) × Past (n + 1 - r .l - r .y) (r .b) ⌝ }
+    ensures { λ t. ⌜ figure t ≡ turnAcross m d n (figure r) ⌝ }
 {
     if d == 0 {
         let c = r.c;
@@ -173,7 +178,7 @@ fn turn(m: u8, d: u16, n: usize, r: State) -> State
             y: r.y + 1,
         };
     }
-    let c = corrected(m, r, d);
+    let c = corrected(m, r, d, n);
     if n < 2 * r.l {
         let b = r.b;
         return State {
@@ -194,38 +199,102 @@ fn turn(m: u8, d: u16, n: usize, r: State) -> State
     }
 }
 
-// Lines 7 and 11: C(x) - d·d_m^(-1)·x^y·B(x), the multiple of B(x) over all places at once.
-fn corrected(m: u8, r: State, d: u16) -> [u16; Registered::COEFFICIENTS]
-    requires { ⌜ (isWidth m ≡ true) × (r .y ≤ 256) × (isUnit m (r .d) ≡ true) ⌝ }
-    ensures { λ c. ⌜ c ≡ correctedOf m (figure r) d ⌝ }
+// Lines 7 and 11, multiplied by d_m: d_m·C(x) - d·x^y·B(x).
+fn corrected(m: u8, r: State, d: u16, n: usize) -> [u16; Registered::COEFFICIENTS]
+    requires { ⌜ (isWidth m ≡ true) × (r .l + r .y ≤ n + 1) × (n < 256) × Past (r .l) (r .c) × Past (n + 1 - r .l - r .y) (r .b) ⌝ }
+    ensures { λ c. ⌜ c ≡ correctedAcross m (figure r) d ⌝ }
 {
+    let k = n + 1 - r.l - r.y;
     let c = r.c;
-    let i = field::inverse(m, r.d);
-    // Not refused: d_m is a unit.
-    let Answer::Value(v) = i else {
-        return c;
-    };
-    let f = field::times(m, d, v);
-    let factor = [f; Registered::COEFFICIENTS];
-    let mut p = r.b;
-    field_places::horner_each(m, &mut p, &factor, 0);
-    added(c, p, r.y)
+    let b = r.b;
+    let q = scaled(m, r.d, c, r.l);
+    let p = scaled(m, d, b, k);
+    added(q, p, r.y, k)
 }
 
-// c + x^y·p, as far as c goes.
+// a·z^j for each j below 13; 0 where j is no digit of the field.
+fn multiples(m: u8, a: u16) -> [u16; 13]
+    requires { ⌜ isWidth m ≡ true ⌝ }
+    ensures { λ t. ⌜ Multiples m a t ⌝ }
+{
+    let f = field::modulus(m);
+    let n = m as usize;
+    let mask: u16 = (1 << m) - 1;
+    let mut t = [0u16; 13];
+    t[0] = a & mask;
+    let mut j = 1;
+    while j < n {
+        let d = t[j - 1] << 1;
+        t[j] = d ^ (d >> m & 1) * f;
+        j += 1;
+    }
+    t
+}
+
+// The sum of the multiples that x's 13 low digits select. The constant 13 lets the loop over places vectorise.
+fn combined(t: &[u16; 13], x: u16) -> u16
+    requires { ⌜ Fits (now t) ⌝ }
+    ensures { λ s. ⌜ s ≡ digitSum 13 (λ j. getD (now (t .entry)) j 0) x ⌝ }
+{
+    let mut s: u16 = 0;
+    let mut j = 0;
+    while j < 13 {
+        s ^= (x >> j & 1) * t[j];
+        j += 1;
+    }
+    s
+}
+
+// a·c, for c with 0 past the place l.
+fn scaled(
+    m: u8,
+    a: u16,
+    c: [u16; Registered::COEFFICIENTS],
+    l: usize,
+) -> [u16; Registered::COEFFICIENTS]
+    requires { ⌜ (isWidth m ≡ true) × (l ≤ 256) × Past l c ⌝ }
+    ensures { λ r. ⌜ r ≡ map (mul m a) c ⌝ }
+{
+    let t = multiples(m, a);
+    let e = places(l);
+    let mut r = c;
+    let mut i = 0;
+    while i < e {
+        r[i] = combined(&t, r[i]);
+        i += 1;
+    }
+    r
+}
+
+// c + x^y·p, as far as c goes, for p with 0 past the place k.
 fn added(
     c: [u16; Registered::COEFFICIENTS],
     p: [u16; Registered::COEFFICIENTS],
     y: usize,
+    k: usize,
 ) -> [u16; Registered::COEFFICIENTS]
-    requires { ⌜ y ≤ 256 ⌝ }
+    requires { ⌜ (y + k ≤ 256) × Past k p ⌝ }
     ensures { λ r. ⌜ r ≡ xorRow c (replicate y 0 ++ p) ⌝ }
 {
+    let e = y + k + 1;
     let mut r = c;
     let mut i = y;
-    while i < Registered::COEFFICIENTS {
+    while i < e {
         r[i] ^= p[i - y];
         i += 1;
     }
     r
+}
+
+// c / c_0.
+fn quotient(m: u8, c: [u16; Registered::COEFFICIENTS], l: usize) -> [u16; Registered::COEFFICIENTS]
+    requires { ⌜ (isWidth m ≡ true) × (l ≤ 256) × (Past l c) × (isUnit m (getD c 0 0) ≡ true) ⌝ }
+    ensures { λ r. ⌜ r ≡ divided m c ⌝ }
+{
+    let i = field::inverse(m, c[0]);
+    // Not refused: c_0 is a unit.
+    let Answer::Value(v) = i else {
+        return c;
+    };
+    scaled(m, v, c, l)
 }

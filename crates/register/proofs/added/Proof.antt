@@ -6,15 +6,22 @@ use native.Mathlib.Omega.{arith}
 use borrow.Author.Needs.{needs}
 use lib.ListN.{length, getD, set}
 use Rattle.bits.specs.Xor.{_⊕_}
-use Rattle.poly.proofs.Steps.{partly, partly-start, partly-step, partly-all}
+use Rattle.poly.proofs.Steps.{partly, partly-start, partly-step}
+use Rattle.register.proofs.Loops.{partly-past}
 use Rattle.register.proofs.added.Statement.{statement}
 use Rattle.register.proofs.added.Tie as tie
 
 abbrev Inv-loop : tie.InvT-loop
-Inv-loop y p r₀ i₀ r i = (y ≤ i) × (i ≤ 257) × (r ≡ partly r₀ p y i)
+Inv-loop y k p e r₀ i₀ r i = (y ≤ i) × (i ≤ e) × (r ≡ partly r₀ p y i)
 
 abbrev μ-loop : tie.MeasureT-loop
-μ-loop y p r₀ i₀ r i = 257 - i
+μ-loop y k p e r₀ i₀ r i = e - i
+
+add-e : tie.Need-add-e Inv-loop μ-loop
+add-e c = search needs
+
+add-e-2 : tie.Need-add-e-2 Inv-loop μ-loop
+add-e-2 c = search needs
 
 loop-holds : tie.Need-loop-holds Inv-loop μ-loop
 loop-holds c = (omega arith, omega arith, sym (partly-start _ _ _))
@@ -58,8 +65,8 @@ loop-again c =
 
 returns : tie.Need-returns Inv-loop μ-loop
 returns c =
-    let h : length (c .before .before .args .c) ≡ 257 = search needs in
-    c .before .loop .inv .2 ∙ partly-all _ _ _ _ (omega arith)
+    let b = c .before .before in
+    c .before .loop .inv .2 ∙ partly-past (b .args .c) (b .args .t2) (b .args .y) (b .args .k) _ (omega arith) (b .pre .1)
 
 pub added-spec : {M : Type 1} → statement M
 added-spec =
@@ -67,6 +74,8 @@ added-spec =
     (tie.spec
     Inv-loop
     μ-loop
+    add-e
+    add-e-2
     loop-holds
     sub-r
     mul-r

@@ -1,23 +1,17 @@
--- The loop's invariant: the turns from n on give the whole list's register, and d_m is a unit. Assumes nothing.
-use mathlib.Core.Path.{_≡_, refl, sym, _∙_}
-use mathlib.Core.Bool.{true}
-use Prim.Native.Nat.{_+_, _-_, _≤_}
+-- The loop's invariant: a multiple of the figure's register after n turns. Assumes nothing.
+use Prim.Native.Nat.{_-_, _≤_}
 use native.Mathlib.Omega.{arith}
 use borrow.Author.Needs.{needs}
 use lib.ListN.{length}
-use Rattle.field.specs.Answers.{isUnit}
 use Rattle.field.proofs.Arrays.{every-elements}
-use Rattle.poly.specs.Register.{turns, register as registerOf}
 use Rattle.register.specs.Registered.{figure}
-use Rattle.poly.proofs.Steps.{turn-small, start-small, turns-start, turns-none, turns-step}
-use Rattle.poly.proofs.Units.{discrepancy-element, start-unit, turn-unit}
+use Rattle.poly.proofs.Steps.{after}
+use Rattle.register.proofs.Across.{Multiple, start-multiple, after-small, c-past, b-past, after-turn, after-divided}
 use Rattle.register.proofs.run.Statement.{statement}
 use Rattle.register.proofs.run.Tie as tie
 
 abbrev Inv-loop : tie.InvT-loop
-Inv-loop m s r₀ n₀ r n =
-    (n ≤ length s) × (r .l ≤ n) × (r .y ≤ n + 1) × (isUnit m (r .d) ≡ true)
-    × (turns m s (length s - n) n (figure r) ≡ registerOf m s)
+Inv-loop m s r₀ n₀ r n = (n ≤ length s) × Multiple m (figure r) (after m s n)
 
 abbrev μ-loop : tie.MeasureT-loop
 μ-loop m s r₀ n₀ r n = length s - n
@@ -27,15 +21,30 @@ start-requires c κs = search needs
 
 loop-holds : tie.Need-loop-holds Inv-loop μ-loop
 loop-holds c =
-    let e = c .start .ensures in
-    let s = start-small _ e in
-    (omega arith, s .0, s .1, start-unit _ (c .before .before .pre .0) _ e, turns-start _ _ _ _ refl e)
+    let b = c .before .before in
+    (omega arith, start-multiple (b .args .m) (b .pre .0) (b .args .s .now) (figure (c .start .result)) (c .start .ensures))
 
 discrepancy-requires : tie.Need-discrepancy-requires Inv-loop μ-loop
-discrepancy-requires c κs = search needs
+discrepancy-requires c κs =
+    let l = c .before .before in
+    let b = l .before .before .before in
+    let f = after-small (b .args .m) (b .pre .0) (b .args .s .now) (every-elements _ _ (b .pre .2)) (l .loop .n) (omega arith) (figure (l .loop .r)) (l .loop .inv .1) in
+    (b .pre .0, f .0, omega arith, omega arith)
 
 turn-requires : tie.Need-turn-requires Inv-loop μ-loop
-turn-requires c κs = search needs
+turn-requires c κs =
+    let l = c .before .before .before in
+    let b = l .before .before .before in
+    let e = every-elements _ _ (b .pre .2) in
+    let h : l .loop .n ≤ 256 = omega arith in
+    let r = figure (l .loop .r) in
+    let f = after-small (b .args .m) (b .pre .0) (b .args .s .now) e (l .loop .n) h r (l .loop .inv .1) in (
+      b .pre .0,
+      f .1,
+      omega arith,
+      c-past (b .args .m) (b .pre .0) (b .args .s .now) e (l .loop .n) h r (l .loop .inv .1),
+      b-past (b .args .m) (b .pre .0) (b .args .s .now) e (l .loop .n) h r (l .loop .inv .1),
+    )
 
 add-n : tie.Need-add-n Inv-loop μ-loop
 add-n c = search needs
@@ -45,23 +54,20 @@ loop-less c = search needs
 
 loop-again : tie.Need-loop-again Inv-loop μ-loop
 loop-again c =
-    let p = c .before .before .before in
-    let l = p .loop in
-    let b = p .before .before .before in
-    let d = c .before .discrepancy .ensures in
-    let t = c .turn .ensures in
-    let e = turn-small _ _ _ _ _ t (l .inv .1) (l .inv .2) in (
+    let d = c .before in
+    let l = d .before .before .before in
+    let b = l .before .before .before in (
       omega arith,
-      e .0,
-      e .1,
-      turn-unit _ _ _ _ _ t (rw d (discrepancy-element _ _ _ _ (every-elements _ _ (b .pre .2)))) (l .inv .3),
-      turns-step _ _ _ _ _ _ d t (omega arith) ∙ l .inv .4,
+      after-turn (b .args .m) (b .pre .0) (b .args .s .now) (every-elements _ _ (b .pre .2)) (l .loop .n) (omega arith) (figure (l .loop .r)) (l .loop .inv .1)
+          _ (figure (c .turn .result)) (d .discrepancy .ensures) (c .turn .ensures),
     )
 
 returns : tie.Need-returns Inv-loop μ-loop
 returns c =
-    let a = c .before .before .before .before .args in
-    sym (turns-none (a .m) (a .s .now) (c .before .loop .n) (figure (c .before .loop .r)) (omega arith)) ∙ c .before .loop .inv .4
+    let l = c .before in
+    let b = l .before .before .before in
+    after-divided (b .args .m) (b .pre .0) (b .args .s .now) (every-elements _ _ (b .pre .2)) (l .loop .n) (omega arith) (figure (l .loop .r)) (l .loop .inv .1)
+    (omega arith)
 
 pub run-spec : {M : Type 1} → statement M
 run-spec =

@@ -3,7 +3,7 @@ use mathlib.Core.Path.{sym}
 use native.Mathlib.Omega.{arith}
 use borrow.Author.Needs.{needs}
 use Rattle.register.specs.Registered.{figure}
-use Rattle.poly.proofs.Steps.{turn-skip, turn-fix, turn-grow}
+use Rattle.register.proofs.Across.{across-skip, across-fix, across-grow}
 use Rattle.register.proofs.turn.Statement.{statement}
 use Rattle.register.proofs.turn.Tie as tie
 
@@ -12,7 +12,7 @@ add-t11 c = search needs
 
 returns : tie.Need-returns
 returns c =
-    let a = c .before .before .before .before .args in sym (turn-skip (a .m) (a .d) (a .n) (figure (a .r)) (omega arith))
+    let a = c .before .before .before .before .args in sym (across-skip (a .m) (a .d) (a .n) (figure (a .r)) (omega arith))
 
 corrected-requires : tie.Need-corrected-requires
 corrected-requires c κs = search needs
@@ -27,7 +27,7 @@ returns-2 : tie.Need-returns-2
 returns-2 c =
     let b = c .before .before .before .before in
     let a = b .before .before .args in
-    sym (turn-fix (a .m) (a .d) (a .n) (figure (a .r)) (b .corrected .ensures) (λ e. omega arith) (omega arith))
+    sym (across-fix (a .m) (a .d) (a .n) (figure (a .r)) (b .corrected .ensures) (λ e. omega arith) (omega arith))
 
 add-t12 : tie.Need-add-t12
 add-t12 c = search needs
@@ -39,7 +39,7 @@ returns-3 : tie.Need-returns-3
 returns-3 c =
     let b = c .before .before .before .before in
     let a = b .before .before .args in
-    sym (turn-grow (a .m) (a .d) (a .n) (figure (a .r)) (b .corrected .ensures) (λ e. omega arith) (omega arith))
+    sym (across-grow (a .m) (a .d) (a .n) (figure (a .r)) (b .corrected .ensures) (λ e. omega arith) (omega arith))
 
 pub turn-spec : {M : Type 1} → statement M
 turn-spec =
