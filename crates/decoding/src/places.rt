@@ -71,7 +71,7 @@ pub fn located(m: u8, support: &[u16], s: &[u16]) -> [u8; 1024]
     let l = r.length;
     let c = r.c;
     let q = backward(c, l);
-    let v = poly::values(m, &q[..l], support);
+    let v = transform::values(m, &q[..l], support);
     let n = support.len();
     marks(&v[..n])
 }

@@ -45,7 +45,7 @@ pub fn word_sums(m: u8, support: &[u16], g: &[u16], word: &[u8]) -> Sums
     let n = c.count;
     let at = c.at;
     let points = &at[..n];
-    let mut v = poly::values(m, g, points);
+    let mut v = transform::values(m, g, points);
     sums_by_values(m, g, &mut v[..n], points)
 }
 

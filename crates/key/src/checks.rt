@@ -55,7 +55,7 @@ fn no_root(m: u8, g: &[u16], s: &[u16]) -> bool
     ensures { λ r. ⌜ r ≡ noRoot m (now (g .entry)) (now (s .entry)) ⌝ }
 {
     let n = s.len();
-    let values = poly::values(m, g, s);
+    let values = transform::values(m, g, s);
     no_zero(&values[..n])
 }
 

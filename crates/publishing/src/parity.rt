@@ -54,7 +54,7 @@ fn parity_rows(work: &mut [u8], m: u8, support: &[u16], g: &[u16])
 {
     let n = support.len();
     let size = (m as usize) * bits::bytes_for(n);
-    let mut p = poly::values(m, g, support);
+    let mut p = transform::values(m, g, support);
     let x = field_places::inverse_each(m, &mut p[..n]);
     // Not refused: g has no root in the support.
     let Verdict::Accepted = x else {
