@@ -1,6 +1,7 @@
 /* Publishing, locking, opening and reading at the standard's five shapes, and a report beside as many opens at the last: the least
    processor time of many tries, in ms. Fails where a report takes too much of the opens' time.
-   Standard input, where it has lines: a shape's name and the times of Bouncy Castle's decapsulation and encapsulation. */
+   Standard input, where it has lines: a shape's name and the times of Bouncy Castle's decapsulation and encapsulation, or a size of
+   Botan's McEliece, n,t, and the time of its decryption. */
 #include <stdio.h>
 #include <stdlib.h>
 #include <string.h>
@@ -8,8 +9,10 @@
 
 #include "shearcotter.h"
 
-enum { SHAPES = 5, PLACES = SHEARCOTTER_MOST_PLACES, MOST_ROWS = 13 * SHEARCOTTER_MOST_ERRORS, WORD = PLACES / 8, CARD = 200 };
+enum { SHAPES = 5, SIZES = 4, PLACES = SHEARCOTTER_MOST_PLACES, MOST_ROWS = 13 * SHEARCOTTER_MOST_ERRORS, WORD = PLACES / 8, CARD = 200 };
 static const char *names[SHAPES] = {"mceliece348864", "mceliece460896", "mceliece6688128", "mceliece6960119", "mceliece8192128"};
+/* Botan's sizes nearest to the first shapes; it has none near the last. */
+static const char *sizes[SIZES] = {"3408,67", "4624,95", "6624,115", "6624,115"};
 
 /* One shape: its sizes, key and inputs. */
 static int m, n, t, rows;
@@ -20,9 +23,9 @@ static uint8_t pattern[WORD], capsule[WORD], own[WORD], filled[WORD], errors[WOR
 static shearcotter_station station;
 static int differences;
 
-/* Least times: ours, then Bouncy Castle's. */
+/* Least times: ours, then Bouncy Castle's, then Botan's. */
 typedef struct {
-    double load, publish, lock, open, capsule_read, errors_read, refused_read, decapsulate, encapsulate;
+    double load, publish, lock, open, capsule_read, errors_read, refused_read, decapsulate, encapsulate, decrypt;
 } times;
 
 static double now(void)
@@ -233,23 +236,45 @@ static double passed_by_value(call *volatile f)
 
 static void peer_times(times *x)
 {
-    char name[40];
-    double decapsulate, encapsulate;
-    while (scanf("%39s %lf %lf", name, &decapsulate, &encapsulate) == 3)
+    char line[100], name[40];
+    double a, b;
+    while (fgets(line, sizeof line, stdin)) {
+        int words = sscanf(line, "%39s %lf %lf", name, &a, &b);
         for (int i = 0; i < SHAPES; i++)
-            if (strcmp(name, names[i]) == 0)
-                x[i].decapsulate = decapsulate, x[i].encapsulate = encapsulate;
+            if (words == 3 && strcmp(name, names[i]) == 0)
+                x[i].decapsulate = a, x[i].encapsulate = b;
+        for (int i = 0; i < SIZES; i++)
+            if (words == 2 && strcmp(name, sizes[i]) == 0)
+                x[i].decrypt = a;
+    }
 }
 
-static void ratio(const char *call, const char *peer, const times *x, size_t ours, size_t theirs)
+static double time_at(const times *x, size_t offset) { return *(const double *)((const char *)x + offset); }
+
+/* Times at the first shapes, and how many times as long the peer takes. */
+static void ratio(const char *call, const char *peer, const times *x, int shapes, size_t ours, size_t theirs)
 {
     printf("%-28s", call);
-    for (int i = 0; i < SHAPES; i++) {
-        double a = *(const double *)((const char *)&x[i] + ours);
-        double b = theirs ? *(const double *)((const char *)&x[i] + theirs) : 0;
-        printf(b ? " %9.3f %5.1f" : " %9.3f      ", a, b / a);
+    for (int i = 0; i < shapes; i++) {
+        double a = time_at(&x[i], ours), b = theirs ? time_at(&x[i], theirs) / a : 0;
+        if (b)
+            printf(" %9.3f %5.*f", a, b < 10 ? 2 : 1, b);
+        else
+            printf(" %9.3f      ", a);
     }
-    printf("  %s\n", theirs && x[0].decapsulate ? peer : "");
+    printf("  %s\n", theirs && time_at(x, theirs) ? peer : "");
+}
+
+/* Botan's decryption, and our calls of the same use, at the shapes that one of its sizes is near to. */
+static void botan(const times *x)
+{
+    printf("\n%-28s", "Botan's decryption, size n,t");
+    for (int i = 0; i < SIZES; i++)
+        printf(" %15s", sizes[i]);
+    printf("\n");
+    ratio("Botan, decrypt", "", x, SIZES, offsetof(times, decrypt), 0);
+    ratio("open", "against Botan", x, SIZES, offsetof(times, open), offsetof(times, decrypt));
+    ratio("read, code word, t errors", "against Botan", x, SIZES, offsetof(times, errors_read), offsetof(times, decrypt));
 }
 
 static void chart(const times *x)
@@ -284,16 +309,18 @@ int main(void)
     printf("\n");
     size_t d = offsetof(times, decapsulate), e = offsetof(times, encapsulate);
     if (x[0].decapsulate) {
-        ratio("Bouncy Castle, decapsulate", "", x, d, 0);
-        ratio("Bouncy Castle, encapsulate", "", x, e, 0);
+        ratio("Bouncy Castle, decapsulate", "", x, SHAPES, d, 0);
+        ratio("Bouncy Castle, encapsulate", "", x, SHAPES, e, 0);
     }
-    ratio("open", "against decapsulate", x, offsetof(times, open), d);
-    ratio("read, capsule and zeros", "against decapsulate", x, offsetof(times, capsule_read), d);
-    ratio("read, code word, t errors", "against decapsulate", x, offsetof(times, errors_read), d);
-    ratio("read, ones only, refused", "against decapsulate", x, offsetof(times, refused_read), d);
-    ratio("lock", "against encapsulate", x, offsetof(times, lock), e);
-    ratio("load", "", x, offsetof(times, load), 0);
-    ratio("publish", "", x, offsetof(times, publish), 0);
+    ratio("open", "against decapsulate", x, SHAPES, offsetof(times, open), d);
+    ratio("read, capsule and zeros", "against decapsulate", x, SHAPES, offsetof(times, capsule_read), d);
+    ratio("read, code word, t errors", "against decapsulate", x, SHAPES, offsetof(times, errors_read), d);
+    ratio("read, ones only, refused", "against decapsulate", x, SHAPES, offsetof(times, refused_read), d);
+    ratio("lock", "against encapsulate", x, SHAPES, offsetof(times, lock), e);
+    ratio("load", "", x, SHAPES, offsetof(times, load), 0);
+    ratio("publish", "", x, SHAPES, offsetof(times, publish), 0);
+    if (x[0].decrypt)
+        botan(x);
     if (x[0].decapsulate)
         chart(x);
     int quick = report();
