@@ -9,9 +9,10 @@
 
 #include "shearcotter.h"
 
-enum { SHAPES = 5, SIZES = 4, PLACES = SHEARCOTTER_MOST_PLACES, MOST_ROWS = 13 * SHEARCOTTER_MOST_ERRORS, WORD = PLACES / 8, CARD = 200 };
+enum { SHAPES = 5, PLACES = SHEARCOTTER_MOST_PLACES, MOST_ROWS = 13 * SHEARCOTTER_MOST_ERRORS, WORD = PLACES / 8, CARD = 200 };
 static const char *names[SHAPES] = {"mceliece348864", "mceliece460896", "mceliece6688128", "mceliece6960119", "mceliece8192128"};
 /* Botan's sizes nearest to the first shapes; it has none near the last. */
+enum { SIZES = 4 };
 static const char *sizes[SIZES] = {"3408,67", "4624,95", "6624,115", "6624,115"};
 
 /* One shape: its sizes, key and inputs. */

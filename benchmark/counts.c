@@ -39,7 +39,8 @@ static int profile(size_t size)
     reply.station = shearcotter_fresh();
     PROFILE("load", shearcotter_load(reply.station, file, size));
     reply = shearcotter_publish(reply.station, public_key, sizeof public_key, work, sizeof work);
-    shearcotter_lock((uint8_t)m, (uint16_t)n, (uint16_t)t, public_key, SHEARCOTTER_PUBLIC_BYTES(m, n, t), pattern, word_bytes, capsule, WORD);
+    shearcotter_lock((uint8_t)m, (uint16_t)n, (uint16_t)t, public_key, SHEARCOTTER_PUBLIC_BYTES(m, n, t), pattern, word_bytes,
+                     capsule, WORD);
     PROFILE("open", shearcotter_open(reply.station, capsule, capsule_bytes, out, WORD));
     int opened = !reply.refused && memcmp(out, pattern, word_bytes) == 0;
     PROFILE("ones", shearcotter_read(reply.station, ones, word_bytes, out, WORD));
