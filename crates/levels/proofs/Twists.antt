@@ -54,6 +54,10 @@ pub powers-at : (m b n i : ℕ) → i < n → getD (powersOf m b n) i 0 ≡ powe
 unfolding powersOf
 powers-at m b n i h = map-from-at (power m b) 1 n i 0 h ∙ ap (power m b) (add-comm 1 i)
 
+-- products place by place
+pub horner-products : (m : ℕ) → Width m → (c p : List ℕ) → hornerEach m 0 c p ≡ eachWith (mul m) c p
+horner-products m w c p = hornerEach-width m 0 c p w ∙ ap (λ (f : ℕ → ℕ → ℕ). eachWith f c p) (fun-ext λ a. fun-ext λ d. xor-zero (mul m a d))
+
 -- powers in a table
 scaled-powers : (m b k n : ℕ) (c z : List ℕ) → length c ≤ n → eachWith (mul m) c (map (power m b) (from k n) ++ z) ≡ scaled m b k c
 unfolding eachWith scaled from
@@ -67,6 +71,5 @@ unfolding twistedBy twisted padded powersOf
 twisted-powers m w b n p [] e l h = refl
 twisted-powers m w b n p (x ∷ c) e l h =
     ap (_∷_ x)
-    (ap (hornerEach m 0 c) (e ∙ ap (λ (k : ℕ). padded 512 (powersOf m b k)) (min-eq-left l)) ∙ hornerEach-width m 0 c (padded 512 (powersOf m b n)) w
-    ∙ ap (λ (f : ℕ → ℕ → ℕ). eachWith f c (padded 512 (powersOf m b n))) (fun-ext λ a. fun-ext λ d. xor-zero (mul m a d))
+    (ap (hornerEach m 0 c) (e ∙ ap (λ (k : ℕ). padded 512 (powersOf m b k)) (min-eq-left l)) ∙ horner-products m w c (padded 512 (powersOf m b n))
     ∙ scaled-powers m b 1 n c _ (le-of-suc-le-suc h))

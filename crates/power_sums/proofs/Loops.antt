@@ -5,82 +5,13 @@ use Prim.Native.Nat.{ℕ, zero, suc, _+_, _-_, _*_, _≤_, _<_}
 use native.Mathlib.Nat.{le-of-suc-le-suc, not-suc-le-zero}
 use native.Mathlib.Numerals.{add-one}
 use native.Mathlib.Omega.{arith}
-use lib.ListN.{length, getD, take, drop, set, length-drop, drop-of-length-le, take-append-drop}
+use lib.ListN.{length, getD, take, drop, set, length-drop, drop-of-length-le}
 use lib.Seq.{take-all, getD-take, getD-drop, length-take-le}
 use Rattle.bits.specs.Xor.{_⊕_}
-use Rattle.bits.specs.Bits.{eachWith, xorRow, over}
+use Rattle.bits.specs.Bits.{over}
 use Rattle.bits.proofs.Xor.{xor-comm}
-use Rattle.bits.proofs.Each.{length-eachWith, eachWith-at}
 use Rattle.bits.proofs.Padded.{over-next}
-use Rattle.field.specs.Field.{mul}
-use Rattle.power_sums.specs.Sums.{folded, added, collected, zip}
-use Rattle.levels.proofs.Halves.{bothTo, both-start, both-next, both-all, both-left, both-right}
-
--- weights folded at the first i places
-module _ (m : ℕ) (g l : List ℕ) where
-  unfoldable pub merges : List ℕ
-  merges = xorRow (take (length g) l) (drop (length g) l)
-
-  unfoldable pub others : List ℕ
-  others = xorRow (drop (length g) l) (eachWith (mul m) merges g)
-
-  unfoldable pub foldedTo : ℕ → List ℕ
-  foldedTo i = bothTo merges others (take (length g) l) (drop (length g) l) i
-
-  pub folded-start : l ≡ foldedTo 0
-  unfolding foldedTo
-  folded-start = sym (both-start merges others (take (length g) l) (drop (length g) l) ∙ take-append-drop (length g) l)
-
-  module _ (e : length l ≡ length g + length g) where
-    length-low : length (take (length g) l) ≡ length g
-    length-low = length-take-le (length g) l (omega arith)
-
-    length-high : length (drop (length g) l) ≡ length g
-    length-high = length-drop (length g) l ∙ omega arith
-
-    length-merges : length merges ≡ length g
-    unfolding merges xorRow
-    length-merges = length-eachWith _⊕_ (take (length g) l) _ ∙ length-low
-
-    length-others : length others ≡ length g
-    unfolding others xorRow
-    length-others = length-eachWith _⊕_ (drop (length g) l) _ ∙ length-high
-
-    merge-at : (i : ℕ) → i < length g → getD merges i 0 ≡ getD (take (length g) l) i 0 ⊕ getD (drop (length g) l) i 0
-    unfolding merges xorRow
-    merge-at i k = eachWith-at _⊕_ (take (length g) l) (drop (length g) l) i (omega (arith, length-low)) (omega (arith, length-high))
-
-    other-at : (i : ℕ) → i < length g → getD others i 0 ≡ getD (drop (length g) l) i 0 ⊕ mul m (getD merges i 0) (getD g i 0)
-    unfolding others xorRow
-    other-at i k =
-        eachWith-at _⊕_ (drop (length g) l) (eachWith (mul m) merges g) i (omega (arith, length-high)) (omega (arith, length-eachWith (mul m) merges g, length-merges))
-        ∙ ap (_⊕_ (getD (drop (length g) l) i 0)) (eachWith-at (mul m) merges g i (omega (arith, length-merges)) k)
-
-    pub folded-next : (i : ℕ) (b : List ℕ) (x : ℕ) → b ≡ foldedTo i → i < length g → x ≡ mul m (getD b i 0 ⊕ getD b (length g + i) 0) (getD g i 0)
-        → set (set b i (getD b i 0 ⊕ getD b (length g + i) 0)) (length g + i) (getD b (length g + i) 0 ⊕ x) ≡ foldedTo (i + 1)
-    unfolding foldedTo
-    folded-next i b x eb k ex =
-        let u : List ℕ = take (length g) l in
-        let v : List ℕ = drop (length g) l in
-        let el : getD b i 0 ≡ getD u i 0 = ap (λ (r : List ℕ). getD r i 0) eb
-        ∙ both-left merges others u v i (omega (arith, length-merges)) (length-low ∙ sym length-merges) (omega (arith, length-low)) in
-        let er : getD b (length g + i) 0 ≡ getD v i 0 = ap (λ (r : List ℕ). getD r (length g + i) 0) eb
-        ∙ both-right merges others u v (length g) i length-merges length-low (omega (arith, length-others)) in
-        let es : getD b i 0 ⊕ getD b (length g + i) 0 ≡ getD merges i 0 = ap₂ _⊕_ el er ∙ sym (merge-at i k) in
-        let eo : getD b (length g + i) 0 ⊕ x ≡ getD others i 0 = ap₂ _⊕_ er (ex ∙ ap (λ (y : ℕ). mul m y (getD g i 0)) es) ∙ sym (other-at i k) in
-        ap₂ (λ (y z : ℕ). set (set b i y) (length g + i) z) es eo
-        ∙ ap (λ (r : List ℕ). set (set r i (getD merges i 0)) (length g + i) (getD others i 0)) eb
-        ∙ both-next merges others u v (length g) i length-merges length-others length-low length-high k
-
-    folded-form : merges ++ others ≡ folded m g l
-    unfolding merges others folded
-    folded-form = refl
-
-    pub folded-all : (i : ℕ) → length g ≤ i → foldedTo i ≡ folded m g l
-    unfolding foldedTo
-    folded-all i k =
-        both-all merges others (take (length g) l) (drop (length g) l) i (omega (arith, length-merges)) (omega (arith, length-others))
-        (length-low ∙ sym length-merges) (length-high ∙ sym length-others) ∙ folded-form
+use Rattle.power_sums.specs.Sums.{added, collected, zip}
 
 -- pairs: the first k
 unfoldable pub addedTo : ℕ → List ℕ → List ℕ

@@ -7,20 +7,24 @@ use native.Mathlib.Nat.{min-le-left, min-le-right, le-of-suc-le-suc, not-suc-le-
 use native.Mathlib.Numerals.{add-one}
 use native.Mathlib.Omega.{arith}
 use lib.Pow.{pow-pos, pow-add, pow-mono}
+use borrow.Rule.Slice.PartMut.{putMid}
 use lib.ListN.{length, getD, take, drop, set, replicate, length-drop, length-replicate, drop-of-length-le}
 use lib.Seq.{take-all, getD-take, drop-drop, length-take-le}
-use Rattle.bits.specs.Bits.{from, padded, over}
+use Rattle.bits.specs.Bits.{from, eachWith, xorRow, padded, over}
 use Rattle.bits.proofs.Lists.{map-from, length-map-from}
 use Rattle.bits.proofs.Padded.{over-next, drop-zeros, padded-start}
+use Rattle.bits.proofs.Rows.{length-xorRow}
 use Rattle.field.specs.Field.{isWidth, mul, power}
+use Rattle.field.specs.Poly.{hornerEach}
 use Rattle.field.proofs.Table.{Width}
 use Rattle.field.proofs.Laws.{mul-comm, power-zero}
 use Rattle.levels.specs.Levels.{pointOf, basisOf, topOf, factorsOf, twoOf, Factors, Tops}
 use Rattle.levels.specs.Twist.{powersOf, twistedBy, eachBlock}
 use Rattle.levels.proofs.Blocks.{block-length, length-eachBlock, length-rest}
 use Rattle.levels.proofs.Filled.{length-factors}
+use Rattle.levels.proofs.Halves.{length-low, length-high, high-copied, low-copied, high-added}
 use Rattle.levels.proofs.TwoPowers.{two-below}
-use Rattle.levels.proofs.Twists.{length-twisted, twisted-powers}
+use Rattle.levels.proofs.Twists.{length-twisted, twisted-powers, horner-products}
 use Rattle.power_sums.specs.Sums.{sumTo, moment, momentsBy, sumsOf, powerSums, sumsAll, zip, collected, merged, mergedBy, heaped, folded, weightsOf, mergesOf}
 use Rattle.power_sums.proofs.Loops.{length-zip, collected-all, length-collectedTo}
 use Rattle.power_sums.proofs.Moments.{sum-cong, sum-mul}
@@ -94,6 +98,23 @@ module _ (m r : ℕ) where
       ap (λ (s : List ℕ). s ++ drop (length s) c) (take-all k z (omega (arith, length-heaped (length c) d)))
       ∙ ap (_++_ z) (drop-of-length-le c {i = length z} (omega (arith, length-heaped (length c) d))) ∙ append-nil z
 
+-- a fold by way of p
+pub fold-form : (m : ℕ) → Width m → (g l p : List ℕ) {q a s r y : List ℕ} → length l ≡ length g + length g → length p ≡ length g
+    → q ≡ eachWith (λ x y. y) p (take (length l - length g) (drop (length g) l)) → a ≡ xorRow (take (length g) l) q
+    → s ≡ eachWith (λ x y. y) q (take (length g) (a ++ drop (length g) l)) → r ≡ hornerEach m 0 s g
+    → y ≡ xorRow (take (length (a ++ drop (length g) l) - length g) (drop (length g) (a ++ drop (length g) l))) r
+    → putMid (length g) (length (a ++ drop (length g) l) - length g) (a ++ drop (length g) l) y ≡ folded m g l
+unfolding folded
+fold-form m w g l p {q} {a} {s} {r} el ep eq ea es er ey =
+    let v : List ℕ = drop (length g) l in
+    let q-high : q ≡ v = eq ∙ high-copied (length g) l el p ep in
+    let lq : length q ≡ length g = ap length q-high ∙ length-high (length g) l el in
+    let la : length a ≡ length g = ap length ea ∙ length-xorRow (take (length g) l) q ∙ length-low (length g) l el in
+    let s-low : s ≡ a = es ∙ low-copied (length g) l el a la q lq in
+    let products : r ≡ eachWith (mul m) a g = er ∙ horner-products m w s g ∙ ap (λ (x : List ℕ). eachWith (mul m) x g) s-low in
+    high-added (length g) l el a la r ey ∙ ap (λ (x : List ℕ). a ++ xorRow v x) products
+    ∙ ap (λ (x : List ℕ). x ++ xorRow v (eachWith (mul m) x g)) (ea ∙ ap (xorRow (take (length g) l)) q-high)
+
 -- folding level j, by the factors g
 module _ (m k j h : ℕ) (g : List ℕ) (l : j < k) (km : k ≤ m) (n : m < 14) (e : h ≡ twoOf (m - 1 - j)) where
   half : h ≡ 2 ^ (m - suc j)
@@ -107,16 +128,18 @@ module _ (m k j h : ℕ) (g : List ℕ) (l : j < k) (km : k ≤ m) (n : m < 14) 
       omega (arith, half, pow-suc 2 (m - suc j), pow-mono s)
 
   module _ (f : Factors m k g) where
-    part : List ℕ
-    part = take (h + h - h) (drop h g)
-
     factors-part : take (h + h - h) (drop h g) ≡ factorsOf m j
     factors-part =
         let d : h + h - h ≡ h = omega arith in
         ap₂ (λ (a b : ℕ). take a (drop b g)) (d ∙ half) half ∙ f j l
 
-    pub factors-length : length (take (h + h - h) (drop h g)) ≡ 2 ^ (m - suc j)
+    factors-length : length (take (h + h - h) (drop h g)) ≡ 2 ^ (m - suc j)
     factors-length = ap length factors-part ∙ length-factors m j
+
+    pub factors-few : length (take (h + h - h) (drop h g)) ≤ 4096
+    factors-few =
+        let s : m - suc j ≤ 12 = omega arith in
+        omega (arith, factors-length, pow-mono s)
 
     twice : length (take (h + h - h) (drop h g)) + length (take (h + h - h) (drop h g)) ≡ 2 ^ (m - j)
     twice =

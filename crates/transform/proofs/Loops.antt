@@ -5,15 +5,14 @@ use Prim.Native.Nat.{ℕ, zero, suc, _+_, _-_, _*_, _≤_, _<_}
 use native.Mathlib.Nat.{le-of-suc-le-suc, not-suc-le-zero, le-refl, zero-mul, suc-mul, mul-le-mul-right}
 use native.Mathlib.Numerals.{add-one}
 use native.Mathlib.Omega.{arith}
-use lib.ListN.{length, getD, take, drop, set, replicate, length-append, length-drop, length-replicate, drop-of-length-le, take-append-drop}
-use lib.Seq.{take-at, drop-at, take-all, take-suc, drop-cons, append-snoc, length-take-le, drop-drop}
+use lib.ListN.{length, getD, take, drop, set, replicate, length-append, length-take, length-drop, length-replicate, drop-of-length-le, take-append-drop, List·getD-append}
+use lib.Seq.{take-at, drop-at, take-all, take-suc, drop-cons, append-snoc, set-append-left, length-take-le, drop-drop, getD-drop, getD-append-add}
 use Rattle.bits.specs.Xor.{_⊕_}
-use Rattle.bits.specs.Bits.{eachWith, xorRow, over}
-use Rattle.bits.proofs.Each.{length-eachWith, eachWith-at}
-use Rattle.field.specs.Field.{mul}
-use Rattle.levels.proofs.Halves.{bothTo, both-start, both-next, both-all, both-left, both-right, length-over}
+use Rattle.bits.specs.Bits.{over}
+use Rattle.bits.proofs.Padded.{over-next}
+use Rattle.levels.proofs.Loops.{set-right}
 use Rattle.transform.specs.Halves.{paired, expanded, unzip}
-use Rattle.transform.specs.Values.{butterfly, spread}
+use Rattle.transform.specs.Values.{spread}
 use Rattle.transform.proofs.Lengths.{length-expanded}
 
 -- pairs: the first k
@@ -61,6 +60,60 @@ paired-all (suc k) (a ∷ b ∷ l) h = ap (λ (r : List ℕ). (a ⊕ b) ∷ b �
 unfoldable pub expandedFrom : ℕ → List ℕ → List ℕ
 expandedFrom i l = take i l ++ expanded (drop i l)
 
+-- place h + i of two lists, the first of h numbers
+getD-right : (p q : List ℕ) (h i : ℕ) → length p ≡ h → getD (p ++ q) (h + i) 0 ≡ getD q i 0
+getD-right p q h i e = ap (λ (k : ℕ). getD (p ++ q) (k + i) 0) (sym e) ∙ getD-append-add p q i 0
+
+length-over : (l d : List ℕ) (i : ℕ) → length d ≡ length l → length (over (take i l) d) ≡ length d
+unfolding over
+length-over l d i e =
+    length-append (take i l) (drop (length (take i l)) d) ∙ omega (arith, length-take i l, length-drop (length (take i l)) d)
+
+-- what stands at place i before it is written
+over-at : (l d : List ℕ) (i : ℕ) → i ≤ length l → getD (over (take i l) d) i 0 ≡ getD d i 0
+unfolding over
+over-at l d i h =
+    let e : length (take i l) ≡ i = length-take-le i l h in
+    let z : i + 0 ≡ i = omega arith in
+    ap₂ (λ (k j : ℕ). getD (take i l ++ drop k d) j 0) e (sym z) ∙ getD-right (take i l) (drop i d) i 0 e
+    ∙ getD-drop i d 0 0 ∙ ap (λ (j : ℕ). getD d j 0) z
+
+-- two lists written over the halves of another, both as far as place i
+module _ (a b u v : List ℕ) where
+  unfoldable pub bothTo : ℕ → List ℕ
+  bothTo i = over (take i a) u ++ over (take i b) v
+
+  pub both-start : bothTo 0 ≡ u ++ v
+  unfolding bothTo over
+  both-start = refl
+
+  pub both-next : (h i : ℕ) → length a ≡ h → length b ≡ h → length u ≡ h → length v ≡ h → i < h
+      → set (set (bothTo i) i (getD a i 0)) (h + i) (getD b i 0) ≡ bothTo (i + 1)
+  unfolding bothTo
+  both-next h i ea eb eu ev l =
+      ap (λ (r : List ℕ). set r (h + i) (getD b i 0))
+      (set-append-left (over (take i a) u) (over (take i b) v) i (getD a i 0) (omega (arith, length-over a u i (eu ∙ sym ea)))
+      ∙ ap (λ (r : List ℕ). r ++ over (take i b) v) (over-next i a u (omega arith) (omega arith)))
+      ∙ set-right (over (take (i + 1) a) u) (over (take i b) v) h i (getD b i 0) (length-over a u (i + 1) (eu ∙ sym ea) ∙ eu)
+      ∙ ap (λ (r : List ℕ). over (take (i + 1) a) u ++ r) (over-next i b v (omega arith) (omega arith))
+
+  pub both-all : (i : ℕ) → length a ≤ i → length b ≤ i → length u ≡ length a → length v ≡ length b → bothTo i ≡ a ++ b
+  unfolding bothTo over
+  both-all i ha hb eu ev =
+      ap₂ (λ (x y : List ℕ). (x ++ drop (length x) u) ++ (y ++ drop (length y) v)) (take-all i a ha) (take-all i b hb)
+      ∙ ap₂ (λ (x y : List ℕ). (a ++ x) ++ (b ++ y)) (drop-of-length-le u {i = length a} (omega arith)) (drop-of-length-le v {i = length b} (omega arith))
+      ∙ ap₂ _++_ (append-nil a) (append-nil b)
+
+  pub both-left : (i : ℕ) → i ≤ length a → length u ≡ length a → i < length u → getD (bothTo i) i 0 ≡ getD u i 0
+  unfolding bothTo
+  both-left i h e k =
+      List·getD-append (over (take i a) u) (over (take i b) v) 0 i (omega (arith, length-over a u i e)) ∙ over-at a u i h
+
+  pub both-right : (h i : ℕ) → length a ≡ h → length u ≡ h → i ≤ length b → getD (bothTo i) (h + i) 0 ≡ getD v i 0
+  unfolding bothTo
+  both-right h i ea eu k =
+      getD-right (over (take i a) u) (over (take i b) v) h i (length-over a u i (eu ∙ sym ea) ∙ eu) ∙ over-at b v i k
+
 -- even and odd places
 pub unzip-at : (i : ℕ) (t : List ℕ) → (getD (unzip t .0) i 0 ≡ getD t (i + i) 0) × (getD (unzip t .1) i 0 ≡ getD t (suc (i + i)) 0)
 unfolding unzip
@@ -74,85 +127,6 @@ unzip-at (suc i) (a ∷ b ∷ t) =
     let e : suc i + suc i ≡ suc (suc (i + i)) = omega arith in
     let r = unzip-at i t in
     (r .0 ∙ sym (ap (λ (j : ℕ). getD (a ∷ b ∷ t) j 0) e), r .1 ∙ sym (ap (λ (j : ℕ). getD (a ∷ b ∷ t) (suc j) 0) e))
-
--- a butterfly's first i places
-module _ (m : ℕ) (g l : List ℕ) where
-  unfoldable pub sums : List ℕ
-  sums = xorRow (take (length g) l) (eachWith (mul m) (drop (length g) l) g)
-
-  unfoldable pub others : List ℕ
-  others = xorRow (drop (length g) l) sums
-
-  unfoldable pub joinedTo : ℕ → List ℕ
-  joinedTo i = bothTo sums others (take (length g) l) (drop (length g) l) i
-
-  pub joined-start : l ≡ joinedTo 0
-  unfolding joinedTo
-  joined-start = sym (both-start sums others (take (length g) l) (drop (length g) l) ∙ take-append-drop (length g) l)
-
-  module _ (e : length l ≡ length g + length g) where
-    h : ℕ
-    h = length g
-
-    length-low : length (take h l) ≡ h
-    unfolding h
-    length-low = length-take-le (length g) l (omega arith)
-
-    length-high : length (drop h l) ≡ h
-    unfolding h
-    length-high = length-drop (length g) l ∙ omega arith
-
-    length-sums : length sums ≡ h
-    unfolding sums xorRow h
-    length-sums = length-eachWith _⊕_ (take (length g) l) _ ∙ length-low
-
-    length-others : length others ≡ h
-    unfolding others xorRow h
-    length-others = length-eachWith _⊕_ (drop (length g) l) _ ∙ length-high
-
-    pub length-joinedTo : (i : ℕ) → length (joinedTo i) ≡ length l
-    unfolding joinedTo bothTo h
-    length-joinedTo i =
-        length-append (over (take i sums) (take (length g) l)) (over (take i others) (drop (length g) l))
-        ∙ ap₂ _+_ (length-over sums (take (length g) l) i (length-low ∙ sym length-sums) ∙ length-low)
-        (length-over others (drop (length g) l) i (length-high ∙ sym length-others) ∙ length-high) ∙ sym e
-
-    sum-at : (i : ℕ) → i < length g → getD sums i 0 ≡ getD (take h l) i 0 ⊕ mul m (getD (drop h l) i 0) (getD g i 0)
-    unfolding sums xorRow h
-    sum-at i k =
-        eachWith-at _⊕_ (take (length g) l) (eachWith (mul m) (drop (length g) l) g) i (omega (arith, length-low))
-        (omega (arith, length-eachWith (mul m) (drop (length g) l) g, length-high))
-        ∙ ap (_⊕_ (getD (take (length g) l) i 0)) (eachWith-at (mul m) (drop (length g) l) g i (omega (arith, length-high)) k)
-
-    other-at : (i : ℕ) → i < length g → getD others i 0 ≡ getD (drop h l) i 0 ⊕ getD sums i 0
-    unfolding others xorRow h
-    other-at i k = eachWith-at _⊕_ (drop (length g) l) sums i (omega (arith, length-high)) (omega (arith, length-sums))
-
-    pub joined-next : (i : ℕ) (b : List ℕ) (x : ℕ) → b ≡ joinedTo i → i < length g → x ≡ mul m (getD b (length g + i) 0) (getD g i 0)
-        → set (set b i (getD b i 0 ⊕ x)) (length g + i) (getD b (length g + i) 0 ⊕ (getD b i 0 ⊕ x)) ≡ joinedTo (i + 1)
-    unfolding joinedTo h
-    joined-next i b x eb k ex =
-        let u : List ℕ = take (length g) l in
-        let v : List ℕ = drop (length g) l in
-        let el : getD b i 0 ≡ getD u i 0 = ap (λ (r : List ℕ). getD r i 0) eb
-        ∙ both-left sums others u v i (omega (arith, length-sums)) (length-low ∙ sym length-sums) (omega (arith, length-low)) in
-        let er : getD b (length g + i) 0 ≡ getD v i 0 = ap (λ (r : List ℕ). getD r (length g + i) 0) eb
-        ∙ both-right sums others u v (length g) i length-sums length-low (omega (arith, length-others)) in
-        let es : getD b i 0 ⊕ x ≡ getD sums i 0 = ap₂ _⊕_ el (ex ∙ ap (λ (y : ℕ). mul m y (getD g i 0)) er) ∙ sym (sum-at i k) in
-        let eo : getD b (length g + i) 0 ⊕ (getD b i 0 ⊕ x) ≡ getD others i 0 = ap₂ _⊕_ er es ∙ sym (other-at i k) in
-        ap₂ (λ (y z : ℕ). set (set b i y) (length g + i) z) es eo
-        ∙ ap (λ (r : List ℕ). set (set r i (getD sums i 0)) (length g + i) (getD others i 0)) eb
-        ∙ both-next sums others u v (length g) i length-sums length-others length-low length-high k
-
-    joined-form : sums ++ others ≡ butterfly m g l
-    unfolding sums others butterfly
-    joined-form = refl
-
-    pub joined-all : (i : ℕ) → length g ≤ i → joinedTo i ≡ butterfly m g l
-    unfolding joinedTo h
-    joined-all i k =
-        both-all sums others (take (length g) l) (drop (length g) l) i (omega (arith, length-sums)) (omega (arith, length-others))
-        (length-low ∙ sym length-sums) (length-high ∙ sym length-others) ∙ joined-form
 
 -- one number everywhere
 pub fill-all : (x : ℕ) (d : List ℕ) (i : ℕ) → length d ≤ i → over (take i (replicate (length d) x)) d ≡ replicate (length d) x

@@ -6,14 +6,20 @@ use native.Mathlib.Nat.{pow-suc, le-refl}
 use native.Mathlib.Numerals.{add-one}
 use native.Mathlib.Omega.{arith}
 use lib.Pow.{pow-pos, pow-add, pow-mono}
+use borrow.Rule.Slice.PartMut.{putMid}
 use lib.ListN.{length, getD, take, drop}
-use Rattle.bits.specs.Bits.{padded}
+use Rattle.bits.specs.Bits.{eachWith, xorRow, padded}
+use Rattle.bits.proofs.Each.{length-eachWith}
+use Rattle.bits.proofs.Rows.{length-xorRow}
+use Rattle.field.specs.Field.{mul}
+use Rattle.field.specs.Poly.{hornerEach}
 use Rattle.field.proofs.Table.{Width}
 use Rattle.levels.specs.Levels.{factorsOf, topOf, Factors, Tops}
 use Rattle.levels.specs.Twist.{eachBlock, powersOf, twistedBy}
 use Rattle.levels.proofs.Blocks.{length-eachBlock}
 use Rattle.levels.proofs.Filled.{length-factors}
-use Rattle.levels.proofs.Twists.{twisted-powers}
+use Rattle.levels.proofs.Halves.{length-low, length-high, high-copied, low-copied, high-added}
+use Rattle.levels.proofs.Twists.{twisted-powers, horner-products}
 use Rattle.transform.specs.Halves.{expanded, unzip, halves, splitBy, split}
 use Rattle.transform.specs.Values.{butterfly, partsOf, joinsOf, spread, valuesOf, everywhere}
 use Rattle.transform.proofs.Lengths.{length-butterfly}
@@ -29,6 +35,24 @@ split-powers m w b n p c e l h = ap (λ (l : List ℕ). unzip (expanded l) .0 ++
 pub split-form : (m : ℕ) (p c t e r : List ℕ) → t ≡ twistedBy m p c → e ≡ expanded t → r ≡ unzip e .0 ++ unzip e .1 → r ≡ splitBy m p c
 unfolding splitBy
 split-form m p c t e r et ee er = er ∙ ap (λ (l : List ℕ). unzip l .0 ++ unzip l .1) (ee ∙ ap expanded et)
+
+-- a butterfly by way of p
+pub butterfly-form : (m : ℕ) → Width m → (g l p : List ℕ) {q r a s y : List ℕ} → length l ≡ length g + length g → length p ≡ length g
+    → q ≡ eachWith (λ x y. y) p (take (length l - length g) (drop (length g) l)) → r ≡ hornerEach m 0 q g → a ≡ xorRow (take (length g) l) r
+    → s ≡ eachWith (λ x y. y) r (take (length g) (a ++ drop (length g) l))
+    → y ≡ xorRow (take (length (a ++ drop (length g) l) - length g) (drop (length g) (a ++ drop (length g) l))) s
+    → putMid (length g) (length (a ++ drop (length g) l) - length g) (a ++ drop (length g) l) y ≡ butterfly m g l
+unfolding butterfly
+butterfly-form m w g l p {q} {r} {a} {s} el ep eq er ea es ey =
+    let h : ℕ = length g in
+    let v : List ℕ = drop (length g) l in
+    let q-high : q ≡ v = eq ∙ high-copied (length g) l el p ep in
+    let products : r ≡ eachWith (mul m) v g = er ∙ horner-products m w q g ∙ ap (λ (x : List ℕ). eachWith (mul m) x g) q-high in
+    let lr : length r ≡ length g = ap length products ∙ length-eachWith (mul m) v g ∙ length-high (length g) l el in
+    let la : length a ≡ length g = ap length ea ∙ length-xorRow (take (length g) l) r ∙ length-low (length g) l el in
+    let s-low : s ≡ a = es ∙ low-copied (length g) l el a la r lr in
+    high-added (length g) l el a la s ey ∙ ap (λ (x : List ℕ). a ++ xorRow v x) s-low
+    ∙ ap (λ (x : List ℕ). x ++ xorRow v x) (ea ∙ ap (xorRow (take (length g) l)) products)
 
 pub parts-all : (m j : ℕ) → j < m → 2 ^ m ≡ 2 ^ j * (2 ^ (m - suc j) + 2 ^ (m - suc j))
 parts-all m j h =

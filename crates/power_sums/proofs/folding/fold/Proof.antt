@@ -1,112 +1,124 @@
 -- `power_sums::folding::fold` meets its contract. Assumes nothing.
-use mathlib.Core.Path.{_≡_, refl, _∙_}
-use Prim.Native.Nat.{_-_, _≤_}
+use mathlib.Core.Path.{sym, ap, _∙_}
 use native.Mathlib.Omega.{arith}
-use lib.ListN.{length, length-set}
 use borrow.Author.Needs.{needs}
+use lib.ListN.{length}
+use Rattle.bits.proofs.Rows.{length-xorRow}
+use Rattle.levels.proofs.Halves.{length-low, kept-fits, kept-low}
+use Rattle.power_sums.proofs.Summing.{fold-form}
 use Rattle.power_sums.proofs.folding.fold.Statement.{statement}
 use Rattle.power_sums.proofs.folding.fold.Tie as tie
-use Rattle.power_sums.proofs.Loops.{foldedTo, folded-start, folded-next, folded-all}
-use Rattle.field.proofs.Products.{product-field}
-use Rattle.bits.specs.Xor.{_⊕_}
 
-abbrev Inv-loop : tie.InvT-loop
-Inv-loop m b₀ g f h i₀ b i = (i ≤ h) × (length b ≡ length b₀) × (b ≡ foldedTo m g b₀ i)
+mul-copy-each : tie.Need-mul-copy-each
+mul-copy-each c = search needs
 
-abbrev μ-loop : tie.MeasureT-loop
-μ-loop m b₀ g f h i₀ b i = h - i
+sub-copy-each : tie.Need-sub-copy-each
+sub-copy-each c = search needs
 
-modulus-requires : tie.Need-modulus-requires Inv-loop μ-loop
-modulus-requires c κs = search needs
+part-copy-each-start : tie.Need-part-copy-each-start
+part-copy-each-start c = search needs
 
-loop-holds : tie.Need-loop-holds Inv-loop μ-loop
-loop-holds c = let a = c .before .before .before .args in (omega arith, refl, folded-start (a .m) (a .g .now) (a .b .now))
+part-copy-each-end : tie.Need-part-copy-each-end
+part-copy-each-end c = search needs
 
-add-v : tie.Need-add-v Inv-loop μ-loop
-add-v c = search needs
+copy-each-requires : tie.Need-copy-each-requires
+copy-each-requires c κs = tt
 
-mul-v : tie.Need-mul-v Inv-loop μ-loop
-mul-v c = search needs
+slice-relend-prefix-add-each : tie.Need-slice-relend-prefix-add-each
+slice-relend-prefix-add-each c = omega (arith, c .before .before .before .before .before .before .before .before .before .pre .1)
 
-slice-read-v : tie.Need-slice-read-v Inv-loop μ-loop
-slice-read-v c = search needs
+slice-aggregate-add-each : tie.Need-slice-aggregate-add-each
+slice-aggregate-add-each c = let s = c .before .before .before .before .before .before .before .before .before .before in sym (length-low (length (s .args .g .now)) (s .args .b .now) (s .pre .1))
 
-mul-a : tie.Need-mul-a Inv-loop μ-loop
-mul-a c = search needs
+add-each-requires : tie.Need-add-each-requires
+add-each-requires c κs = tt
 
-slice-read-a : tie.Need-slice-read-a Inv-loop μ-loop
-slice-read-a c = search needs
+slice-reshare-prefix-copy-each : tie.Need-slice-reshare-prefix-copy-each
+slice-reshare-prefix-copy-each c =
+    let d = c .before .before .before in
+    let s = d .before .before .before .before .before .before .before .before .before .before .before .before in
+    let g = s .args .g .now in
+    let b = s .args .b .now in
+    kept-fits (length g) b (s .pre .1) (d .add-each .last .0) (ap length (d .add-each .ensures) ∙ length-xorRow _ _ ∙ length-low (length g) b (s .pre .1))
 
-mul-b : tie.Need-mul-b Inv-loop μ-loop
-mul-b c = search needs
+slice-aggregate-copy-each : tie.Need-slice-aggregate-copy-each
+slice-aggregate-copy-each c =
+    let d = c .before .before .before .before in
+    let s = d .before .before .before .before .before .before .before .before .before .before .before .before in
+    let g = s .args .g .now in
+    let b = s .args .b .now in
+    kept-low (length g) b (s .pre .1) (d .add-each .last .0) (ap length (d .add-each .ensures) ∙ length-xorRow _ _ ∙ length-low (length g) b (s .pre .1))
 
-slice-write-b : tie.Need-slice-write-b Inv-loop μ-loop
-slice-write-b c = search needs
+copy-each-requires-2 : tie.Need-copy-each-requires-2
+copy-each-requires-2 c κs = tt
 
-mul-lane-product : tie.Need-mul-lane-product Inv-loop μ-loop
-mul-lane-product c = search needs
+horner-each-requires : tie.Need-horner-each-requires
+horner-each-requires c κs = tt
 
-shared-slice-read-lane-product : tie.Need-shared-slice-read-lane-product Inv-loop μ-loop
-shared-slice-read-lane-product c = search needs
+mul-add-each : tie.Need-mul-add-each
+mul-add-each c = search needs
 
-lane-product-requires : tie.Need-lane-product-requires Inv-loop μ-loop
-lane-product-requires c κs = search needs
+sub-add-each : tie.Need-sub-add-each
+sub-add-each c =
+    let d = c .before .before .before .before .before .before .before .before .before .before .before in
+    let s = d .before .before .before .before .before .before .before .before .before .before .before .before in
+    let g = s .args .g .now in
+    let b = s .args .b .now in
+    kept-fits (length g) b (s .pre .1) (d .add-each .last .0) (ap length (d .add-each .ensures) ∙ length-xorRow _ _ ∙ length-low (length g) b (s .pre .1))
 
-add-b : tie.Need-add-b Inv-loop μ-loop
-add-b c = search needs
+part-add-each-start : tie.Need-part-add-each-start
+part-add-each-start c =
+    let d = c .before .before .before .before .before .before .before .before .before .before .before in
+    let s = d .before .before .before .before .before .before .before .before .before .before .before .before in
+    let g = s .args .g .now in
+    let b = s .args .b .now in
+    kept-fits (length g) b (s .pre .1) (d .add-each .last .0) (ap length (d .add-each .ensures) ∙ length-xorRow _ _ ∙ length-low (length g) b (s .pre .1))
 
-mul-b-2 : tie.Need-mul-b-2 Inv-loop μ-loop
-mul-b-2 c = search needs
+part-add-each-end : tie.Need-part-add-each-end
+part-add-each-end c = search needs
 
-slice-write-b-2 : tie.Need-slice-write-b-2 Inv-loop μ-loop
-slice-write-b-2 c = simp length-set (omega arith)
+add-each-requires-2 : tie.Need-add-each-requires-2
+add-each-requires-2 c κs = tt
 
-add-i : tie.Need-add-i Inv-loop μ-loop
-add-i c = search needs
-
-loop-less : tie.Need-loop-less Inv-loop μ-loop
-loop-less c = search needs
-
-loop-again : tie.Need-loop-again Inv-loop μ-loop
-unfolding _⊕_
-loop-again c =
-    let l = c .before .before .before .before .before .loop in
-    let s = c .before .before .before .before .before .before .before .before .before in
-    let a = s .args in (
-      omega arith,
-      simp length-set (omega arith),
-      folded-next (a .m) (a .g .now) (a .b .now) (s .pre .1) (l .i) (l .b) (c .lane-product .result) (l .inv .2) (omega arith) (c .lane-product .ensures ∙ product-field (a .m) _ _ _ (s .pre .0) (c .before .before .before .before .before .before .modulus .ensures)),
-    )
-
-same-length : tie.Need-same-length Inv-loop μ-loop
+same-length : tie.Need-same-length
 same-length c = search needs
 
-returns : tie.Need-returns Inv-loop μ-loop
-returns c = let a = c .before .before .before .before .before .args in c .before .loop .inv .2 ∙ folded-all (a .m) (a .g .now) (a .b .now) (c .before .before .before .before .before .pre .1) (c .before .loop .i) (omega arith)
+same-length-2 : tie.Need-same-length-2
+same-length-2 c = search needs
+
+returns : tie.Need-returns
+returns c =
+    let y = c .before .before in
+    let r = y .before .before .before .before .before in
+    let k = r .before .before .before .before in
+    let d = k .before .before .before .before .before in
+    let q = d .before .before .before .before .before in
+    let s = q .before .before .before .before .before .before .before in
+    let a = s .args in
+    fold-form (a .m) (s .pre .0) (a .g .now) (a .b .now) (a .p .now) (s .pre .1) (s .pre .2) (q .copy-each .ensures) (d .add-each .ensures) (k .copy-each2 .ensures)
+    (r .horner-each .ensures) (y .add-each2 .ensures)
 
 pub fold-spec : {M : Type 1} → statement M
 fold-spec =
     tie.close
     (tie.spec
-    Inv-loop
-    μ-loop
-    modulus-requires
-    loop-holds
-    add-v
-    mul-v
-    slice-read-v
-    mul-a
-    slice-read-a
-    mul-b
-    slice-write-b
-    mul-lane-product
-    shared-slice-read-lane-product
-    lane-product-requires
-    add-b
-    mul-b-2
-    slice-write-b-2
-    add-i
-    loop-less
-    loop-again
+    mul-copy-each
+    sub-copy-each
+    part-copy-each-start
+    part-copy-each-end
+    copy-each-requires
+    slice-relend-prefix-add-each
+    slice-aggregate-add-each
+    add-each-requires
+    slice-reshare-prefix-copy-each
+    slice-aggregate-copy-each
+    copy-each-requires-2
+    horner-each-requires
+    mul-add-each
+    sub-add-each
+    part-add-each-start
+    part-add-each-end
+    add-each-requires-2
     same-length
+    same-length-2
     returns)

@@ -7,7 +7,7 @@ use borrow.Author.Needs.{needs}
 use Rattle.field.proofs.Table.{width-narrow}
 use Rattle.levels.proofs.TwoPowers.{two-below}
 use Rattle.power_sums.specs.Sums.{weightsOf}
-use Rattle.power_sums.proofs.Summing.{half-fits, fold-length, weights-next, weights-length}
+use Rattle.power_sums.proofs.Summing.{half-fits, factors-few, fold-length, weights-next, weights-length}
 use Rattle.power_sums.proofs.totals.fold_down.Statement.{statement}
 use Rattle.power_sums.proofs.totals.fold_down.Tie as tie
 
@@ -64,8 +64,12 @@ fold-level-requires c κs =
     let l = h .before .before .loop in
     let s = h .before .before .before .before .before in
     let a = s .args in
-    let n = width-narrow _ (s .pre .0) in
-    (s .pre .0, fold-length (a .m) (a .k) (l .j) (h .two .result) (a .g .now) (omega arith) (omega arith) n (h .two .ensures) (s .pre .3) (q .two2 .result) (two-below _ (q .two2 .ensures) (omega arith)) (l .inv .1 ∙ s .pre .2))
+    let n = width-narrow _ (s .pre .0) in (
+      s .pre .0,
+      fold-length (a .m) (a .k) (l .j) (h .two .result) (a .g .now) (omega arith) (omega arith) n (h .two .ensures) (s .pre .3) (q .two2 .result)
+          (two-below _ (q .two2 .ensures) (omega arith)) (l .inv .1 ∙ s .pre .2),
+      factors-few (a .m) (a .k) (l .j) (h .two .result) (a .g .now) (omega arith) (omega arith) n (h .two .ensures) (s .pre .3),
+    )
 
 add-j : tie.Need-add-j Inv-loop μ-loop
 add-j c = omega arith

@@ -8,7 +8,7 @@ use borrow.Author.Needs.{needs}
 use Rattle.transform.proofs.everywhere.ascend.Statement.{statement}
 use Rattle.transform.proofs.everywhere.ascend.Tie as tie
 use Rattle.transform.specs.Values.{joinsOf}
-use Rattle.transform.proofs.Wholes.{half-fits, join-length, join-next, joined-length}
+use Rattle.transform.proofs.Wholes.{half-fits, factors-length, join-length, join-next, joined-length}
 use Rattle.field.proofs.Table.{width-narrow}
 use Rattle.levels.specs.Levels.{twoOf}
 use Rattle.levels.proofs.TwoPowers.{two-below}
@@ -71,10 +71,15 @@ join-level-requires c κs =
     let h = c .before .before .before in
     let l = h .before .before .loop in
     let s = h .before .before .before .before .before in
-    let n = width-narrow _ (s .pre .0) in (
+    let a = s .args in
+    let n = width-narrow _ (s .pre .0) in
+    let eh = half-at (a .m) (a .k) (l .j) (omega arith) (omega arith) (omega arith) n (h .two .ensures) in
+    let few = half-fits (a .m) (a .k) (l .j) (h .two .result) (a .g .now) (omega arith) (omega arith) (omega arith) eh n in
+    let size = factors-length (a .m) (a .k) (l .j) (h .two .result) (a .g .now) (omega arith) (omega arith) (omega arith) eh (s .pre .3) in (
       s .pre .0,
-      join-length (s .args .m) (s .args .k) (l .j) (h .two .result) (s .args .g .now) (omega arith) (omega arith) (omega arith) (half-at (s .args .m) (s .args .k) (l .j) (omega arith) (omega arith) (omega arith) n (h .two .ensures))
-          (s .pre .3) (two-below _ (c .before .two2 .ensures) (omega arith)) (l .inv .1 ∙ s .pre .2),
+      join-length (a .m) (a .k) (l .j) (h .two .result) (a .g .now) (omega arith) (omega arith) (omega arith) eh (s .pre .3)
+          (two-below _ (c .before .two2 .ensures) (omega arith)) (l .inv .1 ∙ s .pre .2),
+      omega (arith, size, few),
     )
 
 loop-less : tie.Need-loop-less Inv-loop μ-loop
