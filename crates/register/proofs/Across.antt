@@ -40,12 +40,12 @@ module _ (m d n : ℕ) (r : Register) where
       ap₂ with-c (turn-fix m d n r refl e h) (ne-eqb d 0 e)
       ∙ ap (λ (c : List ℕ). record { c = c; l = r .l; b = r .b; d = r .d; y = r .y + 1 }) (sym f)
 
-  pub across-grow : {c : List ℕ} → c ≡ correctedAcross m r d → (d ≡ 0 → ⊥) → 2 * r .l ≤ n
-      → turnAcross m d n r ≡ record { c = c; l = n + 1 - r .l; b = r .c; d = d; y = 1 }
+  pub across-grow : {c b : List ℕ} → c ≡ correctedAcross m r d → b ≡ r .c → (d ≡ 0 → ⊥) → 2 * r .l ≤ n
+      → turnAcross m d n r ≡ record { c = c; l = n + 1 - r .l; b = b; d = d; y = 1 }
   unfolding turnAcross with-c
-  across-grow f e h =
+  across-grow f g e h =
       ap₂ with-c (turn-grow m d n r refl e h) (ne-eqb d 0 e)
-      ∙ ap (λ (c : List ℕ). record { c = c; l = n + 1 - r .l; b = r .c; d = d; y = 1 }) (sym f)
+      ∙ ap₂ (λ (c b : List ℕ). record { c = c; l = n + 1 - r .l; b = b; d = d; y = 1 }) (sym f) (sym g)
 
 -- a multiple of a sum and of a shifted list
 module _ (m a : ℕ) where
@@ -180,7 +180,7 @@ module _ (m : ℕ) (W : Width m) where
           l-same = g .l-same;
           y-same = ap (λ (y : ℕ). y + 1) (g .y-same);
         }))
-        (λ p w. rw (across-grow m x n r refl (some p) (rw (g .l-same) w)) (record {
+        (λ p w. rw (across-grow m x n r refl refl (some p) (rw (g .l-same) w)) (record {
           a = k;
           e = g .a;
           unit-a = unit-k;
@@ -210,9 +210,9 @@ module _ (m : ℕ) (W : Width m) where
             omega arith
 
   -- before the first turn
-  pub start-multiple : (s : List ℕ) (r : Register) → r ≡ start → Multiple m r (after m s 0)
+  pub start-multiple : (s : List ℕ) → Multiple m start (after m s 0)
   unfolding start longest
-  start-multiple s r f = rw (f, after-none m s) (record {
+  start-multiple s = rw (after-none m s) (record {
     a = 1;
     e = 1;
     unit-a = one-unit;

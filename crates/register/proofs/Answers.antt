@@ -1,5 +1,5 @@
 -- What the call answers: a refusal, or the register. Assumes nothing.
-use mathlib.Core.Path.{_≡_, refl, sym, ap, ap₂, _∙_}
+use mathlib.Core.Path.{_≡_, refl, sym, ap, ap₂}
 use mathlib.Core.List.{List}
 use Prim.Native.Nat.{ℕ, zero, suc}
 use lib.ListN.{replicate}
@@ -14,8 +14,11 @@ module _ (m : ℕ) (s : List ℕ) where
   refused zero e h = absurd (h refl)
   refused (suc n) e h = ap (λ (k : ℕ). registered k (register m s)) e
 
-  pub found : (l : ℕ) (c : List ℕ) → registerNumber m s ≡ 0 → l ≡ register m s .l → c ≡ register m s .c
-      → _≡_ {A = Registered} record { refused = 0; length = l; c = c } (registeredOf m s)
-  unfolding registeredOf registered
-  found l c e h k =
-      ap₂ (λ (l : ℕ) (c : List ℕ). record { refused = 0; length = l; c = c }) h k ∙ ap (λ (k : ℕ). registered k (register m s)) (sym e)
+  pub found : {l : ℕ} {c : List ℕ} → l ≡ register m s .l → c ≡ register m s .c
+      → _≡_ {A = Registered} record { refused = 0; length = l; c = c } (registered 0 (register m s))
+  unfolding registered
+  found h k = ap₂ (λ (l : ℕ) (c : List ℕ). record { refused = 0; length = l; c = c }) h k
+
+  pub answered : registerNumber m s ≡ 0 → registered 0 (register m s) ≡ registeredOf m s
+  unfolding registeredOf
+  answered e = ap (λ (k : ℕ). registered k (register m s)) (sym e)

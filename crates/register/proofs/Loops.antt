@@ -8,13 +8,13 @@ use native.Mathlib.Omega.{arith}
 use native.Mathlib.Decide.{decLt}
 use lib.Pow.{pow-mono}
 use lib.ListN.{length, getD, take, set, replicate, length-replicate, length-set}
-use lib.Seq.{getD-append-add, getD-set-same, getD-set-other, getD-take, length-take-le}
+use lib.Seq.{ext-getD, getD-append-add, getD-set-same, getD-set-other, getD-take, length-take-le}
 use Rattle.bits.specs.Xor.{_⊕_}
 use Rattle.bits.specs.Bits.{from, eachWith, xorRow}
 use Rattle.bits.proofs.Xor.{xor-zero}
 use Rattle.bits.proofs.Bits.{zeros-at}
 use Rattle.bits.proofs.Lists.{map-from}
-use Rattle.bits.proofs.Each.{eachWith-nil, eachWith-suc}
+use Rattle.bits.proofs.Each.{length-eachWith, eachWith-nil, eachWith-suc, eachWith-take, eachWith-at}
 use Rattle.field.specs.Field.{mul}
 use Rattle.field.specs.Poly.{hornerEach}
 use Rattle.field.proofs.Table.{Width, width-narrow}
@@ -34,6 +34,26 @@ partly-past c p y k i h z = each-rest _⊕_ c (replicate y 0 ++ p) i λ j l.
     ap (_⊕_ (getD c j 0))
     (ap (λ (x : ℕ). getD (replicate y 0 ++ p) x 0) (sym e) ∙ getD-append-add (replicate y 0) p (j - y) 0 ∙ z (j - y) (omega arith))
     ∙ xor-zero (getD c j 0)
+
+-- c in the place of b, with the first places done: none; one more; all
+module _ (b c : List ℕ) where
+  unfoldable pub copiedTo : ℕ → List ℕ
+  copiedTo i = eachWith (λ x y. y) b (take i c)
+
+  pub copied-none : b ≡ copiedTo 0
+  unfolding copiedTo
+  copied-none = sym (eachWith-nil (λ x y. y) b)
+
+  pub copied-next : (i : ℕ) → i < length c → i < length b → set (copiedTo i) i (getD c i 0) ≡ copiedTo (i + 1)
+  unfolding copiedTo
+  copied-next i h k = eachWith-suc (λ x y. y) b c i h k ∙ ap copiedTo (sym (add-one i))
+
+  pub copied-all : (i : ℕ) → length b ≡ length c → length c ≤ i → copiedTo i ≡ c
+  unfolding copiedTo
+  copied-all i e h =
+      let l : length (eachWith (λ x y. y) b c) ≡ length b = length-eachWith (λ x y. y) b c in
+      eachWith-take (λ x y. y) b c i (λ k. omega arith)
+      ∙ ext-getD 0 (eachWith (λ x y. y) b c) c (l ∙ e) (λ j k. eachWith-at (λ x y. y) b c j (omega arith) (omega arith))
 
 -- a·c, with the first places done: none; one more; all, where c has 0 past the place l
 module _ (m a : ℕ) (c : List ℕ) where

@@ -4,11 +4,11 @@ use mathlib.Core.List.{List}
 use lib.ListN.{replicate}
 use Rattle.poly.specs.Register.{Register, longest, register, registerNumber}
 use Rattle.register.specs.declared.Registered.{Registered}
-use Rattle.register.specs.declared.State.{State}
+use Rattle.register.specs.declared.Step.{Step}
 
 -- the code's state as Figure 1's
-abbrev pub figure : State → Register
-figure s = record { c = s .c; l = s .l; b = s .b; d = s .d; y = s .y }
+abbrev pub figure : List ℕ → List ℕ → Step → Register
+figure c b k = record { c = c; l = k .l; b = b; d = k .d; y = k .y }
 
 -- the register where the number is 0, else the refusal with that number
 unfoldable pub registered : ℕ → Register → Registered

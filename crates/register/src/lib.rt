@@ -13,9 +13,9 @@ ghost use Rattle.field.specs.Answers.{isUnit};
 ghost use Rattle.field.specs.Verdicts.{verdictOf};
 ghost use Rattle.field.specs.PointTable.{digitSum};
 ghost use Rattle.poly.specs.Polynomials.{sum};
-ghost use Rattle.poly.specs.Register.{start as startOf, register as registerOf, registerNumber};
+ghost use Rattle.poly.specs.Register.{register as registerOf, registerNumber};
 ghost use Rattle.poly.specs.Parts.{Earlier};
-ghost use Rattle.register.specs.Registered.{figure, registeredOf};
+ghost use Rattle.register.specs.Registered.{figure, registered, registeredOf};
 ghost use Rattle.register.specs.Across.{Past, Multiples, Fits, discrepancyAcross, correctedAcross, turnAcross, divided};
 
 // A register: its length and its connection polynomial's coefficients 0 to 256, with 0 past the length; or the number of
@@ -27,11 +27,9 @@ pub struct Registered {
     pub c: [u16; Registered::COEFFICIENTS],
 }
 
-// Figure 1's l and y, its C(x) multiplied by a unit, and its B(x) and d_m by another.
-struct State {
-    c: [u16; Registered::COEFFICIENTS],
+// Figure 1's l and y, and its d_m multiplied by a unit; B(x), beside it, by the same, and C(x) by another.
+struct Step {
     l: usize,
-    b: [u16; Registered::COEFFICIENTS],
     d: u16,
     y: usize,
 }
@@ -55,14 +53,7 @@ impl Registered {
                 c: [0u16; Registered::COEFFICIENTS],
             };
         };
-        let r = run(m, s);
-        let q = r.c;
-        let c = quotient(m, q, r.l);
-        Registered {
-            refused: 0,
-            length: r.l,
-            c,
-        }
+        run(m, s)
     }
 }
 
@@ -82,56 +73,47 @@ fn check(m: u8, s: &[u16]) -> Verdict
     Verdict::Accepted
 }
 
-// Figure 1 over the whole list, without quotients.
-fn run(m: u8, s: &[u16]) -> State
+// Figure 1 over the whole list, without quotients but for the last step.
+fn run(m: u8, s: &[u16]) -> Registered
     requires { ⌜ (isWidth m ≡ true) × (length (now s) ≤ 256) × (every (isElement m) (now s) ≡ true) ⌝ }
-    ensures { λ r. ⌜ (r .l ≡ registerOf m (now (s .entry)) .l) × (Past (r .l) (r .c)) × (isUnit m (getD (r .c) 0 0) ≡ true)
-        × (divided m (r .c) ≡ registerOf m (now (s .entry)) .c) ⌝ }
+    ensures { λ r. ⌜ r ≡ registered 0 (registerOf m (now (s .entry))) ⌝ }
 {
-    let mut r = start();
+    let mut c = [0u16; Registered::COEFFICIENTS];
+    c[0] = 1;
+    let mut b = c;
+    let mut k = Step { l: 0, d: 1, y: 1 };
     let mut n = 0;
     while n < s.len() {
-        let c = r.c;
-        let d = discrepancy(m, s, c, r.l, n);
-        r = turn(m, d, n, r);
+        let d = discrepancy(m, s, &c, k.l, n);
+        k = turn(m, d, n, k, &mut c, &mut b);
         n += 1;
     }
-    r
-}
-
-// Lines 1 and 2.
-fn start() -> State
-    ensures { λ r. ⌜ figure r ≡ startOf ⌝ }
-{
-    let mut one = [0u16; Registered::COEFFICIENTS];
-    one[0] = 1;
-    State {
-        c: one,
-        l: 0,
-        b: one,
-        d: 1,
-        y: 1,
+    let q = quotient(m, c, k.l);
+    Registered {
+        refused: 0,
+        length: k.l,
+        c: q,
     }
 }
 
-// The first l + 1 places, with others up to a multiple of 16, so that the loops over places vectorise.
+// The first l + 1 places, with others up to a multiple of 8, so that the loops over places vectorise.
 fn places(l: usize) -> usize
     requires { ⌜ l ≤ 256 ⌝ }
-    ensures { λ e. ⌜ e ≡ min ((l / 16 + 1) * 16) 257 ⌝ }
+    ensures { λ e. ⌜ e ≡ min ((l / 8 + 1) * 8) 257 ⌝ }
 {
-    bits::smaller((l / 16 + 1) * 16, Registered::COEFFICIENTS)
+    bits::smaller((l / 8 + 1) * 8, Registered::COEFFICIENTS)
 }
 
 // Line 3 for any c_0: c_0·s_n + the sum of c_i·s_{n-i}, i from 1 to l, the products over all places at once.
-fn discrepancy(m: u8, s: &[u16], c: [u16; Registered::COEFFICIENTS], l: usize, n: usize) -> u16
-    requires { ⌜ (isWidth m ≡ true) × (l ≤ n) × (n < length (now s)) × (n < 256) ⌝ }
-    ensures { λ d. ⌜ d ≡ discrepancyAcross m (now (s .entry)) c l n ⌝ }
+fn discrepancy(m: u8, s: &[u16], c: &[u16], l: usize, n: usize) -> u16
+    requires { ⌜ (isWidth m ≡ true) × (length (now c) ≡ 257) × (l ≤ n) × (n < length (now s)) × (n < 256) ⌝ }
+    ensures { λ d. ⌜ d ≡ discrepancyAcross m (now (s .entry)) (now (c .entry)) l n ⌝ }
 {
     let e = places(l);
     let mut p = earlier(s, n, l);
     p[0] = s[n];
     field_places::horner_each(m, &mut p, &c[..e], 0);
-    total(p[0], p, l)
+    total(p[0], &p, l)
 }
 
 // s_{n-i} at the places i from 1 to l.
@@ -149,9 +131,9 @@ fn earlier(s: &[u16], n: usize, l: usize) -> [u16; Registered::COEFFICIENTS]
 }
 
 // x + the sum of p's places 1 to l.
-fn total(x: u16, p: [u16; Registered::COEFFICIENTS], l: usize) -> u16
-    requires { ⌜ l ≤ 256 ⌝ }
-    ensures { λ d. ⌜ d ≡ x ⊕ sum (map (λ i. getD p i 0) (from 1 l)) ⌝ }
+fn total(x: u16, p: &[u16], l: usize) -> u16
+    requires { ⌜ (l ≤ 256) × (length (now p) ≡ 257) ⌝ }
+    ensures { λ d. ⌜ d ≡ x ⊕ sum (map (λ i. getD (now (p .entry)) i 0) (from 1 l)) ⌝ }
 {
     let mut d = x;
     let mut i = 1;
@@ -163,53 +145,66 @@ fn total(x: u16, p: [u16; Registered::COEFFICIENTS], l: usize) -> u16
 }
 
 // Lines 4 to 16.
-fn turn(m: u8, d: u16, n: usize, r: State) -> State
-    requires { ⌜ (isWidth m ≡ true) × (r .l + r .y ≤ n + 1) × (n < 256) × Past (r .l) (r .c) × Past (n + 1 - r .l - r .y) (r .b) ⌝ }
-    ensures { λ t. ⌜ figure t ≡ turnAcross m d n (figure r) ⌝ }
+fn turn(m: u8, d: u16, n: usize, k: Step, c: &mut [u16], b: &mut [u16]) -> Step
+    requires { ⌜ (isWidth m ≡ true) × (length (now c) ≡ 257) × (length (now b) ≡ 257) × (k .l + k .y ≤ n + 1) × (n < 256)
+        × Past (k .l) (now c) × Past (n + 1 - k .l - k .y) (now b) ⌝ }
+    ensures { λ t. ⌜ figure (now (c .exit)) (now (b .exit)) t ≡ turnAcross m d n (figure (now (c .entry)) (now (b .entry)) k) ⌝ }
 {
     if d == 0 {
-        let c = r.c;
-        let b = r.b;
-        return State {
-            c,
-            l: r.l,
-            b,
-            d: r.d,
-            y: r.y + 1,
+        return Step {
+            l: k.l,
+            d: k.d,
+            y: k.y + 1,
         };
     }
-    let c = corrected(m, r, d, n);
-    if n < 2 * r.l {
-        let b = r.b;
-        return State {
-            c,
-            l: r.l,
-            b,
-            d: r.d,
-            y: r.y + 1,
+    if n < 2 * k.l {
+        correct(m, d, n, k, c, b);
+        return Step {
+            l: k.l,
+            d: k.d,
+            y: k.y + 1,
         };
     }
-    let b = r.c;
-    State {
-        c,
-        l: n + 1 - r.l,
-        b,
+    let old = copied(c);
+    correct(m, d, n, k, c, b);
+    copy(b, &old);
+    Step {
+        l: n + 1 - k.l,
         d,
         y: 1,
     }
 }
 
-// Lines 7 and 11, multiplied by d_m: d_m·C(x) - d·x^y·B(x).
-fn corrected(m: u8, r: State, d: u16, n: usize) -> [u16; Registered::COEFFICIENTS]
-    requires { ⌜ (isWidth m ≡ true) × (r .l + r .y ≤ n + 1) × (n < 256) × Past (r .l) (r .c) × Past (n + 1 - r .l - r .y) (r .b) ⌝ }
-    ensures { λ c. ⌜ c ≡ correctedAcross m (figure r) d ⌝ }
+// The list's 257 coefficients.
+fn copied(c: &[u16]) -> [u16; Registered::COEFFICIENTS]
+    requires { ⌜ length (now c) ≡ 257 ⌝ }
+    ensures { λ r. ⌜ r ≡ now (c .entry) ⌝ }
 {
-    let k = n + 1 - r.l - r.y;
-    let c = r.c;
-    let b = r.b;
-    let q = scaled(m, r.d, c, r.l);
-    let p = scaled(m, d, b, k);
-    added(q, p, r.y, k)
+    let mut r = [0u16; Registered::COEFFICIENTS];
+    copy(&mut r, c);
+    r
+}
+
+// 257 coefficients in the place of others.
+fn copy(b: &mut [u16], c: &[u16])
+    requires { ⌜ (length (now b) ≡ 257) × (length (now c) ≡ 257) ⌝ }
+    ensures { λ _. ⌜ now (b .exit) ≡ now (c .entry) ⌝ }
+{
+    let mut i = 0;
+    while i < Registered::COEFFICIENTS {
+        b[i] = c[i];
+        i += 1;
+    }
+}
+
+// Lines 7 and 11, multiplied by d_m: d_m·C(x) - d·x^y·B(x).
+fn correct(m: u8, d: u16, n: usize, k: Step, c: &mut [u16], b: &[u16])
+    requires { ⌜ (isWidth m ≡ true) × (length (now c) ≡ 257) × (length (now b) ≡ 257) × (k .l + k .y ≤ n + 1) × (n < 256)
+        × Past (k .l) (now c) × Past (n + 1 - k .l - k .y) (now b) ⌝ }
+    ensures { λ _. ⌜ now (c .exit) ≡ correctedAcross m (figure (now (c .entry)) (now (b .entry)) k) d ⌝ }
+{
+    scale(m, k.d, c, k.l);
+    add_multiple(m, d, c, b, k.y, n + 1 - k.l - k.y);
 }
 
 // a·z^j for each j below 13; 0 where j is no digit of the field.
@@ -245,48 +240,35 @@ fn combined(t: &[u16; 13], x: u16) -> u16
     s
 }
 
-// a·c, for c with 0 past the place l.
-fn scaled(
-    m: u8,
-    a: u16,
-    c: [u16; Registered::COEFFICIENTS],
-    l: usize,
-) -> [u16; Registered::COEFFICIENTS]
-    requires { ⌜ (isWidth m ≡ true) × (l ≤ 256) × Past l c ⌝ }
-    ensures { λ r. ⌜ r ≡ map (mul m a) c ⌝ }
+// c := a·c, for c with 0 past the place l.
+fn scale(m: u8, a: u16, c: &mut [u16], l: usize)
+    requires { ⌜ (isWidth m ≡ true) × (length (now c) ≡ 257) × (l ≤ 256) × Past l (now c) ⌝ }
+    ensures { λ _. ⌜ now (c .exit) ≡ map (mul m a) (now (c .entry)) ⌝ }
 {
     let t = multiples(m, a);
     let e = places(l);
-    let mut r = c;
     let mut i = 0;
     while i < e {
-        r[i] = combined(&t, r[i]);
+        c[i] = combined(&t, c[i]);
         i += 1;
     }
-    r
 }
 
-// c + x^y·p, as far as c goes, for p with 0 past the place k.
-fn added(
-    c: [u16; Registered::COEFFICIENTS],
-    p: [u16; Registered::COEFFICIENTS],
-    y: usize,
-    k: usize,
-) -> [u16; Registered::COEFFICIENTS]
-    requires { ⌜ (y + k ≤ 256) × Past k p ⌝ }
-    ensures { λ r. ⌜ r ≡ xorRow c (replicate y 0 ++ p) ⌝ }
+// c := c + a·x^y·b, as far as c goes, for b with 0 past the place k.
+fn add_multiple(m: u8, a: u16, c: &mut [u16], b: &[u16], y: usize, k: usize)
+    requires { ⌜ (isWidth m ≡ true) × (length (now c) ≡ 257) × (length (now b) ≡ 257) × (y + k ≤ 256) × Past k (now b) ⌝ }
+    ensures { λ _. ⌜ now (c .exit) ≡ xorRow (now (c .entry)) (replicate y 0 ++ map (mul m a) (now (b .entry))) ⌝ }
 {
-    let e = y + k + 1;
-    let mut r = c;
+    let t = multiples(m, a);
+    let e = bits::smaller(y + places(k), Registered::COEFFICIENTS);
     let mut i = y;
     while i < e {
-        r[i] ^= p[i - y];
+        c[i] ^= combined(&t, b[i - y]);
         i += 1;
     }
-    r
 }
 
-// c / c_0.
+// c / c_0, for c with 0 past the place l.
 fn quotient(m: u8, c: [u16; Registered::COEFFICIENTS], l: usize) -> [u16; Registered::COEFFICIENTS]
     requires { ⌜ (isWidth m ≡ true) × (l ≤ 256) × (Past l c) × (isUnit m (getD c 0 0) ≡ true) ⌝ }
     ensures { λ r. ⌜ r ≡ divided m c ⌝ }
@@ -296,5 +278,7 @@ fn quotient(m: u8, c: [u16; Registered::COEFFICIENTS], l: usize) -> [u16; Regist
     let Answer::Value(v) = i else {
         return c;
     };
-    scaled(m, v, c, l)
+    let mut r = c;
+    scale(m, v, &mut r, l);
+    r
 }

@@ -26,12 +26,8 @@ array-write-p c = search needs
 slice-aggregate-horner-each : tie.Need-slice-aggregate-horner-each
 slice-aggregate-horner-each c = search needs
 
-array-share-prefix-c : tie.Need-array-share-prefix-c
-array-share-prefix-c c = search needs
-
 slice-aggregate-horner-each-2 : tie.Need-slice-aggregate-horner-each-2
-slice-aggregate-horner-each-2 c =
-    let h : length (c .before .before .before .before .before .before .args .t3) ≡ 257 = search needs in sym (length-take-le _ _ (omega arith))
+slice-aggregate-horner-each-2 c = sym (length-take-le _ _ (omega arith))
 
 horner-each-requires : tie.Need-horner-each-requires
 horner-each-requires c κs = search needs
@@ -39,19 +35,21 @@ horner-each-requires c κs = search needs
 array-read-total : tie.Need-array-read-total
 array-read-total c = search needs
 
+slice-aggregate-total : tie.Need-slice-aggregate-total
+slice-aggregate-total c = search needs
+
 total-requires : tie.Need-total-requires
 total-requires c κs = search needs
 
 returns : tie.Need-returns
 returns c =
-    let h = c .before .before in
+    let h = c .before .before .before in
     let e = h .before .before .before .before in
-    let b = e .before .before .before in
-    let k : length (b .args .t3) ≡ 257 = search needs in
+    let b = e .before .before .before .before in
     let j : length (e .earlier .result) ≡ 257 = search needs in
     c .total .ensures
-    ∙ discrepancy-at (b .args .m) (b .args .s .now) (b .args .t3) (e .earlier .result) _ (b .args .l) (b .args .n) (e .before .places .result) (b .pre .0) (e .earlier .ensures)
-    (h .horner-each .ensures) (omega arith) (omega arith) (omega arith)
+    ∙ discrepancy-at (b .args .m) (b .args .s .now) (b .args .c .now) (e .earlier .result) _ (b .args .l) (b .args .n) (e .before .places .result) (b .pre .0)
+    (e .earlier .ensures) (h .horner-each .ensures) (omega arith) (omega arith) (omega arith)
 
 pub discrepancy-spec : {M : Type 1} → statement M
 discrepancy-spec =
@@ -63,9 +61,9 @@ discrepancy-spec =
     shared-slice-read-p
     array-write-p
     slice-aggregate-horner-each
-    array-share-prefix-c
     slice-aggregate-horner-each-2
     horner-each-requires
     array-read-total
+    slice-aggregate-total
     total-requires
     returns)

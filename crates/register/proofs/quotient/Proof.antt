@@ -23,15 +23,19 @@ returns c =
     let b = i .before in
     absurd (inverse-not-refused _ _ (b .pre .0) (b .pre .3) (i .inverse .ensures) (c .enum-told .given .1))
 
-scaled-requires : tie.Need-scaled-requires
-scaled-requires c κs = search needs
+slice-aggregate-scale : tie.Need-slice-aggregate-scale
+slice-aggregate-scale c = search needs
+
+scale-requires : tie.Need-scale-requires
+scale-requires c κs = search needs
 
 returns-2 : tie.Need-returns-2
 returns-2 c =
-    let v = c .before .before in
+    let s = c .before in
+    let v = s .before .before .before in
     let i = v .before .before in
     let a = i .before .args in
-    divided-by (a .m) (a .t2) (inverse-given _ _ (i .inverse .ensures) (v .i .given .1)) (c .scaled .ensures)
+    divided-by (a .m) (a .t2) (inverse-given _ _ (i .inverse .ensures) (v .i .given .1)) (s .scale .ensures)
 
 pub quotient-spec : {M : Type 1} → statement M
 quotient-spec =
@@ -42,5 +46,6 @@ quotient-spec =
     enum-known-i
     enum-told
     returns
-    scaled-requires
+    slice-aggregate-scale
+    scale-requires
     returns-2)

@@ -13,10 +13,10 @@ use Rattle.register.proofs.total.Statement.{statement}
 use Rattle.register.proofs.total.Tie as tie
 
 abbrev Inv-loop : tie.InvT-loop
-Inv-loop x l p d₀ i₀ d i = (i ≤ l + 1) × (rest p l d i ≡ d₀ ⊕ sum (map (λ k. getD p k 0) (from 1 l)))
+Inv-loop x p l d₀ i₀ d i = (i ≤ l + 1) × (rest p l d i ≡ d₀ ⊕ sum (map (λ k. getD p k 0) (from 1 l)))
 
 abbrev μ-loop : tie.MeasureT-loop
-μ-loop x l p d₀ i₀ d i = l + 1 - i
+μ-loop x p l d₀ i₀ d i = l + 1 - i
 
 loop-holds : tie.Need-loop-holds Inv-loop μ-loop
 loop-holds c = (omega arith, rest-start _ _ _)
@@ -24,8 +24,8 @@ loop-holds c = (omega arith, rest-start _ _ _)
 mul-d : tie.Need-mul-d Inv-loop μ-loop
 mul-d c = search needs
 
-array-read-d : tie.Need-array-read-d Inv-loop μ-loop
-array-read-d c = search needs
+shared-slice-read-d : tie.Need-shared-slice-read-d Inv-loop μ-loop
+shared-slice-read-d c = search needs
 
 add-i : tie.Need-add-i Inv-loop μ-loop
 add-i c = search needs
@@ -36,14 +36,23 @@ loop-less c = search needs
 loop-again : tie.Need-loop-again Inv-loop μ-loop
 unfolding _⊕_
 loop-again c =
-    let l = c .before .loop in
-    let a = c .before .before .args in (omega arith, rest-step (a .t2) (a .l) (l .d) (l .i) (omega arith) ∙ l .inv .1)
+    let l = c .before .before .loop in
+    let a = c .before .before .before .args in (omega arith, rest-step (a .p .now) (a .l) (l .d) (l .i) (omega arith) ∙ l .inv .1)
 
 returns : tie.Need-returns Inv-loop μ-loop
 returns c =
-    let a = c .before .before .args in sym (rest-none (a .t2) (a .l) _ _ (omega arith)) ∙ c .before .loop .inv .1
+    let a = c .before .before .args in sym (rest-none (a .p .now) (a .l) _ _ (omega arith)) ∙ c .before .loop .inv .1
 
 pub total-spec : {M : Type 1} → statement M
 total-spec =
     tie.close
-    (tie.spec Inv-loop μ-loop loop-holds mul-d array-read-d add-i loop-less loop-again returns)
+    (tie.spec
+    Inv-loop
+    μ-loop
+    loop-holds
+    mul-d
+    shared-slice-read-d
+    add-i
+    loop-less
+    loop-again
+    returns)
