@@ -1,24 +1,20 @@
 -- What the register's loops compute, a step at a time. Assumes nothing.
-use mathlib.Core.Path.{_≡_, refl, sym, ap, ap₂, _∙_}
+use mathlib.Core.Path.{_≡_, refl, sym, ap, _∙_}
 use mathlib.Core.List.{List, [], _∷_, _++_, map}
 use Prim.Native.Nat.{ℕ, zero, suc, _+_, _-_, _*_, _≤_, _<_}
-use native.Mathlib.Nat.{add-zero, zero-add, sub-zero}
+use native.Mathlib.Nat.{add-zero, zero-add}
 use native.Mathlib.Omega.{arith}
 use native.Mathlib.Decide.{decLt}
 use native.Mathlib.Numerals.{add-one}
 use borrow.Author.Tests.{eq-eqb, ne-eqb, lt-ltb, le-ltb}
 use lib.ListN.{length, getD, take, set, replicate, length-replicate, length-append}
-use lib.Seq.{take-at, getD-append-add, getD-set-same, getD-set-other, getD-take, length-take-le}
+use lib.Seq.{take-at, getD-append-add, getD-set-same, getD-set-other}
 use Rattle.bits.specs.Xor.{_⊕_}
-use Rattle.bits.specs.Bits.{from, eachWith, xorRow}
+use Rattle.bits.specs.Bits.{from, xorRow}
 use Rattle.bits.proofs.Xor.{xor-zero, xor-assoc}
-use Rattle.bits.proofs.Lists.{cons-eq, map-from}
-use Rattle.bits.proofs.Rows.{xorRow-suc, xorRow-take, xorRow-zeros}
-use Rattle.field.specs.Field.{mul, inv}
-use Rattle.field.specs.Poly.{hornerEach}
-use Rattle.field.proofs.Table.{Width}
-use Rattle.field.proofs.Laws.{mul-comm}
-use Rattle.field.proofs.Places.{hornerEach-width, hornerEach-at}
+use Rattle.bits.proofs.Rows.{xorRow-suc, xorRow-zeros}
+use Rattle.field.specs.Field.{mul}
+use Rattle.field.proofs.Places.{each-rest}
 use Rattle.poly.specs.Polynomials.{sum}
 use Rattle.poly.specs.Parts.{Earlier}
 use Rattle.poly.specs.Register.{Register, start, discrepancy, corrected, turn, turns, register}
@@ -61,20 +57,6 @@ earlier-step s n i w h e k a b = elim (decLt k i) [
   | no c ↦ (let z : k ≡ i = omega arith in rw z (getD-set-same w i _ 0 h))
 ]
 
--- the terms of the discrepancy, over all places at once
-pub discrepancy-by : (m : ℕ) (s : List ℕ) (r : Register) (n : ℕ) (w p : List ℕ) → Width m → Earlier s n (r .l + 1) w
-    → p ≡ hornerEach m 0 w (take (r .l + 1) (r .c)) → r .l < length w → r .l < length (r .c)
-    → getD s n 0 ⊕ sum (map (λ k. getD p k 0) (from 1 (r .l))) ≡ discrepancy m s r n
-unfolding discrepancy
-discrepancy-by m s r n w p v e f a b = ap (λ (l : List ℕ). getD s n 0 ⊕ sum l) (map-from (λ k. getD p k 0) (term m s r n) 1 1 (r .l) at)
-  where
-    at : (i : ℕ) → i < r .l → getD p (1 + i) 0 ≡ term m s r n (1 + i)
-    at i h =
-        let q : length (take (r .l + 1) (r .c)) ≡ r .l + 1 = length-take-le (r .l + 1) (r .c) (omega arith) in
-        ap (λ (l : List ℕ). getD l (1 + i) 0) f
-        ∙ hornerEach-at m 0 w (take (r .l + 1) (r .c)) v (1 + i) (omega arith) (omega arith) ∙ xor-zero _
-        ∙ ap₂ (mul m) (e (1 + i) (omega arith) (omega arith)) (getD-take (r .l + 1) (r .c) (1 + i) 0 (omega arith)) ∙ mul-comm m _ _
-
 -- c + x^y·p, with the first places done
 module _ (c p : List ℕ) (y : ℕ) where
   unfoldable pub partly : ℕ → List ℕ
@@ -95,23 +77,14 @@ module _ (c p : List ℕ) (y : ℕ) where
       ∙ xorRow-suc c (replicate y 0 ++ p) i (omega (arith, length-append (replicate y 0) p)) k
       ∙ ap (λ (j : ℕ). xorRow c (take j (replicate y 0 ++ p))) (sym (add-one i))
 
-  pub partly-all : (i : ℕ) → length c ≤ i → partly i ≡ xorRow c (replicate y 0 ++ p)
-  unfolding partly
-  partly-all i h = xorRow-take c (replicate y 0 ++ p) i (λ _. h)
-
--- f·b, over all places at once
-scaled : (m f n : ℕ) (b : List ℕ) → length b ≤ n → eachWith (λ x y. mul m x y ⊕ 0) b (replicate n f) ≡ map (mul m f) b
-unfolding eachWith
-scaled m f n [] h = refl
-scaled m f zero (x ∷ b) h = absurd (omega arith)
-scaled m f (suc n) (x ∷ b) h = cons-eq (xor-zero _ ∙ mul-comm m x f) (scaled m f n b (omega arith))
-
-pub corrected-by : (m d : ℕ) (r : Register) (i f n : ℕ) (p : List ℕ) → Width m → i ≡ inv m (r .d) → f ≡ mul m d i → length (r .b) ≤ n
-    → p ≡ hornerEach m 0 (r .b) (replicate n f) → xorRow (r .c) (replicate (r .y) 0 ++ p) ≡ corrected m r d
-unfolding corrected
-corrected-by m d r i f n p w ei ef h ep =
-    ap (λ (q : List ℕ). xorRow (r .c) (replicate (r .y) 0 ++ q))
-    (ep ∙ hornerEach-width m 0 (r .b) (replicate n f) w ∙ scaled m f n (r .b) h ∙ ap (λ (g : ℕ). map (mul m g) (r .b)) (ef ∙ ap (mul m d) ei))
+  -- where p has 0 past the place k, y + k + 1 places are all
+  pub partly-past : (k i : ℕ) → y + k < i → ((j : ℕ) → k < j → getD p j 0 ≡ 0) → partly i ≡ xorRow c (replicate y 0 ++ p)
+  unfolding partly xorRow
+  partly-past k i h z = each-rest _⊕_ c (replicate y 0 ++ p) i λ j l.
+      let e : length {A = ℕ} (replicate y 0) + (j - y) ≡ j = omega (arith, length-replicate {A = ℕ} y 0) in
+      ap (_⊕_ (getD c j 0))
+      (ap (λ (x : ℕ). getD (replicate y 0 ++ p) x 0) (sym e) ∙ getD-append-add (replicate y 0) p (j - y) 0 ∙ z (j - y) (omega arith))
+      ∙ xor-zero (getD c j 0)
 
 -- the three cases of a turn, with c for the corrected polynomial
 module _ (m d n : ℕ) (r : Register) where
@@ -142,17 +115,6 @@ module _ (m d n : ℕ) (r : Register) where
     ]
   ]
 
-  -- l and y stay small
-  pub turn-small : (t : Register) → t ≡ turn m d n r → r .l ≤ n → r .y ≤ n + 1 → (t .l ≤ n + 1) × (t .y ≤ n + 1 + 1)
-  turn-small t f h k =
-      rw f
-      (turn-cases (λ t. (t .l ≤ n + 1) × (t .y ≤ n + 1 + 1)) (λ z. (omega arith, omega arith)) (λ e q. (omega arith, omega arith))
-      (λ e q. (omega arith, omega arith)))
-
-pub start-small : (r : Register) → r ≡ start → (r .l ≤ 0) × (r .y ≤ 1)
-unfolding start
-start-small r e = rw e (omega arith, omega arith)
-
 -- the last of k + 1 turns
 turns-last : (m : ℕ) (s : List ℕ) (k n : ℕ) (r : Register)
     → turns m s (suc k) n r ≡ turn m (discrepancy m s (turns m s k n r) (n + k)) (n + k) (turns m s k n r)
@@ -181,20 +143,3 @@ module _ (m : ℕ) (s : List ℕ) where
   pub after-all : after (length s) ≡ register m s
   unfolding after register
   after-all = refl
-
--- the turns that are left, from n on
-module _ (m : ℕ) (s : List ℕ) (n : ℕ) (r : Register) where
-  pub turns-start : n ≡ 0 → r ≡ start → turns m s (length s - n) n r ≡ register m s
-  unfolding register
-  turns-start e h = rw (e, h) (ap (λ (k : ℕ). turns m s k 0 start) (sub-zero (length s)))
-
-  pub turns-none : length s ≤ n → turns m s (length s - n) n r ≡ r
-  unfolding turns
-  turns-none h = let e : length s - n ≡ 0 = omega arith in rw e
-
-  pub turns-step : (d : ℕ) (t : Register) → d ≡ discrepancy m s r n → t ≡ turn m d n r → n < length s
-      → turns m s (length s - (n + 1)) (n + 1) t ≡ turns m s (length s - n) n r
-  unfolding turns
-  turns-step d t h k l =
-      let e : length s - n ≡ suc (length s - (n + 1)) = omega arith in
-      rw (e, k, h)

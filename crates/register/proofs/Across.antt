@@ -5,16 +5,14 @@ use mathlib.Core.List.{List, [], _∷_, _++_, map, map-map}
 use Prim.Native.Nat.{ℕ, zero, suc, _+_, _-_, _*_, _^_, _≤_, _<_}
 use native.Mathlib.Omega.{arith}
 use borrow.Author.Tests.{eq-eqb, ne-eqb}
-use lib.Dec.{eqb}
 use lib.ListN.{length, getD, replicate}
-use lib.Seq.{ext-getD}
 use Rattle.bits.specs.Xor.{_⊕_}
 use Rattle.bits.specs.Bits.{from, eachWith, xorRow}
 use Rattle.bits.proofs.Lists.{cons-eq, map-from}
 use Rattle.field.specs.Field.{mul, inv}
 use Rattle.field.specs.Answers.{isUnit}
 use Rattle.field.proofs.Table.{Width}
-use Rattle.field.proofs.Laws.{mul-comm, mul-assoc, mul-left-comm, mul-add, mul-lt, mul-zero, low-mul, one-lt, one-mul, one-mul-low, mul-one, inv-low}
+use Rattle.field.proofs.Laws.{mul-comm, mul-assoc, mul-left-comm, mul-add, mul-lt, mul-zero, low-mul, one-lt, one-mul, one-mul-low, inv-low}
 use Rattle.field.proofs.Units.{element-unit, unit-inverse, unit-mul, unit-divided}
 use Rattle.field.proofs.Arrays.{Elements, multiple-at}
 use Rattle.poly.specs.Polynomials.{sum}
@@ -236,7 +234,7 @@ module _ (m : ℕ) (W : Width m) where
     first : getD (r .c) 0 0 ≡ mul m (g .a) 1
     first = ap (λ (c : List ℕ). getD c 0 0) (g .c-by) ∙ multiple-at m (g .a) (q .c) 0 ∙ ap (mul m (g .a)) o
 
-    first-unit : isUnit m (getD (r .c) 0 0) ≡ true
+    pub first-unit : isUnit m (getD (r .c) 0 0) ≡ true
     first-unit = rw first (unit-mul m W (g .a) 1 (g .unit-a) one-unit)
 
     divided-multiple : Elements m (q .c) → divided m (r .c) ≡ q .c

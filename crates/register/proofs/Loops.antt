@@ -1,16 +1,16 @@
 -- What the loops over places compute. Assumes nothing.
 use mathlib.Core.Path.{_≡_, refl, sym, ap, ap₂, _∙_}
-use mathlib.Core.List.{List, _++_, map}
-use Prim.Native.Nat.{ℕ, zero, suc, _+_, _-_, _*_, _^_, _≤_, _<_}
+use mathlib.Core.List.{List, map}
+use Prim.Native.Nat.{ℕ, _+_, _-_, _^_, _≤_, _<_}
 use native.Mathlib.Nat.{lt-of-lt-of-le}
 use native.Mathlib.Numerals.{add-one}
 use native.Mathlib.Omega.{arith}
 use native.Mathlib.Decide.{decLt}
 use lib.Pow.{pow-mono}
-use lib.ListN.{length, getD, take, set, replicate, length-replicate, length-set}
-use lib.Seq.{ext-getD, getD-append-add, getD-set-same, getD-set-other, getD-take, length-take-le}
+use lib.ListN.{length, getD, take, set, replicate, length-set}
+use lib.Seq.{ext-getD, getD-set-same, getD-set-other, getD-take, length-take-le}
 use Rattle.bits.specs.Xor.{_⊕_}
-use Rattle.bits.specs.Bits.{from, eachWith, xorRow}
+use Rattle.bits.specs.Bits.{from, eachWith}
 use Rattle.bits.proofs.Xor.{xor-zero}
 use Rattle.bits.proofs.Bits.{zeros-at}
 use Rattle.bits.proofs.Lists.{map-from}
@@ -23,17 +23,7 @@ use Rattle.field.proofs.PointTable.{mul-past}
 use Rattle.field.proofs.Places.{hornerEach-at, each-rest, each-self}
 use Rattle.poly.specs.Polynomials.{sum}
 use Rattle.poly.specs.Parts.{Earlier}
-use Rattle.poly.proofs.Steps.{partly}
 use Rattle.register.specs.Across.{Past, Multiples, Fits, discrepancyAcross}
-
--- c + x^y·p, where p has 0 past the place k, is done behind y + k
-pub partly-past : (c p : List ℕ) (y k i : ℕ) → y + k < i → Past k p → partly c p y i ≡ xorRow c (replicate y 0 ++ p)
-unfolding partly xorRow
-partly-past c p y k i h z = each-rest _⊕_ c (replicate y 0 ++ p) i λ j l.
-    let e : length {A = ℕ} (replicate y 0) + (j - y) ≡ j = omega (arith, length-replicate {A = ℕ} y 0) in
-    ap (_⊕_ (getD c j 0))
-    (ap (λ (x : ℕ). getD (replicate y 0 ++ p) x 0) (sym e) ∙ getD-append-add (replicate y 0) p (j - y) 0 ∙ z (j - y) (omega arith))
-    ∙ xor-zero (getD c j 0)
 
 -- c in the place of b, with the first places done: none; one more; all
 module _ (b c : List ℕ) where

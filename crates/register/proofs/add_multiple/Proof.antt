@@ -9,9 +9,9 @@ use Rattle.bits.specs.Xor.{_⊕_}
 use Rattle.field.specs.Field.{mul}
 use Rattle.field.proofs.PointTable.{digitSum-mul}
 use Rattle.field.proofs.Arrays.{multiple-at}
-use Rattle.poly.proofs.Steps.{partly, partly-start, partly-step}
+use Rattle.poly.proofs.Steps.{partly, partly-start, partly-step, partly-past}
 use Rattle.register.proofs.Across.{past-map}
-use Rattle.register.proofs.Loops.{multiples-fit, partly-past}
+use Rattle.register.proofs.Loops.{multiples-fit}
 use Rattle.register.proofs.add_multiple.Statement.{statement}
 use Rattle.register.proofs.add_multiple.Tie as tie
 
