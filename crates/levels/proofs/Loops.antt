@@ -99,9 +99,9 @@ points-suc n b =
     index i = omega arith
 
 pub points-start : (b g : List ℕ) → 0 < length g → take 1 (set g 0 0) ≡ pointsOf 0 b
-unfolding pointsOf pointOf digitSum from
+unfolding pointsOf pointOf from
 points-start b [] h = absurd (not-suc-le-zero h)
-points-start b (x ∷ g) h = refl
+points-start b (x ∷ g) h = ap (λ (i : ℕ). i ∷ []) (sym (digitSum-zero (λ j. getD b j 0) 0))
 
 pub points-next : (j w : ℕ) (b g d : List ℕ) → take (2 ^ j) g ≡ pointsOf j b → w ≡ 2 ^ j → w + w ≤ length g → d ≡ doubled w (getD b j 0) g
     → take (2 ^ (j + 1)) d ≡ pointsOf (j + 1) b

@@ -2,7 +2,7 @@
 use mathlib.Core.Path.{_≡_, refl, sym, ap, ap₂, _∙_}
 use mathlib.Core.List.{List, [], _∷_, _++_, map, append-nil}
 use Prim.Native.Nat.{ℕ, zero, suc, _+_, _-_, _*_, _^_, _<_, _≤_}
-use native.Mathlib.Nat.{pow-suc, one-mul as nat-one-mul, mul-one as nat-mul-one, sub-zero, le-refl}
+use native.Mathlib.Nat.{pow-suc, one-mul as nat-one-mul, mul-one as nat-mul-one, sub-zero}
 use native.Mathlib.Omega.{arith}
 use lib.Pow.{pow-add}
 use lib.ListN.{length, replicate, drop-of-length-le}
@@ -123,13 +123,3 @@ pub joins-values : (m : ℕ) → Width m → (k : ℕ) (p : List ℕ) → length
 unfolding joinsOf
 joins-values m w k p e h zero l = all-values m w k p e
 joins-values m w k p e h (suc j) l = ap (joinsOf m j) (level-up m w k p e h j l) ∙ joins-values m w k p e h j (omega arith)
-
-pub transform-form : (m : ℕ) → Width m → (k r : ℕ) (p c d y : List ℕ) → length p ≡ 2 ^ k → k ≤ m → r ≡ 2 ^ (m - k)
-    → c ≡ partsOf m k k p → d ≡ spread r c → y ≡ joinsOf m k d → y ≡ everywhere m p
-transform-form m w k r p c d y e h er ec ed ey =
-    ey ∙ ap (joinsOf m k) (ed ∙ ap₂ spread er ec ∙ last-values m w k p e) ∙ joins-values m w k p e h k (le-refl k)
-
-pub spread-size : (m : ℕ) → Width m → (k r : ℕ) {n : ℕ} (p c : List ℕ) → length p ≡ 2 ^ k → k ≤ m → r ≡ 2 ^ (m - k) → c ≡ partsOf m k k p → n ≡ 2 ^ m → n ≡ length c * r
-spread-size m w k r p c e h er ec en =
-    let d : m ≡ k + (m - k) = omega arith in
-    en ∙ ap (λ (i : ℕ). 2 ^ i) d ∙ pow-add 2 k (m - k) ∙ ap₂ _*_ (sym (ap length ec ∙ parts-length m k p w e k (le-refl k))) (sym er)

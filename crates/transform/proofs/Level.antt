@@ -1,7 +1,7 @@
 -- One level: the value of a polynomial at x and at x + b by its two halves. Assumes nothing.
 use mathlib.Core.Path.{_≡_, refl, sym, ap, ap₂, _∙_}
 use mathlib.Core.List.{List, [], _∷_}
-use Prim.Native.Nat.{ℕ, suc, _%_, _^_, _<_}
+use Prim.Native.Nat.{ℕ, suc, _^_, _<_}
 use lib.Pow.{pow-pos}
 use Rattle.bits.specs.Xor.{_⊕_}
 use Rattle.bits.proofs.Xor.{xor-comm, xor-zero, xor-assoc, xor-left-comm, xor-cancel, xor-lt}
@@ -9,7 +9,7 @@ use Rattle.field.specs.Field.{mul, power}
 use Rattle.field.specs.Poly.{value}
 use Rattle.field.proofs.Table.{Width}
 use Rattle.field.proofs.Arrays.{value-nil, value-cons, value-low}
-use Rattle.field.proofs.Laws.{mul-comm, mul-add, add-mul, mul-assoc, mul-left-comm, mul-lt, mul-low, mul-zero, one-mul, power-zero, power-suc}
+use Rattle.field.proofs.Laws.{mul-comm, mul-add, add-mul, mul-assoc, mul-left-comm, mul-lt, mul-zero, one-mul, power-zero, power-suc}
 use Rattle.levels.specs.Twist.{scaled, twisted}
 use Rattle.levels.proofs.Basis.{over, under, over-add, under-add, over-self, under-self, back}
 use Rattle.transform.specs.Halves.{paired, expanded, unzip, halves}

@@ -1,5 +1,5 @@
 -- What the functions above the loops put together. Assumes nothing.
-use mathlib.Core.Path.{_≡_, refl, sym, ap, ap₂, _∙_}
+use mathlib.Core.Path.{_≡_, sym, ap, ap₂, _∙_}
 use mathlib.Core.List.{List, _++_}
 use Prim.Native.Nat.{ℕ, suc, _+_, _-_, _*_, _^_, _≤_, _<_, min}
 use native.Mathlib.Nat.{pow-suc, le-refl}
@@ -21,7 +21,7 @@ use Rattle.levels.proofs.Filled.{length-factors}
 use Rattle.levels.proofs.Halves.{length-low, length-high, high-copied, low-copied, high-added}
 use Rattle.levels.proofs.Twists.{twisted-powers, horner-products}
 use Rattle.transform.specs.Halves.{expanded, unzip, halves, splitBy, split}
-use Rattle.transform.specs.Values.{butterfly, partsOf, joinsOf, spread, valuesOf, everywhere}
+use Rattle.transform.specs.Values.{butterfly, partsOf, joinsOf, spread, everywhere}
 use Rattle.transform.proofs.Lengths.{length-butterfly}
 use Rattle.transform.proofs.Loops.{length-spread}
 use Rattle.transform.proofs.AllLevels.{last-values, parts-length, joins-values}

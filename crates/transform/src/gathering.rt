@@ -3,7 +3,7 @@ use super::everywhere::everywhere;
 ghost use mathlib.Core.Path.{_≡_};
 ghost use mathlib.Core.Bool.{true};
 ghost use Prim.Native.Nat.{_%_, _^_, _≤_, _<_};
-ghost use lib.ListN.{length, getD, replicate};
+ghost use lib.ListN.{getD, replicate};
 ghost use Rattle.bits.specs.Bits.{eachWith};
 ghost use Rattle.field.specs.Field.{isWidth};
 ghost use Rattle.poly.specs.Polynomials.{valuesAt};

@@ -1,13 +1,12 @@
 -- `levels::levels::filled` meets its contract. Assumes nothing.
 use mathlib.Core.Path.{_≡_, refl, sym, ap, _∙_}
-use Prim.Native.Nat.{ℕ, _-_, _≤_, _<_, min}
+use Prim.Native.Nat.{_-_, _≤_, _<_, min}
 use native.Mathlib.Nat.{min-le-left}
 use native.Mathlib.Omega.{arith}
 use lib.ListN.{length}
-use borrow.Author.Needs.{needs}
 use Rattle.field.proofs.Table.{width-narrow}
 use Rattle.levels.specs.Levels.{basisOf, topsPut, factorsPut}
-use Rattle.levels.proofs.Filled.{length-tops, length-factorsPut, top-unit, tops-next, basis-next, factors-next}
+use Rattle.levels.proofs.Filled.{length-factorsPut, top-unit, tops-next, basis-next, factors-next}
 use Rattle.levels.proofs.levels.filled.Statement.{statement}
 use Rattle.levels.proofs.levels.filled.Tie as tie
 

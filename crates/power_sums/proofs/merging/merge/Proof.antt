@@ -1,6 +1,5 @@
 -- `power_sums::merging::merge` meets its contract. Assumes nothing.
 use Prim.Native.Nat.{_-_}
-use native.Mathlib.Omega.{arith}
 use borrow.Author.Needs.{needs}
 use Rattle.power_sums.proofs.merging.merge.Statement.{statement}
 use Rattle.power_sums.proofs.merging.merge.Tie as tie

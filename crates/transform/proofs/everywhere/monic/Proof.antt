@@ -1,5 +1,4 @@
 -- `transform::everywhere::monic` meets its contract. Assumes nothing.
-use native.Mathlib.Omega.{arith}
 use borrow.Author.Needs.{needs}
 use Rattle.transform.proofs.Whole.{monic-block}
 use Rattle.transform.proofs.everywhere.monic.Statement.{statement}

@@ -3,7 +3,6 @@ use Prim.Native.Nat.{_≤_}
 use native.Mathlib.Nat.{mod-lt}
 use native.Mathlib.Omega.{arith}
 use lib.Pow.{pow-pos, pow-mono}
-use borrow.Author.Needs.{needs}
 use Rattle.field.proofs.Machine.{one-shl, low-digits}
 use Rattle.field.proofs.Table.{width-narrow}
 use Rattle.transform.proofs.gathering.place.Statement.{statement}

@@ -3,7 +3,6 @@ use mathlib.Core.Path.{sym}
 use mathlib.Core.Bool.{true≢false}
 use native.Mathlib.Nat.{mul-le-mul-right}
 use native.Mathlib.Omega.{arith}
-use borrow.Author.Needs.{needs}
 use Rattle.field.proofs.Table.{modulus-some}
 use Rattle.transform.proofs.gathering.worth.Statement.{statement}
 use Rattle.transform.proofs.gathering.worth.Tie as tie
