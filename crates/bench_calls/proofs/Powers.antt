@@ -2,15 +2,16 @@
 use mathlib.Core.Path.{_≡_, refl, sym, ap, ap₂, _∙_, fun-ext}
 use mathlib.Core.Bool.{Bool, true, false, cond}
 use mathlib.Core.List.{List, [], _∷_, map}
-use Prim.Native.Nat.{ℕ, zero, suc, _+_, _*_, _≤_, _<_, zero-le}
+use Prim.Native.Nat.{ℕ, zero, suc, _+_, _*_, _≤_, _<_, min, zero-le}
 use native.Mathlib.Nat.{zero-lt-suc}
 use native.Mathlib.Numerals.{add-one}
 use native.Mathlib.Omega.{arith}
 use borrow.Author.Tests.{eq-eqb, ne-eqb, le-leb, leb-true}
 use lib.Dec.{leb}
-use lib.ListN.{length, getD, replicate, length-map}
+use lib.ListN.{length, getD, take, replicate, length-map}
+use lib.Seq.{take-all}
 use Rattle.bits.specs.Xor.{_⊕_}
-use Rattle.bits.specs.Bits.{every, eachWith, unpack}
+use Rattle.bits.specs.Bits.{every, eachWith, unpack, padded}
 use Rattle.bits.proofs.Xor.{xor-zero}
 use Rattle.bits.proofs.Each.{eachWith-take, eachWith-again, eachWith-keep, eachWith-replicate}
 use Rattle.bits.proofs.Pack.{row-unpack}
@@ -21,29 +22,25 @@ use Rattle.field.specs.Poly.{value, hornerEach, ofEach}
 use Rattle.field.specs.declared.Verdict.{Verdict}
 use Rattle.field.specs.declared.Verdict.the-variants.{Accepted, Refused}
 use Rattle.field.proofs.Table.{Width}
-use Rattle.field.proofs.Laws.{mul-comm, mul-lt, mul-zero, one-lt, one-mul, power-zero, power-suc}
+use Rattle.field.proofs.Laws.{mul-zero, one-lt, power-zero, power-suc}
 use Rattle.field.proofs.Arrays.{value-nil, value-cons}
-use Rattle.field.proofs.Places.{hornerEach-width, ofEach-width, take-ofEach}
+use Rattle.field.proofs.Places.{hornerEach-width, length-hornerEach, ofEach-width, take-ofEach}
 use Rattle.field.proofs.Units.{element-unit, units-number}
 use Rattle.field.proofs.Verdicts.{verdict-accepted, verdict-refused}
 use Rattle.poly.specs.Polynomials.{sum, monic}
 use Rattle.key.specs.Keys.{Key, goppaAt, keyOf}
 use Rattle.decoder.specs.Calls.{readNumber}
-use Rattle.decoder.specs.Decoding.{chosen, squareEntry, squareSums}
+use Rattle.decoder.specs.Decoding.{chosen, squareSums}
+use Rattle.point_sums.specs.Weighted.{weightedSum, weightedSums}
+use Rattle.point_sums.proofs.Weighted.{length-sums, sums-at, all-width}
 use Rattle.decoding.specs.Parts.{pointSums, sumsOf, divisors, pointsOf}
 use Rattle.decoding.specs.declared.sums.Sums.{Sums}
 use Rattle.decoding.proofs.Gathered.{length-chosen-le}
-use Rattle.decoding.proofs.PowerSums.{weights-start, pointSums-at, chosen-sums}
+use Rattle.decoding.proofs.PowerSums.{points-sums, chosen-sums}
 use Rattle.reading.specs.Answers.{answerOf, readOf}
 use Rattle.reading.specs.declared.calls.Answer.{Answer}
-use Rattle.bench_calls.specs.Weights.{weightedSum, refusalOf}
+use Rattle.bench_calls.specs.Weights.{sumBySquares, refusalOf}
 use Rattle.bench_calls.specs.declared.sums.Sum.{Sum}
-
--- functions of one list's numbers
-each-both : (f : ℕ → ℕ → ℕ) (h j : ℕ → ℕ) (s : List ℕ) → eachWith f (map h s) (map j s) ≡ map (λ a. f (h a) (j a)) s
-unfolding eachWith
-each-both f h j [] = refl
-each-both f h j (a ∷ s) = ap (_∷_ (f (h a) (j a))) (each-both f h j s)
 
 -- 1 has an inverse
 every-one : (m : ℕ) → isUnit m 1 ≡ true → (s : List ℕ) → every (isUnit m) (map (λ a. 1) s) ≡ true
@@ -51,32 +48,60 @@ unfolding every
 every-one m u [] = refl
 every-one m u (a ∷ s) = rw u (every-one m u s)
 
+-- 1 / v² for each v
+abbrev inverseSquares : ℕ → List ℕ → List ℕ
+inverseSquares m v = hornerEach m 0 (map (inv m) v) (map (inv m) v)
+
 -- a sum by its number
 module _ (m : ℕ) (v p : List ℕ) where
   abbrev terms : List ℕ
-  terms = hornerEach m 0 (hornerEach m 0 (map (inv m) v) (map (inv m) v)) p
+  terms = hornerEach m 0 (inverseSquares m v) p
 
-  pub weighted-refused : {x : Verdict} {y : ℕ} → x ≡ verdictOf (inverseNumber m v) → x ≡ Refused y
-      → _≡_ {A = Sum} record { verdict = x; value = 0 } (weightedSum m v p)
-  unfolding weightedSum
-  weighted-refused e h = rw (e, ne-eqb _ 0 (verdict-refused _ e h))
+  pub squares-refused : {x : Verdict} {y : ℕ} → x ≡ verdictOf (inverseNumber m v) → x ≡ Refused y
+      → _≡_ {A = Sum} record { verdict = x; value = 0 } (sumBySquares m v p)
+  unfolding sumBySquares
+  squares-refused e h = rw (e, ne-eqb _ 0 (verdict-refused _ e h))
 
-  pub weighted-accepted : {x : Verdict} {d : ℕ} → x ≡ verdictOf (inverseNumber m v) → x ≡ Accepted → d ≡ sum terms
-      → _≡_ {A = Sum} record { verdict = x; value = d } (weightedSum m v p)
-  unfolding weightedSum
-  weighted-accepted e h q = rw (e, q, eq-eqb _ 0 (verdict-accepted _ e h))
+  pub squares-accepted : {x : Verdict} {d : ℕ} → x ≡ verdictOf (inverseNumber m v) → x ≡ Accepted → d ≡ sum terms
+      → _≡_ {A = Sum} record { verdict = x; value = d } (sumBySquares m v p)
+  unfolding sumBySquares
+  squares-accepted e h q = rw (e, q, eq-eqb _ 0 (verdict-accepted _ e h))
 
-  pub weighted-verdict : {r : Sum} → r ≡ weightedSum m v p → r .verdict ≡ verdictOf (inverseNumber m v)
-  unfolding weightedSum
-  weighted-verdict e = ap (λ (r : Sum). r .verdict) e
+  pub squares-verdict : {r : Sum} → r ≡ sumBySquares m v p → r .verdict ≡ verdictOf (inverseNumber m v)
+  unfolding sumBySquares
+  squares-verdict e = ap (λ (r : Sum). r .verdict) e
 
-  pub weighted-value : {r : Sum} → r ≡ weightedSum m v p → inverseNumber m v ≡ 0 → r .value ≡ sum terms
-  unfolding weightedSum
-  weighted-value e z = ap (λ (r : Sum). r .value) e ∙ rw z
+  pub squares-value : {r : Sum} → r ≡ sumBySquares m v p → inverseNumber m v ≡ 0 → r .value ≡ sum terms
+  unfolding sumBySquares
+  squares-value e z = ap (λ (r : Sum). r .value) e ∙ rw z
+
+-- the sums by 1 / g(a)²
+module _ (m : ℕ) (g s : List ℕ) where
+  -- what they divide by
+  abbrev values : List ℕ
+  values = map (goppaAt (keyOf m s g)) s
+
+  abbrev weights : List ℕ
+  weights = inverseSquares m values
+
+  unfoldable pub sums : List ℕ
+  sums = weightedSums m (2 * length g) weights s
+
+  pub length-all : length sums ≡ 2 * length g
+  unfolding sums
+  length-all = length-sums m (2 * length g) weights s
 
 -- a^k at each point a, 1 past them
 unfoldable pub powers : ℕ → List ℕ → ℕ → List ℕ
 powers m s k = ofEach m (λ a. power m a k) s
+
+-- the terms of the sum k by the powers
+by-powers : (m k : ℕ) (x s : List ℕ) → length x ≤ length s
+    → sum (eachWith (λ x y. mul m x y ⊕ 0) x (map (λ a. power m a k) s)) ≡ weightedSum m k x s
+unfolding eachWith sum weightedSum
+by-powers m k [] s h = refl
+by-powers m k (y ∷ x) [] h = absurd (omega arith)
+by-powers m k (y ∷ x) (a ∷ s) h = ap₂ _⊕_ (xor-zero _) (by-powers m k x s (omega arith))
 
 module _ (m : ℕ) (w : Width m) (g s : List ℕ) where
   pub powers-start : replicate 8192 1 ≡ powers m s 0
@@ -99,35 +124,32 @@ module _ (m : ℕ) (w : Width m) (g s : List ℕ) where
       ∙ ap (λ f. eachWith f (replicate 8192 1) s) (fun-ext λ x. fun-ext λ a. next k a)
       ∙ sym (ofEach-width m (λ a. power m a (k + 1)) s w)
 
-  -- what the sums divide by
-  abbrev values : List ℕ
-  values = map (goppaAt (keyOf m s g)) s
-
-  entry : (k a : ℕ) → mul m (squareEntry (keyOf m s g) 0 a) (power m a k) ⊕ 0 ≡ squareEntry (keyOf m s g) k a
-  unfolding squareEntry keyOf
-  entry k a =
-      let h : ℕ = inv m (goppaAt (keyOf m s g) a) in
-      xor-zero _
-      ∙ ap (λ (x : ℕ). mul m x (power m a k)) (ap (λ (x : ℕ). mul m x (mul m h h)) (power-zero m a) ∙ one-mul m w (mul-lt m h h))
-      ∙ mul-comm m (mul m h h) (power m a k)
-
-  -- the sum k by the weights and the powers
-  pub sum-at : length s ≤ 8192 → (k : ℕ) → k < 2 * length g
-      → sum (hornerEach m 0 (hornerEach m 0 (map (inv m) values) (map (inv m) values)) (powers m s k)) ≡ getD (pointSums m g s) k 0
-  unfolding powers
+  -- the sum k; all of them
+  pub sum-at : length s ≤ 8192 → (k : ℕ) → k < 2 * length g → sum (hornerEach m 0 (weights m g s) (powers m s k)) ≡ getD (sums m g s) k 0
+  unfolding powers sums
   sum-at few k h =
-      let n : length (map (squareEntry (keyOf m s g) 0) s) ≡ length s = length-map s (squareEntry (keyOf m s g) 0) in
+      let v : List ℕ = values m g s in
+      let x : List ℕ = weights m g s in
+      let n : length x ≡ length s = length-hornerEach m 0 (map (inv m) v) (map (inv m) v) ∙ length-map v (inv m) ∙ length-map s (goppaAt (keyOf m s g)) in
       ap sum
-      (ap (λ (v : List ℕ). hornerEach m 0 v (powers m s k)) (weights-start m w g s _ _ refl refl)
-      ∙ hornerEach-width m 0 _ (powers m s k) w
-      ∙ sym (eachWith-take (λ x y. mul m x y ⊕ 0) (map (squareEntry (keyOf m s g) 0) s) (powers m s k) (length s) (λ l. omega arith))
-      ∙ ap (eachWith (λ x y. mul m x y ⊕ 0) (map (squareEntry (keyOf m s g) 0) s)) (take-ofEach m (λ a. power m a k) s w few)
-      ∙ each-both (λ x y. mul m x y ⊕ 0) (squareEntry (keyOf m s g) 0) (λ a. power m a k) s
-      ∙ ap (λ f. map f s) (fun-ext (entry k)))
-      ∙ sym (pointSums-at m g s k h)
+      (hornerEach-width m 0 x (powers m s k) w
+      ∙ sym (eachWith-take (λ x y. mul m x y ⊕ 0) x (powers m s k) (length s) (λ l. omega arith))
+      ∙ ap (eachWith (λ x y. mul m x y ⊕ 0) x) (take-ofEach m (λ a. power m a k) s w few))
+      ∙ by-powers m k x s (omega arith)
+      ∙ sym (sums-at m (2 * length g) x s k h)
+
+  pub sums-all : length g ≤ 128 → (k : ℕ) → 2 * length g ≤ k → padded 256 (take k (sums m g s)) ≡ padded 256 (pointSums m g s)
+  unfolding sums
+  sums-all l k h =
+      let x : List ℕ = weights m g s in
+      let n : min (2 * length g) 256 ≡ 2 * length g = omega arith in
+      ap (padded 256) (take-all k (sums m g s) (omega (arith, length-all m g s)))
+      ∙ ap (λ (n : ℕ). padded 256 (weightedSums m n x s)) (sym n)
+      ∙ all-width m (2 * length g) x s w
+      ∙ points-sums m w g s l _ x refl refl
 
   -- where g is 1 no value is 0
-  values-one : length g ≡ 0 → inverseNumber m values ≡ 0
+  values-one : length g ≡ 0 → inverseNumber m (values m g s) ≡ 0
   unfolding goppaAt keyOf monic
   values-one e = go g e
     where
@@ -141,7 +163,7 @@ module _ (m : ℕ) (w : Width m) (g s : List ℕ) where
       go (x ∷ g) e = absurd (omega arith)
 
   -- behind the last sum none is 0: the first has said so, or there is none and g is 1
-  pub values-units : (k : ℕ) → 2 * length g ≤ k → (0 < k → inverseNumber m values ≡ 0) → inverseNumber m values ≡ 0
+  pub values-units : (k : ℕ) → 2 * length g ≤ k → (0 < k → inverseNumber m (values m g s) ≡ 0) → inverseNumber m (values m g s) ≡ 0
   values-units zero n h = values-one (omega arith)
   values-units (suc k) n h = h (zero-lt-suc k)
 

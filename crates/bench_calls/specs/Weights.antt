@@ -13,8 +13,8 @@ use Rattle.reading.specs.declared.calls.Answer.the-variants.{Ones, Refused}
 use Rattle.bench_calls.specs.declared.sums.Sum.{Sum}
 
 -- the sum of x / v² for each v of a list and x of p; on refusal 0, with 1 where m is no width, 32 where the m low digits of a v are 0
-unfoldable pub weightedSum : ℕ → List ℕ → List ℕ → Sum
-weightedSum m v p =
+unfoldable pub sumBySquares : ℕ → List ℕ → List ℕ → Sum
+sumBySquares m v p =
     let h : List ℕ = map (inv m) v in
     let x : ℕ = inverseNumber m v in
     record { verdict = verdictOf x; value = cond (eqb x 0) (sum (hornerEach m 0 (hornerEach m 0 h h) p)) 0 }

@@ -45,7 +45,7 @@ pub extern "C" fn bench_values(m: u8, g: &[u16], points: &[u16], i: usize) -> u1
     if 8192 <= i {
         return 0;
     }
-    let v = poly::values(m, g, points);
+    let v = transform::values(m, g, points);
     v[i]
 }
 

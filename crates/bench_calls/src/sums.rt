@@ -1,9 +1,9 @@
 // The 2t sums of a word, with g's value and its inverse square at each point worked out afresh in each sum.
 use decoding::Sums;
-use decoding::total;
 use decoding::word_points;
 use field::Verdict;
 use key::kept::Key;
+use point_sums::total;
 use register::Registered;
 ghost use mathlib.Core.Path.{_≡_};
 ghost use mathlib.Core.Bool.{true};
@@ -16,7 +16,7 @@ ghost use Rattle.field.specs.Answers.{inverseNumber};
 ghost use Rattle.key.specs.Keys.{keyOf, goppaAt};
 ghost use Rattle.decoder.specs.Decoding.{squareSums};
 ghost use Rattle.decoding.specs.Parts.{pointSums, sumsOf, divisors};
-ghost use Rattle.bench_calls.specs.Weights.{weightedSum};
+ghost use Rattle.bench_calls.specs.Weights.{sumBySquares};
 
 // A sum; 0 on refusal.
 struct Sum {
@@ -25,8 +25,8 @@ struct Sum {
 }
 
 // The sum of x / v² for each v of the list and x of p.
-fn weighted_sum(m: u8, v: &mut [u16], p: &[u16]) -> Sum
-    ensures { λ r. ⌜ r ≡ weightedSum m (now (v .entry)) (now (p .entry)) ⌝ }
+fn sum_by_squares(m: u8, v: &mut [u16], p: &[u16]) -> Sum
+    ensures { λ r. ⌜ r ≡ sumBySquares m (now (v .entry)) (now (p .entry)) ⌝ }
 {
     let x = field_places::inverse_each(m, v);
     let Verdict::Accepted = x else {
@@ -44,11 +44,11 @@ fn weighted_sum(m: u8, v: &mut [u16], p: &[u16]) -> Sum
 // The sum of x / g(a)² for each point a and x of p, with g's values worked out from g.
 fn sum_afresh(m: u8, g: &[u16], p: &[u16], points: &[u16]) -> Sum
     requires { ⌜ (isWidth m ≡ true) × (length (now points) ≤ 8192) ⌝ }
-    ensures { λ r. ⌜ r ≡ weightedSum m (map (goppaAt (keyOf m (now (points .entry)) (now (g .entry)))) (now (points .entry))) (now (p .entry)) ⌝ }
+    ensures { λ r. ⌜ r ≡ sumBySquares m (map (goppaAt (keyOf m (now (points .entry)) (now (g .entry)))) (now (points .entry))) (now (p .entry)) ⌝ }
 {
     let n = points.len();
-    let mut v = poly::values(m, g, points);
-    weighted_sum(m, &mut v[..n], p)
+    let mut v = transform::values(m, g, points);
+    sum_by_squares(m, &mut v[..n], p)
 }
 
 // The sums of a^k / g(a)² over the points a, k below 2t, each by itself; 32 where g is 0 at one of them. p has the powers a^k.

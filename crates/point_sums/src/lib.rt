@@ -4,6 +4,7 @@ mod points;
 
 use elements::over_elements;
 use points::over_points;
+pub use points::total;
 ghost use mathlib.Core.Path.{_≡_};
 ghost use mathlib.Core.Bool.{true};
 ghost use Prim.Native.Nat.{_≤_};

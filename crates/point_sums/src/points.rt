@@ -10,7 +10,7 @@ ghost use Rattle.poly.specs.Polynomials.{sum};
 ghost use Rattle.point_sums.specs.Weighted.{weightedSums};
 
 // The sum, exclusive or, of all numbers.
-fn total(p: &[u16]) -> u16
+pub fn total(p: &[u16]) -> u16
     ensures { λ r. ⌜ r ≡ sum (now (p .entry)) ⌝ }
 {
     let mut d: u16 = 0;

@@ -5,23 +5,20 @@ use Prim.Native.Nat.{ℕ, _-_, _*_, _≤_, _<_}
 use native.Mathlib.Omega.{arith}
 use borrow.Author.Needs.{needs}
 use lib.ListN.{length, take, set, length-set}
-use lib.Seq.{take-all}
 use Rattle.bits.specs.Bits.{padded}
 use Rattle.bits.proofs.Padded.{padded-start, padded-next}
 use Rattle.field.specs.Answers.{inverseNumber}
 use Rattle.field.proofs.Verdicts.{accepts, verdict-accepted}
 use Rattle.key.specs.Keys.{goppaAt, keyOf}
-use Rattle.decoding.specs.Parts.{pointSums}
 use Rattle.decoding.proofs.Divisors.{sums-refused, sums-accepted}
-use Rattle.decoding.proofs.PowerSums.{length-pointSums}
-use Rattle.bench_calls.specs.Weights.{weightedSum}
-use Rattle.bench_calls.proofs.Powers.{powers, powers-start, powers-next, sum-at, values-units, weighted-verdict, weighted-value}
+use Rattle.bench_calls.specs.Weights.{sumBySquares}
+use Rattle.bench_calls.proofs.Powers.{powers, powers-start, powers-next, sums, length-all, sum-at, sums-all, values-units, squares-verdict, squares-value}
 use Rattle.bench_calls.proofs.sums.each_sum.Statement.{statement}
 use Rattle.bench_calls.proofs.sums.each_sum.Tie as tie
 
 abbrev Inv-loop : tie.InvT-loop
 Inv-loop m g points s₀ p₀ k₀ s p k = (k ≤ 2 * length g) × (length s ≡ 256) × (length p ≡ 8192)
-    × (s ≡ padded 256 (take k (pointSums m g points))) × (p ≡ powers m points k)
+    × (s ≡ padded 256 (take k (sums m g points))) × (p ≡ powers m points k)
     × (0 < k → inverseNumber m (map (goppaAt (keyOf m points g)) points) ≡ 0)
 
 abbrev μ-loop : tie.MeasureT-loop
@@ -34,7 +31,7 @@ loop-holds c =
       omega arith,
       refl,
       refl,
-      padded-start 256 (pointSums (a .m) (a .g .now) (a .points .now)),
+      padded-start 256 (sums (a .m) (a .g .now) (a .points .now)),
       powers-start (a .m) (b .pre .0) (a .g .now) (a .points .now),
       λ h. absurd (omega arith),
     )
@@ -55,7 +52,7 @@ enum-told-2 : tie.Need-enum-told-2 Inv-loop μ-loop
 enum-told-2 c = search needs
 
 returns : tie.Need-returns Inv-loop μ-loop
-returns c = sums-refused _ _ (weighted-verdict _ _ _ (c .before .before .sum-afresh .ensures)) (c .enum-told2 .given .1)
+returns c = sums-refused _ _ (squares-verdict _ _ _ (c .before .before .sum-afresh .ensures)) (c .enum-told2 .given .1)
 
 mul-s : tie.Need-mul-s Inv-loop μ-loop
 mul-s c = search needs
@@ -87,14 +84,14 @@ loop-again c =
     let l = i .before .loop in
     let b = i .before .before .before .before in
     let a = b .args in
-    let z = verdict-accepted _ (weighted-verdict _ _ _ (d .ensures)) (t .enum-told .given .1) in
-    let n = length-pointSums (a .m) (a .g .now) (a .points .now) in
-    let v = weighted-value _ _ _ (d .ensures ∙ ap (weightedSum (a .m) _) (l .inv .4)) z ∙ sum-at (a .m) (b .pre .0) (a .g .now) (a .points .now) (b .pre .1) (l .k) (i .loop-test .taken) in (
+    let z = verdict-accepted _ (squares-verdict _ _ _ (d .ensures)) (t .enum-told .given .1) in
+    let n = length-all (a .m) (a .g .now) (a .points .now) in
+    let v = squares-value _ _ _ (d .ensures ∙ ap (sumBySquares (a .m) _) (l .inv .4)) z ∙ sum-at (a .m) (b .pre .0) (a .g .now) (a .points .now) (b .pre .1) (l .k) (i .loop-test .taken) in (
       omega arith,
       length-set (l .s) _ _ ∙ l .inv .1,
       h .horner-each .kept .1 .0 ∙ l .inv .2,
       ap₂ (λ (d : List ℕ) (v : ℕ). set d (l .k) v) (l .inv .3) v
-          ∙ padded-next 256 (pointSums (a .m) (a .g .now) (a .points .now)) (l .k) (omega (arith, n)) (omega (arith, b .pre .2)),
+          ∙ padded-next 256 (sums (a .m) (a .g .now) (a .points .now)) (l .k) (omega (arith, n)) (omega (arith, b .pre .2)),
       h .horner-each .ensures ∙ powers-next (a .m) (b .pre .0) (a .g .now) (a .points .now) (l .k) (l .inv .4),
       λ k. z,
     )
@@ -104,9 +101,8 @@ returns-2 c =
     let l = c .before .loop in
     let b = c .before .before .before .before in
     let a = b .args in
-    let n = length-pointSums (a .m) (a .g .now) (a .points .now) in
     sums-accepted _ _ (accepts (sym (values-units (a .m) (b .pre .0) (a .g .now) (a .points .now) (l .k) (c .loop-test .left) (l .inv .5)))) refl
-    (l .inv .3 ∙ ap (padded 256) (take-all (l .k) (pointSums (a .m) (a .g .now) (a .points .now)) (omega (arith, n))))
+    (l .inv .3 ∙ sums-all (a .m) (b .pre .0) (a .g .now) (a .points .now) (b .pre .2) (l .k) (c .loop-test .left))
 
 pub each-sum-spec : {M : Type 1} → statement M
 each-sum-spec =

@@ -7,7 +7,7 @@ use borrow.Author.Needs.{needs}
 use lib.ListN.{length}
 use lib.Seq.{length-take-le}
 use Rattle.decoding.proofs.PowerSums.{values-points}
-use Rattle.bench_calls.specs.Weights.{weightedSum}
+use Rattle.bench_calls.specs.Weights.{sumBySquares}
 use Rattle.bench_calls.proofs.sums.sum_afresh.Statement.{statement}
 use Rattle.bench_calls.proofs.sums.sum_afresh.Tie as tie
 
@@ -20,25 +20,25 @@ array-borrow-prefix-v c =
     let l : length (c .values .result) ≡ 8192 = search needs in
     omega (arith, b .pre .1)
 
-slice-aggregate-weighted-sum : tie.Need-slice-aggregate-weighted-sum
-slice-aggregate-weighted-sum c =
+slice-aggregate-sum-by-squares : tie.Need-slice-aggregate-sum-by-squares
+slice-aggregate-sum-by-squares c =
     let v = c .before in
     let b = v .before .before .before .before in
     let l : length (v .values .result) ≡ 8192 = search needs in
     sym (length-take-le _ (v .values .result) (omega (arith, b .pre .1)))
 
-weighted-sum-requires : tie.Need-weighted-sum-requires
-weighted-sum-requires c κs = tt
+sum-by-squares-requires : tie.Need-sum-by-squares-requires
+sum-by-squares-requires c κs = tt
 
 returns : tie.Need-returns
 returns c =
     let v = c .before .before .before in
     let b = v .before .before .before .before in
     let a = b .args in
-    c .before .weighted-sum .ensures
-    ∙ ap (λ (l : List ℕ). weightedSum (a .m) l (a .p .now)) (values-points (a .m) (b .pre .0) (a .g .now) (a .points .now) refl (b .pre .1) (v .values .ensures))
+    c .before .sum-by-squares .ensures
+    ∙ ap (λ (l : List ℕ). sumBySquares (a .m) l (a .p .now)) (values-points (a .m) (b .pre .0) (a .g .now) (a .points .now) refl (b .pre .1) (v .values .ensures))
 
 pub sum-afresh-spec : {M : Type 1} → statement M
 sum-afresh-spec =
     tie.close
-    (tie.spec values-requires array-borrow-prefix-v slice-aggregate-weighted-sum weighted-sum-requires returns)
+    (tie.spec values-requires array-borrow-prefix-v slice-aggregate-sum-by-squares sum-by-squares-requires returns)

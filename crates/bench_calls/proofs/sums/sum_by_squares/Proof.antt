@@ -7,9 +7,9 @@ use Rattle.field.specs.Poly.{hornerEach}
 use Rattle.field.proofs.Verdicts.{verdict-accepted}
 use Rattle.field.proofs.Units.{inverses-given}
 use Rattle.poly.specs.Polynomials.{sum}
-use Rattle.bench_calls.proofs.Powers.{weighted-refused, weighted-accepted}
-use Rattle.bench_calls.proofs.sums.weighted_sum.Statement.{statement}
-use Rattle.bench_calls.proofs.sums.weighted_sum.Tie as tie
+use Rattle.bench_calls.proofs.Powers.{squares-refused, squares-accepted}
+use Rattle.bench_calls.proofs.sums.sum_by_squares.Statement.{statement}
+use Rattle.bench_calls.proofs.sums.sum_by_squares.Tie as tie
 
 inverse-each-requires : tie.Need-inverse-each-requires
 inverse-each-requires c κs = tt
@@ -24,7 +24,7 @@ same-length : tie.Need-same-length
 same-length c = search needs
 
 returns : tie.Need-returns
-returns c = weighted-refused _ _ _ (c .before .before .before .before .inverse-each .ensures .0) (c .enum-told2 .given .1)
+returns c = squares-refused _ _ _ (c .before .before .before .before .inverse-each .ensures .0) (c .enum-told2 .given .1)
 
 square-each-requires : tie.Need-square-each-requires
 square-each-requires c κs = tt
@@ -47,12 +47,12 @@ returns-2 c =
     let a = i .before .before .before .before .args in
     let e = i .inverse-each .ensures in
     let v = inverses-given (a .m) (a .v .now) (verdict-accepted _ (e .0) (t .enum-told .given .1)) (e .1) in
-    weighted-accepted _ _ _ (e .0) (t .enum-told .given .1)
+    squares-accepted _ _ _ (e .0) (t .enum-told .given .1)
     (c .total .ensures
     ∙ ap sum (h .horner-each .ensures ∙ ap (λ (l : List ℕ). hornerEach (a .m) 0 l (a .p .now)) (q .square-each .ensures ∙ ap (λ (l : List ℕ). hornerEach (a .m) 0 l l) v)))
 
-pub weighted-sum-spec : {M : Type 1} → statement M
-weighted-sum-spec =
+pub sum-by-squares-spec : {M : Type 1} → statement M
+sum-by-squares-spec =
     tie.close
     (tie.spec
     inverse-each-requires
