@@ -1,11 +1,11 @@
 -- The values of a monic polynomial at each of a list of points, by Horner's rule at all points. Assumes nothing.
-use mathlib.Core.Path.{_≡_, sym, ap, _∙_, fun-ext}
-use mathlib.Core.Bool.{false}
+use mathlib.Core.Path.{_≡_, refl, sym, ap, _∙_, fun-ext}
+use mathlib.Core.Bool.{Bool, true, false, cond}
 use mathlib.Core.List.{List, [], _∷_, _++_, map}
 use Prim.Native.Nat.{ℕ, suc, _+_, _-_, _≤_, _<_}
 use native.Mathlib.Nat.{le-refl}
 use native.Mathlib.Omega.{arith}
-use lib.ListN.{length, getD, take, drop, replicate, drop-of-length-le, length-replicate}
+use lib.ListN.{length, getD, take, drop, replicate, drop-of-length-le}
 use lib.Seq.{drop-cons}
 use borrow.Rule.Slice.PartMut.{midOf, putMid}
 use Rattle.bits.specs.Xor.{_⊕_}
@@ -20,7 +20,7 @@ use Rattle.field.proofs.Arrays.{value-nil, value-cons}
 use Rattle.field.proofs.Places.{hornerEach-width, ofEach-none, ofEach-width, length-ofEach, take-ofEach}
 use Rattle.field.specs.PointTable.{multiplesOf, combineEach}
 use Rattle.field.proofs.PointTable.{combineEach-horner}
-use Rattle.poly.specs.Polynomials.{monic, valueFrom, valuesAt}
+use Rattle.poly.specs.Polynomials.{monic, valueFrom, eachValue, valuesAt}
 
 module _ (m : ℕ) where
   pub values-width : Width m → (g s : List ℕ) → valuesAt m g s ≡ eachWith (λ x a. value m (monic g) a) (replicate 8192 1) s
@@ -86,17 +86,17 @@ module _ (m : ℕ) (g r a : List ℕ) where
       ∙ from-next w k p h
 
 -- block after block: the first `at` places
-module _ (m : ℕ) (g s : List ℕ) where
+module _ (m : ℕ) (g d s : List ℕ) where
   unfoldable pub valuesTo : ℕ → List ℕ
-  valuesTo at = eachWith (valueFrom m g) (replicate 8192 1) (take at s)
+  valuesTo at = eachWith (valueFrom m g) d (take at s)
 
-  pub length-valuesTo : (at : ℕ) → length (valuesTo at) ≡ 8192
+  pub length-valuesTo : (at : ℕ) → length (valuesTo at) ≡ length d
   unfolding valuesTo
-  length-valuesTo at = length-eachWith (valueFrom m g) (replicate 8192 1) (take at s) ∙ length-replicate {A = ℕ} 8192 1
+  length-valuesTo at = length-eachWith (valueFrom m g) d (take at s)
 
-  pub to-start : replicate 8192 1 ≡ valuesTo 0
+  pub to-start : d ≡ valuesTo 0
   unfolding valuesTo
-  to-start = sym (eachWith-nil (valueFrom m g) (replicate 8192 1))
+  to-start = sym (eachWith-nil (valueFrom m g) d)
 
   pub to-next : (at e : ℕ) (r y : List ℕ) → at ≤ e → e ≤ length s → r ≡ valuesTo at
       → y ≡ eachWith (valueFrom m g) (midOf at (e - at) r) (midOf at (e - at) s) → putMid at (e - at) r y ≡ valuesTo e
@@ -106,11 +106,22 @@ module _ (m : ℕ) (g s : List ℕ) where
       let f : ℕ → ℕ → ℕ = valueFrom m g in
       ap (putMid at (e - at) r) ey
       ∙ ap (λ (r : List ℕ). putMid at (e - at) r (eachWith f (midOf at (e - at) r) (midOf at (e - at) s))) er
-      ∙ eachWith-block f at (e - at) (replicate 8192 1) s (omega arith)
-      ∙ ap (λ (n : ℕ). eachWith f (replicate 8192 1) (take n s)) k
+      ∙ eachWith-block f at (e - at) d s (omega arith)
+      ∙ ap (λ (n : ℕ). eachWith f d (take n s)) k
 
-  pub to-all : Width m → (at : ℕ) → (at < length s → 8192 ≤ at) → valuesTo at ≡ valuesAt m g s
-  unfolding valuesTo valueFrom monic
-  to-all w at h =
-      eachWith-take (valueFrom m g) (replicate 8192 1) s at (λ l. rw length-replicate (h l))
-      ∙ eachWith-replicate (valueFrom m g) 8192 1 s ∙ sym (values-width m w g s)
+  pub to-all : Width m → (at : ℕ) → (at < length s → length d ≤ at) → valuesTo at ≡ eachValue m g d s
+  unfolding valuesTo eachValue
+  to-all w at h = eachWith-take (valueFrom m g) d s at h ∙ sym (ap (λ (b : Bool). cond b (eachWith (valueFrom m g) d s) d) w)
+
+  pub to-none : isWidth m ≡ false → d ≡ eachValue m g d s
+  unfolding eachValue
+  to-none e = sym (ap (λ (b : Bool). cond b (eachWith (valueFrom m g) d s) d) e)
+
+-- from leading coefficients 1
+pub each-values : (m : ℕ) (g s : List ℕ) → eachValue m g (replicate 8192 1) s ≡ valuesAt m g s
+unfolding eachValue valueFrom monic
+each-values m g s = go (isWidth m) refl
+  where
+    go : (b : Bool) → isWidth m ≡ b → cond b (eachWith (valueFrom m g) (replicate 8192 1) s) (replicate 8192 1) ≡ valuesAt m g s
+    go true w = eachWith-replicate (valueFrom m g) 8192 1 s ∙ sym (values-width m w g s)
+    go false e = values-none m e g s

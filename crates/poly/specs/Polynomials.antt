@@ -1,12 +1,12 @@
 -- Polynomials over GF(2^m) as lists of coefficients, the lowest first, and 'a square divides g'. Assumes nothing.
 use Prim.Native.Nat.{ℕ, zero, suc, _+_, _-_, _*_, _/_, _^_}
-use mathlib.Core.Bool.{Bool, true, false, _&&_, _||_}
+use mathlib.Core.Bool.{Bool, true, false, cond, _&&_, _||_}
 use mathlib.Core.List.{List, [], _∷_, _++_, map}
 use lib.Dec.{eqb}
 use lib.ListN.{length, getD}
 use Rattle.bits.specs.Xor.{_⊕_}
-use Rattle.bits.specs.Bits.{from}
-use Rattle.field.specs.Field.{mul}
+use Rattle.bits.specs.Bits.{from, eachWith}
+use Rattle.field.specs.Field.{isWidth, mul}
 use Rattle.field.specs.Poly.{value, ofEach}
 
 -- the sum of elements
@@ -28,6 +28,10 @@ monic l = l ++ (1 ∷ [])
 -- the polynomial with the lower coefficients g and the leading coefficient x, at a
 unfoldable pub valueFrom : ℕ → List ℕ → ℕ → ℕ → ℕ
 valueFrom m g x a = value m (g ++ (x ∷ [])) a
+
+-- the same for each leading coefficient of r and point of s; r itself where m is no width
+unfoldable pub eachValue : ℕ → List ℕ → List ℕ → List ℕ → List ℕ
+eachValue m g r s = cond (isWidth m) (eachWith (valueFrom m g) r s) r
 
 -- the monic polynomial with the lower coefficients g at each point, of at most 8192; 1 past them, and everywhere where m is no width
 unfoldable pub valuesAt : ℕ → List ℕ → List ℕ → List ℕ

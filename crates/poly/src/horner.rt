@@ -6,7 +6,7 @@ ghost use lib.ListN.{length};
 ghost use Rattle.bits.specs.Bits.{eachWith};
 ghost use Rattle.field.specs.Field.{isWidth};
 ghost use Rattle.field.specs.Poly.{value as valueOf};
-ghost use Rattle.poly.specs.Polynomials.{valueFrom, valuesAt};
+ghost use Rattle.poly.specs.Polynomials.{valueFrom, eachValue};
 
 // p(a) by Horner's rule, coefficient 0 of p first.
 pub fn value(m: u8, p: &[u16], a: u16) -> u16
@@ -35,21 +35,19 @@ fn value_block(m: u8, g: &[u16], r: &mut [u16], a: &[u16])
     }
 }
 
-// The monic polynomial with the lower coefficients g at each point, of at most 8192, in blocks of 64 points; 1 past them, and
-// everywhere where m is no width.
-pub fn values(m: u8, g: &[u16], points: &[u16]) -> [u16; 8192]
-    ensures { λ r. ⌜ r ≡ valuesAt m (now (g .entry)) (now (points .entry)) ⌝ }
+// The polynomial with the lower coefficients g and the leading coefficient r[i] at the point a[i], as far as both go, in blocks of 64
+// points; nothing where m is no width.
+pub fn value_each(m: u8, g: &[u16], r: &mut [u16], points: &[u16])
+    ensures { λ _. ⌜ now (r .exit) ≡ eachValue m (now (g .entry)) (now (r .entry)) (now (points .entry)) ⌝ }
 {
-    let mut r = [1u16; 8192];
     if field::modulus(m) == 0 {
-        return r;
+        return;
     }
-    let n = bits::smaller(points.len(), 8192);
+    let n = bits::smaller(r.len(), points.len());
     let mut at = 0;
     while at < n {
         let e = bits::smaller(at + 64, n);
         value_block(m, g, &mut r[at..e], &points[at..e]);
         at = e;
     }
-    r
 }

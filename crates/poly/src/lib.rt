@@ -2,4 +2,4 @@
 mod horner;
 
 pub use horner::value;
-pub use horner::values;
+pub use horner::value_each;

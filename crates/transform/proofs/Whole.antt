@@ -80,24 +80,24 @@ all m p {n} {t} {c} {y} l et ec ey =
     ap₂ _++_ e (drop-zeros t 8192 ∙ ap (λ (i : ℕ). replicate (8192 - i) 0) (et ∙ sym (length-everywhere m p)))
 
 -- points: the first i
-module _ (m : ℕ) (v points : List ℕ) where
+module _ (m : ℕ) (v d points : List ℕ) where
   unfoldable pub gatheredTo : ℕ → List ℕ
-  gatheredTo i = eachWith (λ x a. getD v (a % 2 ^ m) 0) (replicate 8192 1) (take i points)
+  gatheredTo i = eachWith (λ x a. getD v (a % 2 ^ m) 0) d (take i points)
 
-  pub gathered-start : replicate 8192 1 ≡ gatheredTo 0
+  pub gathered-start : d ≡ gatheredTo 0
   unfolding gatheredTo
-  gathered-start = sym (eachWith-nil _ (replicate 8192 1))
+  gathered-start = sym (eachWith-nil _ d)
 
-  pub gathered-next : (i : ℕ) {r : List ℕ} → r ≡ gatheredTo i → i < length points → i < 8192
+  pub gathered-next : (i : ℕ) {r : List ℕ} → r ≡ gatheredTo i → i < length points → i < length d
       → set r i (getD v (getD points i 0 % 2 ^ m) 0) ≡ gatheredTo (i + 1)
   unfolding gatheredTo
   gathered-next i e l h =
       ap (λ (r : List ℕ). set r i (getD v (getD points i 0 % 2 ^ m) 0)) e
-      ∙ eachWith-suc _ (replicate 8192 1) points i l (omega (arith, length-replicate {A = ℕ} 8192 1)) ∙ ap (λ (j : ℕ). gatheredTo j) (sym (add-one i))
+      ∙ eachWith-suc _ d points i l h ∙ ap (λ (j : ℕ). gatheredTo j) (sym (add-one i))
 
-  pub gathered-all : (i : ℕ) → (i < length points → 8192 ≤ i) → gatheredTo i ≡ eachWith (λ x a. getD v (a % 2 ^ m) 0) (replicate 8192 1) points
+  pub gathered-all : (i : ℕ) → (i < length points → length d ≤ i) → gatheredTo i ≡ eachWith (λ x a. getD v (a % 2 ^ m) 0) d points
   unfolding gatheredTo
-  gathered-all i h = eachWith-take _ (replicate 8192 1) points i (λ l. omega (arith, h l, length-replicate {A = ℕ} 8192 1))
+  gathered-all i h = eachWith-take _ d points i h
 
 -- the values at every element give those at points
 pub gathered-values : (m : ℕ) → Width m → (g points : List ℕ) {v r : List ℕ} → v ≡ padded 8192 (everywhere m (monic g))

@@ -3,7 +3,7 @@ use super::everywhere::everywhere;
 ghost use mathlib.Core.Path.{_≡_};
 ghost use mathlib.Core.Bool.{true};
 ghost use Prim.Native.Nat.{_%_, _^_, _≤_, _<_};
-ghost use lib.ListN.{getD, replicate};
+ghost use lib.ListN.{getD};
 ghost use Rattle.bits.specs.Bits.{eachWith};
 ghost use Rattle.field.specs.Field.{isWidth};
 ghost use Rattle.poly.specs.Polynomials.{valuesAt};
@@ -34,20 +34,18 @@ fn place(m: u8, a: u16) -> usize
     (a & mask) as usize
 }
 
-// v at the place of each point, of at most 8192; 1 past them.
-fn gathered(m: u8, v: &[u16; 8192], points: &[u16]) -> [u16; 8192]
+// v at the place of each point in r, as far as both go.
+fn gather(m: u8, v: &[u16; 8192], r: &mut [u16], points: &[u16])
     requires { ⌜ isWidth m ≡ true ⌝ }
-    ensures { λ r. ⌜ r ≡ eachWith (λ x a. getD (now (v .entry)) (a % 2 ^ m) 0) (replicate 8192 1) (now (points .entry)) ⌝ }
+    ensures { λ _. ⌜ now (r .exit) ≡ eachWith (λ x a. getD (now (v .entry)) (a % 2 ^ m) 0) (now (r .entry)) (now (points .entry)) ⌝ }
 {
-    let n = bits::smaller(points.len(), 8192);
-    let mut r = [1u16; 8192];
+    let n = bits::smaller(r.len(), points.len());
     let mut i = 0;
     while i < n {
         let p = place(m, points[i]);
         r[i] = v[p];
         i += 1;
     }
-    r
 }
 
 // The monic polynomial with the lower coefficients g at each point, of at most 8192; 1 past them, and everywhere where m is no
@@ -55,9 +53,12 @@ fn gathered(m: u8, v: &[u16; 8192], points: &[u16]) -> [u16; 8192]
 pub fn values(m: u8, g: &[u16], points: &[u16]) -> [u16; 8192]
     ensures { λ r. ⌜ r ≡ valuesAt m (now (g .entry)) (now (points .entry)) ⌝ }
 {
-    if !worth(m, g.len(), bits::smaller(points.len(), 8192)) {
-        return poly::values(m, g, points);
+    let mut r = [1u16; 8192];
+    if worth(m, g.len(), bits::smaller(points.len(), 8192)) {
+        let v = everywhere(m, g);
+        gather(m, &v, &mut r, points);
+        return r;
     }
-    let v = everywhere(m, g);
-    gathered(m, &v, points)
+    poly::value_each(m, g, &mut r, points);
+    r
 }

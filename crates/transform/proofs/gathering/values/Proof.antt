@@ -1,8 +1,10 @@
 -- `transform::gathering::values` meets its contract. Assumes nothing.
+use mathlib.Core.Path.{_∙_}
 use native.Mathlib.Nat.{min-le-right}
 use native.Mathlib.Omega.{arith}
-use borrow.Author.Tests.{not-false}
 use lib.ListN.{length}
+use borrow.Author.Needs.{needs}
+use Rattle.poly.proofs.AtPoints.{each-values}
 use Rattle.transform.proofs.Whole.{gathered-values}
 use Rattle.transform.proofs.gathering.values.Statement.{statement}
 use Rattle.transform.proofs.gathering.values.Tie as tie
@@ -15,24 +17,34 @@ worth-requires c κs =
     let p = c .before .before .before .args .points .now in
     omega (arith, c .smaller .ensures, min-le-right (length p) 8192)
 
-values-requires : tie.Need-values-requires
-values-requires c κs = tt
+everywhere-requires : tie.Need-everywhere-requires
+everywhere-requires c κs = c .before .worth .ensures (c .if1 .taken)
+
+slice-aggregate-gather : tie.Need-slice-aggregate-gather
+slice-aggregate-gather c = search needs
+
+gather-requires : tie.Need-gather-requires
+gather-requires c κs = let t = c .before .before .before in t .before .worth .ensures (t .if1 .taken) .0
 
 returns : tie.Need-returns
-returns c = c .values .ensures
+returns c =
+    let g = c .before in
+    let v = g .before .before .before in
+    let t = v .before in
+    let a = t .before .before .before .before .before .args in
+    gathered-values (a .m) (t .before .worth .ensures (t .if1 .taken) .0) (a .g .now) (a .points .now) (v .everywhere .ensures) (g .gather .ensures)
 
-everywhere-requires : tie.Need-everywhere-requires
-everywhere-requires c κs = c .before .worth .ensures (not-false _ (c .if1 .left))
+slice-aggregate-value-each : tie.Need-slice-aggregate-value-each
+slice-aggregate-value-each c = search needs
 
-gathered-requires : tie.Need-gathered-requires
-gathered-requires c κs = let e = c .before .before in e .before .worth .ensures (not-false _ (e .if1 .left)) .0
+value-each-requires : tie.Need-value-each-requires
+value-each-requires c κs = tt
 
 returns-2 : tie.Need-returns-2
 returns-2 c =
-    let v = c .before .before in
-    let e = v .before in
-    let a = e .before .before .before .before .before .args in
-    gathered-values (a .m) (e .before .worth .ensures (not-false _ (e .if1 .left)) .0) (a .g .now) (a .points .now) (v .everywhere .ensures) (c .gathered .ensures)
+    let v = c .before in
+    let a = v .before .before .before .before .before .before .before .args in
+    v .value-each .ensures ∙ each-values (a .m) (a .g .now) (a .points .now)
 
 pub values-spec : {M : Type 1} → statement M
 values-spec =
@@ -40,8 +52,10 @@ values-spec =
     (tie.spec
     smaller-requires
     worth-requires
-    values-requires
-    returns
     everywhere-requires
-    gathered-requires
+    slice-aggregate-gather
+    gather-requires
+    returns
+    slice-aggregate-value-each
+    value-each-requires
     returns-2)
