@@ -70,11 +70,9 @@ fn summed(m: u8, k: u8, d: &mut [u16], c: &mut [u16])
     ensures { λ _. ⌜ now (c .exit) ≡ powerSums m (2 ^ k) (now (d .entry)) ⌝ }
 {
     let l = Levels::of(m);
-    let tops = l.tops;
-    let factors = l.factors;
-    fold_down(m, k, &factors, d);
+    fold_down(m, k, &l.factors, d);
     heap(m, d, two(m - k), c);
-    merge_up(m, k, tops, c);
+    merge_up(m, k, l.tops, c);
 }
 
 // The lesser of m and 8.

@@ -6,7 +6,7 @@ use native.Mathlib.Nat.{le-of-suc-le-suc, not-suc-le-zero, mod-lt}
 use native.Mathlib.Numerals.{add-one}
 use native.Mathlib.Omega.{arith}
 use lib.Pow.{pow-mono, pow-pos}
-use lib.ListN.{length, getD, take, drop, set, replicate, length-append, length-replicate}
+use lib.ListN.{length, getD, take, drop, set, replicate, length-append}
 use lib.Seq.{length-take-le, take-all, take-append-seam, getD-append-seam}
 use Rattle.bits.specs.Xor.{_⊕_}
 use Rattle.bits.specs.Bits.{from, eachWith, padded}
@@ -66,18 +66,18 @@ prefix-length k n p {c} h l en ec =
     let i : n ≤ length c = omega (arith, en, pow-mono l) in
     (i, length-take-le n c i)
 
-pub zeros-prefix : (m : ℕ) {t : ℕ} → m < 14 → t ≡ 2 ^ m → (t ≤ 8192) × (length (take t (replicate {A = ℕ} 8192 0)) ≡ t)
-zeros-prefix m {t} h e =
-    let d : m ≤ 13 = omega arith in
-    let i : t ≤ 8192 = omega (arith, e, pow-mono d) in
-    (i, length-take-le t (replicate {A = ℕ} 8192 0) (omega (arith, length-replicate {A = ℕ} 8192 0)))
+pub places-prefix : (m : ℕ) (d : List ℕ) {t : ℕ} → m < 14 → t ≡ 2 ^ m → length d ≡ 8192 → (t ≤ length d) × (length (take t d) ≡ t)
+places-prefix m d {t} h e ed =
+    let s : m ≤ 13 = omega arith in
+    let i : t ≤ length d = omega (arith, e, pow-mono s) in
+    (i, length-take-le t d i)
 
-pub all : (m : ℕ) (p : List ℕ) {n t : ℕ} {c y : List ℕ} → length p ≤ n → t ≡ 2 ^ m → c ≡ padded 512 p
-    → y ≡ everywhere m (take n c) → y ++ drop t (replicate 8192 0) ≡ padded 8192 (everywhere m p)
+pub all : (m : ℕ) (p : List ℕ) {n t : ℕ} {c d y : List ℕ} → d ≡ replicate 8192 0 → length p ≤ n → t ≡ 2 ^ m → c ≡ padded 512 p
+    → y ≡ everywhere m (take n c) → y ++ drop t d ≡ padded 8192 (everywhere m p)
 unfolding padded
-all m p {n} {t} {c} {y} l et ec ey =
-    let e : y ≡ everywhere m p = ey ∙ ap (λ (r : List ℕ). everywhere m (take n r)) ec ∙ everywhere-behind m n p l in
-    ap₂ _++_ e (drop-zeros t 8192 ∙ ap (λ (i : ℕ). replicate (8192 - i) 0) (et ∙ sym (length-everywhere m p)))
+all m p {n} {t} ed l et ec ey =
+    let e = ey ∙ ap (λ (r : List ℕ). everywhere m (take n r)) ec ∙ everywhere-behind m n p l in
+    ap₂ _++_ e (ap (drop t) ed ∙ drop-zeros t 8192 ∙ ap (λ (i : ℕ). replicate (8192 - i) 0) (et ∙ sym (length-everywhere m p)))
 
 -- points: the first i
 module _ (m : ℕ) (v d points : List ℕ) where

@@ -7,7 +7,7 @@ use levels::two;
 ghost use mathlib.Core.Path.{_≡_};
 ghost use mathlib.Core.Bool.{true};
 ghost use Prim.Native.Nat.{ℕ, _^_, _≤_, _<_};
-ghost use lib.ListN.{length};
+ghost use lib.ListN.{length, replicate};
 ghost use Rattle.bits.specs.Bits.{padded};
 ghost use Rattle.field.specs.Field.{isWidth};
 ghost use Rattle.poly.specs.Polynomials.{monic as monicOf};
@@ -60,11 +60,9 @@ fn transformed(m: u8, k: u8, c: &mut [u16], d: &mut [u16])
     ensures { λ _. ⌜ now (d .exit) ≡ everywhereOf m (now (c .entry)) ⌝ }
 {
     let l = Levels::of(m);
-    let tops = l.tops;
-    let factors = l.factors;
-    descend(m, k, tops, c);
+    descend(m, k, l.tops, c);
     spread(c, two(m - k), d);
-    ascend(m, k, &factors, d);
+    ascend(m, k, &l.factors, d);
 }
 
 // The lower coefficients and the leading coefficient 1, with zeros behind them.
@@ -77,16 +75,14 @@ fn monic(g: &[u16]) -> [u16; 512]
     c
 }
 
-// The monic polynomial with the lower coefficients g at a at place a for each element a, and 0 past them.
-pub fn everywhere(m: u8, g: &[u16]) -> [u16; 8192]
-    requires { ⌜ (isWidth m ≡ true) × (9 ≤ m) × (length (now g) < 512) ⌝ }
-    ensures { λ r. ⌜ r ≡ padded 8192 (everywhereOf m (monicOf (now (g .entry)))) ⌝ }
+// The monic polynomial with the lower coefficients g at a at place a of d for each element a, where d is zeros.
+pub fn everywhere(m: u8, g: &[u16], d: &mut [u16])
+    requires { ⌜ (isWidth m ≡ true) × (9 ≤ m) × (length (now g) < 512) × (now d ≡ replicate 8192 0) ⌝ }
+    ensures { λ _. ⌜ now (d .exit) ≡ padded 8192 (everywhereOf m (monicOf (now (g .entry)))) ⌝ }
 {
-    let mut d = [0u16; 8192];
     let mut c = monic(g);
     let k = depth(g.len() + 1);
     let n = two(k);
     let top = two(m);
     transformed(m, k, &mut c[..n], &mut d[..top]);
-    d
 }

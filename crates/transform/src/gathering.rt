@@ -55,7 +55,8 @@ pub fn values(m: u8, g: &[u16], points: &[u16]) -> [u16; 8192]
 {
     let mut r = [1u16; 8192];
     if worth(m, g.len(), bits::smaller(points.len(), 8192)) {
-        let v = everywhere(m, g);
+        let mut v = [0u16; 8192];
+        everywhere(m, g, &mut v);
         gather(m, &v, &mut r, points);
         return r;
     }

@@ -15,7 +15,7 @@ of-requires c κs = tt
 
 fold-down-requires : tie.Need-fold-down-requires
 fold-down-requires c κs =
-    let o = c .before .before .before .before in
+    let o = c .before .before .before in
     let s = o .before .before .before in
     (s .pre .0, s .pre .1, s .pre .3, levels-factors (s .args .m) (s .pre .0) (o .of .ensures) (s .args .k) (s .pre .1) (s .pre .2))
 
@@ -29,17 +29,17 @@ heap-requires : tie.Need-heap-requires
 heap-requires c κs =
     let t = c .before in
     let f = t .before .before .before .before in
-    let s = f .before .before .before .before .before .before .before .before in
+    let s = f .before .before .before .before .before .before .before in
     let a = s .args in
     let n = width-narrow _ (s .pre .0) in
     heap-size (a .m) (s .pre .0) (a .k) (t .two .result) (a .d .now) _ (s .pre .3) (s .pre .1) (two-below _ (t .two .ensures) (omega arith)) (f .fold-down .ensures) (s .pre .4)
 
 merge-up-requires : tie.Need-merge-up-requires
 merge-up-requires c κs =
-    let p = c .before .before .before in
+    let p = c .before .before .before .before in
     let t = p .before .before in
     let f = t .before .before .before .before in
-    let o = f .before .before .before .before .before in
+    let o = f .before .before .before .before in
     let s = o .before .before .before in
     let a = s .args in (
       s .pre .0,
@@ -58,10 +58,10 @@ same-length-2 c = search needs
 returns : tie.Need-returns
 returns c =
     let u = c .before .before in
-    let p = u .before .before .before .before in
+    let p = u .before .before .before .before .before in
     let t = p .before .before in
     let f = t .before .before .before .before in
-    let s = f .before .before .before .before .before .before .before .before in
+    let s = f .before .before .before .before .before .before .before in
     let a = s .args in
     let n = width-narrow _ (s .pre .0) in
     summed-form (a .m) (s .pre .0) (a .k) (t .two .result) _ (a .d .now) _ _ _ (s .pre .3) (s .pre .1) (two-below _ (t .two .ensures) (omega arith)) (s .pre .4)

@@ -1,16 +1,16 @@
 -- `transform::everywhere::everywhere` meets its contract. Assumes nothing.
-use mathlib.Core.Path.{_≡_, sym, _∙_}
+use mathlib.Core.Path.{_≡_, sym, ap, _∙_}
 use mathlib.Core.List.{List}
 use Prim.Native.Nat.{ℕ, _+_, _^_, _≤_, _<_}
 use native.Mathlib.Omega.{arith}
-use lib.ListN.{length, take}
+use lib.ListN.{length, take, replicate, length-replicate}
 use borrow.Author.Needs.{needs}
 use Rattle.bits.specs.Bits.{padded}
 use Rattle.field.proofs.Table.{width-narrow}
 use Rattle.levels.specs.Levels.{twoOf}
 use Rattle.levels.proofs.TwoPowers.{two-below}
 use Rattle.poly.specs.Polynomials.{monic}
-use Rattle.transform.proofs.Whole.{length-monic, prefix-length, zeros-prefix, all}
+use Rattle.transform.proofs.Whole.{length-monic, prefix-length, places-prefix, all}
 use Rattle.transform.proofs.everywhere.everywhere.Statement.{statement}
 use Rattle.transform.proofs.everywhere.everywhere.Tie as tie
 
@@ -35,7 +35,7 @@ add-depth : tie.Need-add-depth
 add-depth c = search needs
 
 depth-requires : tie.Need-depth-requires
-depth-requires c κs = omega (arith, c .before .before .pre .2)
+depth-requires c κs = omega (arith, c .before .before .before .pre .2)
 
 two-requires : tie.Need-two-requires
 two-requires c κs = tt
@@ -46,33 +46,37 @@ two-requires-2 c κs = tt
 array-borrow-prefix-c : tie.Need-array-borrow-prefix-c
 array-borrow-prefix-c c =
     let d = c .before .before in
-    let s = d .before .before .before in
+    let s = d .before .before .before .before in
     coefficients (s .args .g .now) (s .pre .2) (d .depth .ensures) (c .before .two .ensures) (d .before .monic .ensures) .0
 
 slice-aggregate-transformed : tie.Need-slice-aggregate-transformed
 slice-aggregate-transformed c =
     let d = c .before .before .before in
-    let s = d .before .before .before in
+    let s = d .before .before .before .before in
     sym (coefficients (s .args .g .now) (s .pre .2) (d .depth .ensures) (c .before .before .two .ensures) (d .before .monic .ensures) .1)
 
-array-borrow-prefix-d : tie.Need-array-borrow-prefix-d
-array-borrow-prefix-d c =
-    let s = c .before .before .before .before .before .before in
+-- zeros
+eight : (d : List ℕ) → d ≡ replicate 8192 0 → length d ≡ 8192
+eight d e = ap length e ∙ length-replicate {A = ℕ} 8192 0
+
+slice-relend-prefix-transformed : tie.Need-slice-relend-prefix-transformed
+slice-relend-prefix-transformed c =
+    let s = c .before .before .before .before .before .before .before in
     let n = width-narrow _ (s .pre .0) in
-    zeros-prefix (s .args .m) n (two-below _ (c .before .two2 .ensures) n) .0
+    places-prefix (s .args .m) (s .args .d .now) n (two-below _ (c .before .two2 .ensures) n) (eight _ (s .pre .3)) .0
 
 slice-aggregate-transformed-2 : tie.Need-slice-aggregate-transformed-2
 slice-aggregate-transformed-2 c =
-    let s = c .before .before .before .before .before .before .before in
+    let s = c .before .before .before .before .before .before .before .before in
     let n = width-narrow _ (s .pre .0) in
-    sym (zeros-prefix (s .args .m) n (two-below _ (c .before .before .two2 .ensures) n) .1)
+    sym (places-prefix (s .args .m) (s .args .d .now) n (two-below _ (c .before .before .two2 .ensures) n) (eight _ (s .pre .3)) .1)
 
 transformed-requires : tie.Need-transformed-requires
 transformed-requires c κs =
     let u = c .before .before in
     let t = u .before in
     let d = t .before in
-    let s = d .before .before .before in
+    let s = d .before .before .before .before in
     let g = s .args .g .now in
     let n = width-narrow _ (s .pre .0) in
     let k = few g (s .pre .2) (d .depth .ensures) (t .two .ensures) in
@@ -82,19 +86,22 @@ transformed-requires c κs =
       k,
       coefficients g (s .pre .2) (d .depth .ensures) (t .two .ensures) (d .before .monic .ensures) .1
           ∙ many g (s .pre .2) (d .depth .ensures) (t .two .ensures),
-      zeros-prefix (s .args .m) n e .1 ∙ e,
+      places-prefix (s .args .m) (s .args .d .now) n e (eight _ (s .pre .3)) .1 ∙ e,
     )
+
+same-length : tie.Need-same-length
+same-length c = search needs
 
 returns : tie.Need-returns
 returns c =
-    let x = c .before .before in
+    let x = c .before .before .before in
     let u = x .before .before .before in
     let t = u .before in
     let d = t .before in
-    let s = d .before .before .before in
+    let s = d .before .before .before .before in
     let g = s .args .g .now in
     let n = width-narrow _ (s .pre .0) in
-    all (s .args .m) (monic g) (whole g (s .pre .2) (d .depth .ensures) (t .two .ensures)) (two-below _ (u .two2 .ensures) n) (d .before .monic .ensures) (x .transformed .ensures)
+    all (s .args .m) (monic g) (s .pre .3) (whole g (s .pre .2) (d .depth .ensures) (t .two .ensures)) (two-below _ (u .two2 .ensures) n) (d .before .monic .ensures) (x .transformed .ensures)
 
 pub everywhere-spec : {M : Type 1} → statement M
 everywhere-spec =
@@ -107,7 +114,8 @@ everywhere-spec =
     two-requires-2
     array-borrow-prefix-c
     slice-aggregate-transformed
-    array-borrow-prefix-d
+    slice-relend-prefix-transformed
     slice-aggregate-transformed-2
     transformed-requires
+    same-length
     returns)

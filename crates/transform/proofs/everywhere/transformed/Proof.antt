@@ -14,7 +14,7 @@ of-requires c κs = tt
 
 descend-requires : tie.Need-descend-requires
 descend-requires c κs =
-    let o = c .before .before .before in
+    let o = c .before .before in
     let s = o .before .before .before in
     (s .pre .0, s .pre .1, s .pre .2, s .pre .3, levels-tops (s .args .m) (s .pre .0) (o .of .ensures) (s .args .k) (s .pre .1) (s .pre .2))
 
@@ -28,17 +28,17 @@ spread-requires : tie.Need-spread-requires
 spread-requires c κs =
     let t = c .before in
     let d = t .before .before .before .before in
-    let s = d .before .before .before .before .before .before .before in
+    let s = d .before .before .before .before .before .before in
     let a = s .args in
     let n = width-narrow _ (s .pre .0) in
     spread-size (a .m) (s .pre .0) (a .k) (t .two .result) (a .c .now) _ (s .pre .3) (s .pre .1) (two-below _ (t .two .ensures) (omega arith)) (d .descend .ensures) (s .pre .4)
 
 ascend-requires : tie.Need-ascend-requires
 ascend-requires c κs =
-    let p = c .before .before .before .before in
+    let p = c .before .before .before .before .before in
     let t = p .before .before in
     let d = t .before .before .before .before in
-    let o = d .before .before .before .before in
+    let o = d .before .before .before in
     let s = o .before .before .before in
     let a = s .args in
     let n = width-narrow _ (s .pre .0) in
@@ -54,10 +54,10 @@ same-length-2 c = search needs
 returns : tie.Need-returns
 returns c =
     let u = c .before .before in
-    let p = u .before .before .before .before .before in
+    let p = u .before .before .before .before .before .before in
     let t = p .before .before in
     let d = t .before .before .before .before in
-    let s = d .before .before .before .before .before .before .before in
+    let s = d .before .before .before .before .before .before in
     let a = s .args in
     let n = width-narrow _ (s .pre .0) in
     transform-form (a .m) (s .pre .0) (a .k) (t .two .result) (a .c .now) _ _ _ (s .pre .3) (s .pre .1) (two-below _ (t .two .ensures) (omega arith)) (d .descend .ensures) (p .spread .ensures) (u .ascend .ensures)

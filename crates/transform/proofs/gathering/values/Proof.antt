@@ -1,5 +1,5 @@
 -- `transform::gathering::values` meets its contract. Assumes nothing.
-use mathlib.Core.Path.{_∙_}
+use mathlib.Core.Path.{refl, _∙_}
 use native.Mathlib.Nat.{min-le-right}
 use native.Mathlib.Omega.{arith}
 use lib.ListN.{length}
@@ -17,20 +17,26 @@ worth-requires c κs =
     let p = c .before .before .before .args .points .now in
     omega (arith, c .smaller .ensures, min-le-right (length p) 8192)
 
+slice-aggregate-everywhere : tie.Need-slice-aggregate-everywhere
+slice-aggregate-everywhere c = search needs
+
 everywhere-requires : tie.Need-everywhere-requires
-everywhere-requires c κs = c .before .worth .ensures (c .if1 .taken)
+everywhere-requires c κs =
+    let t = c .before in
+    let w = t .before .worth .ensures (t .if1 .taken) in
+    (w .0, w .1, w .2, refl)
 
 slice-aggregate-gather : tie.Need-slice-aggregate-gather
 slice-aggregate-gather c = search needs
 
 gather-requires : tie.Need-gather-requires
-gather-requires c κs = let t = c .before .before .before in t .before .worth .ensures (t .if1 .taken) .0
+gather-requires c κs = let t = c .before .before .before .before .before in t .before .worth .ensures (t .if1 .taken) .0
 
 returns : tie.Need-returns
 returns c =
     let g = c .before in
-    let v = g .before .before .before in
-    let t = v .before in
+    let v = g .before .before .before .before in
+    let t = v .before .before in
     let a = t .before .before .before .before .before .args in
     gathered-values (a .m) (t .before .worth .ensures (t .if1 .taken) .0) (a .g .now) (a .points .now) (v .everywhere .ensures) (g .gather .ensures)
 
@@ -52,6 +58,7 @@ values-spec =
     (tie.spec
     smaller-requires
     worth-requires
+    slice-aggregate-everywhere
     everywhere-requires
     slice-aggregate-gather
     gather-requires
