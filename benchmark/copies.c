@@ -13,11 +13,11 @@ static shearcotter_reply reply;
 static shearcotter_reported reported;
 static int counting, copies, failed;
 
-/* A station, which has more bytes than a support, or the support alone of the held key or of the file's. The decoder also
-   copies arrays of a support's size that are neither. */
+/* A station or its key, whose support and g lie side by side, or the support alone of the held key or of the file's. The decoder also copies arrays of about a
+   support's size that are neither. */
 static int counts(const void *from, size_t n)
 {
-    return n > ARRAY || (n == ARRAY && (memcmp(from, station.key.support, ARRAY) == 0 || memcmp(from, file + 3, 64) == 0));
+    return n >= ARRAY + sizeof station.key.g || (n == ARRAY && (memcmp(from, station.key.support, ARRAY) == 0 || memcmp(from, file + 3, 64) == 0));
 }
 
 void *memmove(void *to, const void *from, size_t n)

@@ -49,14 +49,36 @@ fn no_zero(s: &[u16]) -> bool
     true
 }
 
-// No g(a) is 0, a from s.
-fn no_root(m: u8, g: &[u16], s: &[u16]) -> bool
+// No g(a) is 0, a from at most 64 numbers.
+fn no_root_of_few(m: u8, g: &[u16], s: &[u16]) -> bool
+    requires { ⌜ (isWidth m ≡ true) × (length (now s) ≤ 64) ⌝ }
+    ensures { λ r. ⌜ r ≡ noRoot m (now (g .entry)) (now (s .entry)) ⌝ }
+{
+    let n = s.len();
+    let mut values = [1u16; 64];
+    poly::value_each(m, g, &mut values, s);
+    no_zero(&values[..n])
+}
+
+// The same, a from at most 8192.
+fn no_root_of_many(m: u8, g: &[u16], s: &[u16]) -> bool
     requires { ⌜ (isWidth m ≡ true) × (length (now s) ≤ 8192) ⌝ }
     ensures { λ r. ⌜ r ≡ noRoot m (now (g .entry)) (now (s .entry)) ⌝ }
 {
     let n = s.len();
     let values = transform::values(m, g, s);
     no_zero(&values[..n])
+}
+
+// No g(a) is 0, a from s: a short list takes no long array.
+fn no_root(m: u8, g: &[u16], s: &[u16]) -> bool
+    requires { ⌜ (isWidth m ≡ true) × (length (now s) ≤ 8192) ⌝ }
+    ensures { λ r. ⌜ r ≡ noRoot m (now (g .entry)) (now (s .entry)) ⌝ }
+{
+    if s.len() <= 64 {
+        return no_root_of_few(m, g, s);
+    }
+    no_root_of_many(m, g, s)
 }
 
 // Whether the elements are right: 4, 5, 6 or 7 on refusal.

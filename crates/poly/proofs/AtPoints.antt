@@ -2,8 +2,8 @@
 use mathlib.Core.Path.{_≡_, refl, sym, ap, _∙_, fun-ext}
 use mathlib.Core.Bool.{Bool, true, false, cond}
 use mathlib.Core.List.{List, [], _∷_, _++_, map}
-use Prim.Native.Nat.{ℕ, suc, _+_, _-_, _≤_, _<_}
-use native.Mathlib.Nat.{le-refl}
+use Prim.Native.Nat.{ℕ, zero, suc, _+_, _-_, _≤_, _<_}
+use native.Mathlib.Nat.{le-refl, le-of-suc-le-suc, not-suc-le-zero}
 use native.Mathlib.Omega.{arith}
 use lib.ListN.{length, getD, take, drop, replicate, drop-of-length-le}
 use lib.Seq.{drop-cons}
@@ -125,3 +125,15 @@ each-values m g s = go (isWidth m) refl
     go : (b : Bool) → isWidth m ≡ b → cond b (eachWith (valueFrom m g) (replicate 8192 1) s) (replicate 8192 1) ≡ valuesAt m g s
     go true w = eachWith-replicate (valueFrom m g) 8192 1 s ∙ sym (values-width m w g s)
     go false e = values-none m e g s
+
+-- at the points, at most k of them
+take-ones : (f : ℕ → ℕ → ℕ) (k : ℕ) (s : List ℕ) → length s ≤ k → take (length s) (eachWith f (replicate k 1) s) ≡ map (f 1) s
+unfolding eachWith
+take-ones f k [] h = refl
+take-ones f zero (a ∷ s) h = absurd (not-suc-le-zero h)
+take-ones f (suc k) (a ∷ s) h = ap (_∷_ (f 1 a)) (take-ones f k s (le-of-suc-le-suc h))
+
+pub take-each : (m : ℕ) → Width m → (g s : List ℕ) (k : ℕ) → length s ≤ k → take (length s) (eachValue m g (replicate k 1) s) ≡ map (value m (monic g)) s
+unfolding eachValue valueFrom monic
+take-each m w g s k h =
+    ap (λ (b : Bool). take (length s) (cond b (eachWith (valueFrom m g) (replicate k 1) s) (replicate k 1))) w ∙ take-ones (valueFrom m g) k s h

@@ -2,13 +2,11 @@
 use Prim.Native.Nat.{ℕ, zero, suc}
 use mathlib.Core.Path.{_≡_, refl, sym, ap, _∙_}
 use mathlib.Core.List.{List}
-use native.Mathlib.Omega.{arith}
 use Rattle.key.specs.declared.kept.Key.{Key}
-use Rattle.ledger.specs.Loading.{Loading}
 use Rattle.ledger.specs.Publishing.{Publishing}
 use Rattle.ledger.specs.Questions.{report}
-use Rattle.ledger.specs.Calls.{Call, load, publish, ask, step}
-use Rattle.station.specs.Replies.{byteOf, view, refusal, acceptance, moved, replyOf, handed, reportedOf}
+use Rattle.ledger.specs.Calls.{Call, publish, ask, step}
+use Rattle.station.specs.Replies.{view, refusal, acceptance, moved, replyOf, handed, reportedOf}
 use Rattle.station.specs.declared.Station.{Station}
 use Rattle.station.specs.declared.Reply.{Reply}
 use Rattle.station.specs.declared.Reported.{Reported}
@@ -35,20 +33,6 @@ module _ (s : Station) (c : Call) (r : Reply) (e : r ≡ handed s c .reply) wher
       go : (n : ℕ) → replyOf n s (moved s c) (step (view s) c .count) .station ≡ s
       go zero = m
       go (suc n) = refl
-
--- an accepted load leaves a station that is not empty
-full : (s : Station) (f : Loading) (n w : ℕ) → replyOf n s (moved s (load f)) w .refused ≡ 0 → replyOf n s (moved s (load f)) w .station .state ≡ 0 → ⊥
-unfolding replyOf acceptance refusal moved byteOf
-full s f zero w z h = omega arith
-full s f (suc n) w z h = omega arith
-
-module _ (s : Station) (f : Loading) (r : Reply) (e : r ≡ handed s (load f) .reply) where
-  pub own-empty : r .station .state ≡ 0 → refusal s (r .refused) ≡ handed s (load f) .reply
-  unfolding handed
-  own-empty h =
-      own-refused s (load f) r e (λ z.
-      full s f (step (view s) (load f) .number) (step (view s) (load f) .count)
-      (ap (λ (q : Reply). q .refused) (sym e) ∙ z) (ap (λ (q : Reply). q .station .state) (sym e) ∙ h))
 
 -- publish leaves the key
 module _ (s : Station) (p : Publishing) (r : Reply) (e : r ≡ handed s (publish p) .reply) where

@@ -95,14 +95,6 @@ pub extern "C" fn shearcotter_load(own: Station, file: &[u8]) -> Reply
     ensures { λ r. ⌜ r ≡ handed own (load (key-file (now (file .entry)))) .reply ⌝ }
 {
     let loaded = own.load(file);
-    let next = loaded.station;
-    if next.state == Station::EMPTY {
-        return Reply {
-            station: own,
-            refused: loaded.refused,
-            ones: 0,
-        };
-    }
     if loaded.refused != 0 {
         return Reply {
             station: own,

@@ -2,7 +2,7 @@
 use Rattle.ledger.specs.Loading.{key-file}
 use Rattle.ledger.specs.Calls.{load}
 use Rattle.station.specs.Replies.{refusal}
-use Rattle.shearcotter.proofs.Own.{own-empty, own-refused}
+use Rattle.shearcotter.proofs.Own.{own-refused}
 use Rattle.shearcotter.proofs.shearcotter_load.Statement.{statement}
 use Rattle.shearcotter.proofs.shearcotter_load.Tie as tie
 
@@ -12,19 +12,12 @@ load-requires c κs = tt
 returns : tie.Need-returns
 unfolding refusal
 returns c =
-    let l = c .before .before .before in
+    let l = c .before .before in
     let a = l .before .before .args in
-    own-empty (a .own) (key-file (a .file .now)) _ (l .load .ensures) (c .if1 .taken)
+    own-refused (a .own) (load (key-file (a .file .now))) _ (l .load .ensures) (c .if1 .taken)
 
 returns-2 : tie.Need-returns-2
-unfolding refusal
-returns-2 c =
-    let l = c .before .before .before .before .before in
-    let a = l .before .before .args in
-    own-refused (a .own) (load (key-file (a .file .now))) _ (l .load .ensures) (c .if2 .taken)
-
-returns-3 : tie.Need-returns-3
-returns-3 c = c .before .before .before .before .before .load .ensures
+returns-2 c = c .before .before .load .ensures
 
 pub shearcotter-load-spec : {M : Type 1} → statement M
-shearcotter-load-spec = tie.close (tie.spec load-requires returns returns-2 returns-3)
+shearcotter-load-spec = tie.close (tie.spec load-requires returns returns-2)
