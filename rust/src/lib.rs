@@ -22,8 +22,8 @@
 //!
 //! # Stack
 //!
-//! A call takes up to 143 KiB of stack, about 160 without optimisation, since the station passes by value. Each call touches
-//! [`raw::STACK`] bytes of stack first, 256 KiB, so that a thread with less ends at its guard page and nowhere else.
+//! A call takes up to 229 KiB of stack, about 250 without optimisation, since the station passes by value. Each call touches
+//! [`raw::STACK`] bytes of stack first, 384 KiB, so that a thread with less ends at its guard page and nowhere else.
 //!
 //! # Secrets
 //!

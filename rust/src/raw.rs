@@ -15,19 +15,19 @@ pub const COEFFICIENTS: usize = LONGEST + 1;
 /// The values of a byte, which a report counts.
 pub const BYTE_VALUES: usize = 256;
 /// Bytes of stack that each safe call makes sure of.
-pub const STACK: usize = 256 * 1024;
+pub const STACK: usize = 384 * 1024;
 /// Bytes of stack that `shearcotter_load` takes, its argument and reply in the caller included.
-pub const STACK_LOAD: usize = 102 * 1024;
+pub const STACK_LOAD: usize = 192 * 1024;
 /// The same for `shearcotter_publish`.
-pub const STACK_PUBLISH: usize = 102 * 1024;
+pub const STACK_PUBLISH: usize = 176 * 1024;
 /// Bytes of stack that `shearcotter_lock` takes.
 pub const STACK_LOCK: usize = 2 * 1024;
 /// The same as [`STACK_LOAD`] for `shearcotter_open`.
-pub const STACK_OPEN: usize = 139 * 1024;
+pub const STACK_OPEN: usize = 225 * 1024;
 /// The same for `shearcotter_read`.
-pub const STACK_READ: usize = 139 * 1024;
+pub const STACK_READ: usize = 225 * 1024;
 /// The same for `shearcotter_report`.
-pub const STACK_REPORT: usize = 143 * 1024;
+pub const STACK_REPORT: usize = 229 * 1024;
 /// The same for `shearcotter_drop`.
 pub const STACK_DROP: usize = 49 * 1024;
 
