@@ -280,14 +280,14 @@ static void botan(const times *x)
 
 static void chart(const times *x)
 {
-    printf("\nDecapsulation by Bouncy Castle / ours, a mark for each time faster:\n");
+    printf("\nDecapsulation by Bouncy Castle / ours, a mark for every four times faster:\n");
     for (int i = 0; i < SHAPES; i++) {
         double open = x[i].decapsulate / x[i].open, read = x[i].decapsulate / x[i].errors_read;
         printf("%-16s open %5.1f ", names[i], open);
-        for (int k = 0; k < (int)open; k++)
+        for (int k = 0; k < (int)open / 4; k++)
             putchar('#');
         printf("\n%-16s read %5.1f ", "", read);
-        for (int k = 0; k < (int)read; k++)
+        for (int k = 0; k < (int)read / 4; k++)
             putchar('#');
         printf("\n");
     }
