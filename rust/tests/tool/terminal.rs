@@ -7,7 +7,7 @@ use crate::support::run::{tool, Folder};
 use crate::support::terminal::session;
 use crate::support::vectors;
 
-const CAPSULES: usize = 800;
+const CAPSULES: usize = 4000;
 
 /// A key and as many capsules as take a second or two on one thread; all of them are refused 13.
 fn long_run() -> (Folder, String, String) {
