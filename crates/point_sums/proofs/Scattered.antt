@@ -19,6 +19,7 @@ use Rattle.field.proofs.Machine.{low-digits-lt}
 use Rattle.field.proofs.Table.{Width, width-narrow}
 use Rattle.field.proofs.Laws.{add-mul, zero-mul, power-low}
 use Rattle.power_sums.specs.Sums.{sumTo, powerSums, sumsAll}
+use Rattle.power_sums.proofs.Moments.{sum-cong}
 use Rattle.point_sums.specs.Weighted.{weightedSum, weightedSums}
 use Rattle.point_sums.specs.Parts.{addedAt, scattered}
 use Rattle.point_sums.proofs.Weighted.{take-sums}
@@ -53,12 +54,6 @@ module _ (m : ℕ) (w p : List ℕ) where
       | no a ↦ ap (λ (l : List ℕ). addedAt m d l (drop i p)) (drop-of-length-le w {i = i} (omega arith))
     ]
 
--- sums of equal terms
-same : (n : ℕ) (f g : ℕ → ℕ) → ((a : ℕ) → a < n → f a ≡ g a) → sumTo n f ≡ sumTo n g
-unfolding sumTo
-same zero f g e = refl
-same (suc n) f g e = ap₂ _⊕_ (same n f g (λ a h. e a (omega arith))) (e n (omega arith))
-
 -- equal but for v at the place i
 one : (n i : ℕ) (f g : ℕ → ℕ) (v : ℕ) → i < n → ((a : ℕ) → (a ≡ i → ⊥) → f a ≡ g a) → f i ≡ g i ⊕ v → sumTo n f ≡ sumTo n g ⊕ v
 unfolding sumTo
@@ -67,7 +62,7 @@ one (suc n) i f g v h e k = elim (decLt i n) [
   | yes a ↦ ap₂ _⊕_ (one n i f g v a e k) (e n (λ q. omega arith)) ∙ behind (sumTo n g) v (g n)
   | no a ↦
       let q : n ≡ i = omega arith in
-      ap₂ _⊕_ (same n f g (λ b c. e b (λ z. omega arith))) (ap f q ∙ k ∙ ap (λ (a : ℕ). g a ⊕ v) (sym q)) ∙ sym (xor-assoc _ _ _)
+      ap₂ _⊕_ (sum-cong n f g (λ b c. e b (λ z. omega arith))) (ap f q ∙ k ∙ ap (λ (a : ℕ). g a ⊕ v) (sym q)) ∙ sym (xor-assoc _ _ _)
 ]
   where
     behind : (x y z : ℕ) → x ⊕ y ⊕ z ≡ x ⊕ z ⊕ y

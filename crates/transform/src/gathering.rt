@@ -8,7 +8,8 @@ ghost use Rattle.bits.specs.Bits.{eachWith};
 ghost use Rattle.field.specs.Field.{isWidth};
 ghost use Rattle.poly.specs.Polynomials.{valuesAt};
 
-// Whether t coefficients at n points are dear enough for the transform: Horner's rule takes n·t products, the transform about 16·2^m.
+// Whether the transform is the shorter way for t coefficients at n points: Horner's rule takes n·t products, the transform as long as
+// about 16·2^m.
 fn worth(m: u8, t: usize, n: usize) -> bool
     requires { ⌜ n ≤ 8192 ⌝ }
     ensures { λ r. ⌜ (r ≡ true → (isWidth m ≡ true) × (9 ≤ m) × (t < 512)) ⌝ }
