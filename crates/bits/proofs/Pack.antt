@@ -140,7 +140,7 @@ low-digit b x h = omega arith
 high-digits : (b x : ℕ) → b < 2 → (b + 2 * x) / 2 ≡ x
 high-digits b x h = omega arith
 
-number-lt : (m : ℕ) (e : List ℕ) → ((k : ℕ) → getD e k 0 < 2) → length e ≤ m → number e < 2 ^ m
+pub number-lt : (m : ℕ) (e : List ℕ) → ((k : ℕ) → getD e k 0 < 2) → length e ≤ m → number e < 2 ^ m
 unfolding number
 number-lt m [] h l = pow-pos m
 number-lt zero (b ∷ e) h l = absurd (not-suc-le-zero l)
@@ -149,7 +149,7 @@ number-lt (suc m) (b ∷ e) h l =
     let j : b < 2 = h 0 in
     number-step m b (number e) j i
 
-number-digit : (e : List ℕ) (k : ℕ) → ((k : ℕ) → getD e k 0 < 2) → number e / 2 ^ k % 2 ≡ getD e k 0
+pub number-digit : (e : List ℕ) (k : ℕ) → ((k : ℕ) → getD e k 0 < 2) → number e / 2 ^ k % 2 ≡ getD e k 0
 unfolding number
 number-digit [] k h = simp (zero-div, zero-mod)
 number-digit (b ∷ e) zero h = low-digit b (number e) (h 0)
