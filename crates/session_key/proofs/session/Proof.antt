@@ -1,0 +1,65 @@
+-- The checks, what is found, then the key. Assumes nothing.
+use mathlib.Core.Path.{_∙_}
+use mathlib.Core.Bool.{not}
+use borrow.Author.Needs.{needs}
+use Rattle.field.proofs.Verdicts.{verdict-accepted, verdict-taken}
+use Rattle.key.specs.Kept.{kept, parts}
+use Rattle.session_key.proofs.Checks.{sizes}
+use Rattle.session_key.proofs.Derived.{found-key, answer-refused, answer-derived}
+use Rattle.session_key.proofs.session.Statement.{statement}
+use Rattle.session_key.proofs.session.Tie as tie
+
+check-session-requires : tie.Need-check-session-requires
+check-session-requires c κs = search needs
+
+enum-told : tie.Need-enum-told
+enum-told c = search needs
+
+enum-told-2 : tie.Need-enum-told-2
+enum-told-2 c = search needs
+
+number-requires : tie.Need-number-requires
+number-requires c κs = search needs
+
+returns : tie.Need-returns
+returns c =
+    let a = c .before .before .before .before .before .before .args in
+    let t = verdict-taken _ (c .before .before .before .check-session .ensures) (c .before .enum-told2 .given .1) (c .number .ensures) in
+    let k = parts (a .m) (a .n) (a .t) (a .support .now) (a .g .now) in
+    answer-refused (not (a .published)) (kept k) (a .capsule .now) (a .secret .now) (t .0) (t .1)
+
+open-checked-requires : tie.Need-open-checked-requires
+open-checked-requires c κs = search needs
+
+key-found-requires : tie.Need-key-found-requires
+unfolding kept
+key-found-requires c κs =
+    let t = c .before in
+    let a = t .before .before .before .before .before .args in
+    let k = parts (a .m) (a .n) (a .t) (a .support .now) (a .g .now) in
+    let s = sizes (not (a .published)) (kept k) (a .capsule .now) (a .secret .now) (verdict-accepted _ (t .before .before .check-session .ensures) (t .enum-told .given .1)) in
+    (s .places, (s .capsule-bytes, s .secret-bytes))
+
+returns-2 : tie.Need-returns-2
+returns-2 c =
+    let o = c .before in
+    let t = o .before in
+    let a = t .before .before .before .before .before .args in
+    let k = parts (a .m) (a .n) (a .t) (a .support .now) (a .g .now) in
+    let z = verdict-accepted _ (t .before .before .check-session .ensures) (t .enum-told .given .1) in
+    let s = sizes (not (a .published)) (kept k) (a .capsule .now) (a .secret .now) z in
+    answer-derived (not (a .published)) (kept k) (a .capsule .now) (a .secret .now) z
+    (c .key-found .ensures ∙ found-key k (a .capsule .now) (a .secret .now) (s .accepted-key) (s .capsule-right) (o .open-checked .ensures))
+
+pub session-spec : {M : Type 1} → statement M
+session-spec =
+    tie.close
+    (tie.spec
+    check-session-requires
+    enum-told
+    enum-told-2
+    number-requires
+    returns
+    open-checked-requires
+    key-found-requires
+    returns-2)

@@ -1,0 +1,19 @@
+-- What session answers, and a term of a private function. Assumes nothing.
+use Prim.Native.Nat.{ℕ}
+use mathlib.Core.Bool.{Bool, cond}
+use mathlib.Core.List.{List}
+use lib.ListN.{take}
+use Rattle.bits.specs.Bits.{bytesFor}
+use Rattle.key.specs.Keys.{Key}
+use Rattle.decoding.specs.declared.decoding.Found.{Found}
+use Rattle.session.specs.Session.{hashed, sessionNumber, sessionBytes}
+use Rattle.session_key.specs.declared.SessionKey.{SessionKey}
+
+-- the number, and the key
+unfoldable pub sessionAnswer : Bool → Key → List ℕ → List ℕ → SessionKey
+sessionAnswer unpublished k capsule secret =
+    record { refused = sessionNumber unpublished k capsule secret; key = sessionBytes unpublished k capsule secret }
+
+-- the key by what is found
+unfoldable pub foundKey : ℕ → Found → List ℕ → List ℕ → List ℕ
+foundKey n e capsule secret = cond (e .found) (hashed 1 (take (bytesFor n) (e .pattern)) capsule) (hashed 0 secret capsule)

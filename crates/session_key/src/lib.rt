@@ -1,0 +1,119 @@
+// The session key of a capsule under a kept key, lent by its parts (request L4).
+use decoding::Found;
+use field::Verdict;
+use key::kept::Key;
+use reading::capsule_bits;
+use reading::check_published;
+use reading::check_row;
+use reading::open_checked;
+ghost use mathlib.Core.Path.{_≡_};
+ghost use mathlib.Core.Bool.{not};
+ghost use Prim.Native.Nat.{_+_, _≤_};
+ghost use lib.ListN.{length};
+ghost use lib.Seq.{paste};
+ghost use Rattle.field.specs.Verdicts.{verdictOf};
+ghost use Rattle.key.specs.Kept.{kept, parts};
+ghost use Rattle.session.specs.Session.{hashed, sessionNumber};
+ghost use Rattle.session_key.specs.Answers.{foundKey, sessionAnswer};
+
+// The number of a refusal, or 0, and the session key; zeros on refusal.
+pub struct SessionKey {
+    pub refused: u8,
+    pub key: [u8; 32],
+}
+
+// Whether a session key can be derived: 25, 24, 8, 9 or 33 on refusal.
+fn check_session<'a>(
+    m: u8,
+    n: u16,
+    t: u16,
+    support: &'a [u16; Key::MOST_PLACES],
+    g: &'a [u16; Key::MOST_ERRORS],
+    published: bool,
+    capsule: &[u8],
+    secret: &[u8],
+) -> Verdict
+    ensures { λ r. ⌜ r ≡ verdictOf (sessionNumber (not published) (kept (parts m n t (now (support .entry)) (now (g .entry)))) (now (capsule .entry)) (now (secret .entry))) ⌝ }
+{
+    let x = check_published(m, n, t, support, g, published);
+    let Verdict::Accepted = x else {
+        return x;
+    };
+    let y = check_row(capsule_bits(m, t), capsule);
+    let Verdict::Accepted = y else {
+        return y;
+    };
+    if !bits::well_formed(secret, n as usize) {
+        return Verdict::Refused(33);
+    }
+    y
+}
+
+// s becomes what stands in out from `at` on.
+fn put(out: &mut [u8], at: usize, s: &[u8])
+    requires { ⌜ at + length (now s) ≤ length (now out) ⌝ }
+    ensures { λ _. ⌜ now (out .exit) ≡ paste (now (out .entry)) at (now (s .entry)) (length (now (s .entry))) ⌝ }
+{
+    let mut i = 0;
+    while i < s.len() {
+        out[at + i] = s[i];
+        i += 1;
+    }
+}
+
+// The first 32 bytes of SHAKE256 for a byte, a packed row and the capsule: at most 2049 bytes.
+fn hash(first: u8, row: &[u8], capsule: &[u8]) -> [u8; 32]
+    requires { ⌜ length (now row) + length (now capsule) ≤ 2048 ⌝ }
+    ensures { λ r. ⌜ r ≡ hashed first (now (row .entry)) (now (capsule .entry)) ⌝ }
+{
+    let mut text = [0u8; 2049];
+    text[0] = first;
+    put(&mut text, 1, row);
+    let at = 1 + row.len();
+    put(&mut text, at, capsule);
+    let end = at + capsule.len();
+    let mut key = [0u8; 32];
+    shake::shake256(&text[..end], &mut key);
+    key
+}
+
+// For the byte 1 and the n bits of the pattern that is found; where none is, for the byte 0 and the secret.
+fn key_found(e: Found, n: u16, capsule: &[u8], secret: &[u8]) -> [u8; 32]
+    requires { ⌜ n ≤ 8192 ⌝ }
+    requires { ⌜ length (now capsule) ≤ 1024 ⌝ }
+    requires { ⌜ length (now secret) ≤ 1024 ⌝ }
+    ensures { λ r. ⌜ r ≡ foundKey n e (now (capsule .entry)) (now (secret .entry)) ⌝ }
+{
+    if !e.found {
+        return hash(0, secret, capsule);
+    }
+    let pattern = e.pattern;
+    let end = bits::bytes_for(n as usize);
+    hash(1, &pattern[..end], capsule)
+}
+
+// The session key of a capsule, with the secret for one that gives 13; 25, 24, 8, 9 or 33 on refusal.
+pub fn session<'a>(
+    m: u8,
+    n: u16,
+    t: u16,
+    support: &'a [u16; Key::MOST_PLACES],
+    g: &'a [u16; Key::MOST_ERRORS],
+    published: bool,
+    capsule: &[u8],
+    secret: &[u8],
+) -> SessionKey
+    ensures { λ r. ⌜ r ≡ sessionAnswer (not published) (kept (parts m n t (now (support .entry)) (now (g .entry)))) (now (capsule .entry)) (now (secret .entry)) ⌝ }
+{
+    let x = check_session(m, n, t, support, g, published, capsule, secret);
+    let Verdict::Accepted = x else {
+        let key = [0u8; 32];
+        return SessionKey {
+            refused: field::number(x),
+            key,
+        };
+    };
+    let e = open_checked(m, n, t, support, g, capsule);
+    let key = key_found(e, n, capsule, secret);
+    SessionKey { refused: 0, key }
+}
