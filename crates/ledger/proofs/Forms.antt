@@ -16,10 +16,11 @@ use Rattle.code.specs.PublicKey.{Matrix, publicKey, dependent}
 use Rattle.code.specs.Publish.{workBytes, publishChecks, publishConditions, freeBytes}
 use Rattle.decoder.specs.Calls.{openConditions, readConditions}
 use Rattle.records.specs.Records.{reportConditions}
+use Rattle.session.specs.Session.{sessionConditions}
 use Rattle.ledger.specs.Station.{Held}
 use Rattle.ledger.specs.Loading.{Loading, key-file, loadingConditions, loadedKey}
 use Rattle.ledger.specs.Publishing.{Publishing, systematic, publishingConditions, freedBytes}
-use Rattle.ledger.specs.Questions.{Question, open-capsule, read-word, report, questionConditions}
+use Rattle.ledger.specs.Questions.{Question, open-capsule, read-word, report, session-key, questionConditions}
 
 -- load
 pub loading-numbered : (f : Loading) → numbered (loadingConditions f) ≡ true
@@ -58,10 +59,11 @@ publishing-public h (systematic out work) e =
 
 -- questions
 pub question-numbered : (h : Held) (q : Question) → numbered (questionConditions h q) ≡ true
-unfolding numbered questionConditions openConditions readConditions reportConditions
+unfolding numbered questionConditions openConditions readConditions reportConditions sessionConditions
 question-numbered h (open-capsule capsule out) = refl
 question-numbered h (read-word word out) = refl
 question-numbered h (report capsules records) = refl
+question-numbered h (session-key capsule secret) = refl
 
 -- A refusal by another number than 23 leaves the workspace as it was.
 only-23 : (b : Bool) (n : ℕ) → firstOf ((b, 23) ∷ []) ≡ suc n → suc n ≡ 23

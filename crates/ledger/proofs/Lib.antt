@@ -14,3 +14,4 @@ pub mod CodeWords
 pub mod Loads
 pub mod OwnWords
 pub mod Reports
+pub mod Sessions

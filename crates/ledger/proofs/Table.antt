@@ -7,7 +7,7 @@ use mathlib.Core.List.{List, [], _∷_, _++_, map, flatMap, zipWith}
 use mathlib.Core.Option.{some}
 use lib.ListN.{length, getD, replicate}
 use Rattle.bits.specs.Xor.{_⊕_}
-use Rattle.bits.specs.Bits.{from, every, bytesFor, bitAt, unpack, number, pack, ones, weight, fillerClear, eachWith, xorRow, dot, over}
+use Rattle.bits.specs.Bits.{from, every, bytesFor, bitAt, unpack, number, pack, ones, weight, fillerClear, wellFormed, eachWith, xorRow, dot, over}
 use Rattle.field.specs.Numbers.{firstOf}
 use Rattle.field.specs.Field.{isWidth, isElement, modulusOf, polyMul, reduced, mulMod, mul, power, lastBelow, inv}
 use Rattle.field.specs.Poly.{value}
@@ -23,10 +23,11 @@ use Rattle.decoder.specs.Reading.{corrects, reading, filled, exactly, opening}
 use Rattle.code.specs.Publish.{capsuleBits, publishChecks, publishConditions, freeBytes}
 use Rattle.decoder.specs.Calls.{found, isNone, openConditions, readConditions}
 use Rattle.records.specs.Records.{cut, capsulesOf, capsuleConditions, recordOf, recordsOf, occurrences, countsOf, reportConditions}
+use Rattle.session.specs.Session.{sessionConditions}
 use Rattle.ledger.specs.Station.{State, empty, loaded, published, Station, emptyKey, fresh, isEmpty, isUnpublished, heldBy, Result}
 use Rattle.ledger.specs.Loading.{key-file, loadingConditions, loadedKey}
 use Rattle.ledger.specs.Publishing.{systematic, publicBuffer, publishingConditions, publication, freedBytes}
-use Rattle.ledger.specs.Questions.{open-capsule, read-word, report, answerBuffer, questionConditions, gives, given, answerSize}
+use Rattle.ledger.specs.Questions.{open-capsule, read-word, report, session-key, answerBuffer, questionConditions, gives, given, answerSize}
 use Rattle.ledger.specs.Calls.{Call, load, publish, ask, drop-key, conditionsOf, outputOf, noAnswer, made, unless, step, run}
 use Rattle.ledger.specs.Ledger.{blank, heldIn, ledgerNumber, entered, fed, ledgerAfter, expected}
 
@@ -166,6 +167,17 @@ orders =
     (after published-K1 (ask (report (0x03 ∷ []) [])), refused 31) ∷
     (after published-K1 (ask (report (0x03 ∷ 0x00 ∷ 0x13 ∷ []) (9 ∷ 9 ∷ []))), refused 31) ∷
     (after published-K1 (ask (report [] [])), accepted [] 0) ∷
+    -- session key 21, 25, 24, 8, 9, 33
+    (after [] (ask (session-key [] [])), refused 21) ∷
+    (on (bad loaded) (ask (session-key [] [])), refused 25) ∷
+    (on (bad published) (ask (session-key (0x13 ∷ []) [])), refused 25) ∷
+    (after (load (key-file K1) ∷ []) (ask (session-key [] [])), refused 24) ∷
+    (after published-K1 (ask (session-key (0x13 ∷ 0x00 ∷ []) [])), refused 8) ∷
+    (after published-K1 (ask (session-key (0x13 ∷ []) [])), refused 9) ∷
+    (after published-K1 (ask (session-key (0x03 ∷ []) [])), refused 33) ∷
+    (after published-K1 (ask (session-key (0x03 ∷ []) (0x40 ∷ []))), refused 33) ∷
+    (after published-K1 (ask (session-key (0x03 ∷ []) (0x2a ∷ []))), accepted [] 0) ∷
+    (after published-K1 (ask (session-key (0x00 ∷ []) (0x2a ∷ []))), accepted [] 0) ∷
     -- drop 21
     (after [] drop-key, refused 21) ∷
     (on (bad published) drop-key, accepted [] 0) ∷
@@ -238,6 +250,8 @@ story =
     (ask (open-capsule (0x0A ∷ []) (zeros 1)), refused 13) ∷
     (ask (report (0x04 ∷ 0x0A ∷ 0x44 ∷ []) (zeros 2)), refused 31) ∷
     (ask (report (0x04 ∷ 0x0A ∷ 0x44 ∷ []) (7 ∷ 7 ∷ 7 ∷ 7 ∷ [])), accepted (0 ∷ 13 ∷ 9 ∷ 7 ∷ []) 0) ∷
+    (ask (session-key (0x0A ∷ []) []), refused 33) ∷
+    (ask (session-key (0x0A ∷ []) (zeros 1)), accepted [] 0) ∷
     (drop-key, accepted [] 0) ∷
     (load (key-file K1), accepted [] 0) ∷
     (ask (open-capsule [] (zeros 1)), refused 24) ∷
@@ -252,12 +266,12 @@ calls = map (λ r. r .0) story
 abbrev pub Story : Type 0
 Story =
     (answers fresh calls ≡ map (λ r. r .1) story) ×
-    (expected blank calls ≡ 21 ∷ 21 ∷ 21 ∷ 21 ∷ 0 ∷ 10 ∷ 11 ∷ 0 ∷ 0 ∷ 10 ∷ 0 ∷ 14 ∷ 0 ∷ 13 ∷ 31 ∷ 0 ∷ 0 ∷ 0 ∷ 24 ∷ 24 ∷ 24 ∷ 0 ∷ []) ×
+    (expected blank calls ≡ 21 ∷ 21 ∷ 21 ∷ 21 ∷ 0 ∷ 10 ∷ 11 ∷ 0 ∷ 0 ∷ 10 ∷ 0 ∷ 14 ∷ 0 ∷ 13 ∷ 31 ∷ 0 ∷ 33 ∷ 0 ∷ 0 ∷ 0 ∷ 24 ∷ 24 ∷ 24 ∷ 0 ∷ []) ×
     (ledgerAfter blank calls ≡ record { key = some (parse K1); mark = true })
 
 -- one computation for all tables
 tables-hold : Holds rows × Holds running × Holds orders × Holds remains × Holds reports × Story
-unfolding _⊕_ from every bytesFor bitAt unpack number pack ones weight fillerClear eachWith xorRow dot firstOf isWidth isElement modulusOf polyMul reduced mulMod mul power lastBelow inv value sum same monic product someBelow someList hasSquare inLimits pair elements parse twoBytes fileOf distinct goppaAt conditions fileConditions keyNumber K1 K2 K1-with K3 entry inCode parityRow parityRows withRow findPivot clear withPivot columns echelon publicKey dependent written locked rowOf rowsOf lockNumber lock orElse firstRow corrects reading filled exactly opening unsound emptyKey fresh isEmpty isUnpublished heldBy capsuleBits found isNone publishChecks publishConditions freeBytes openConditions readConditions cut capsulesOf capsuleConditions recordOf recordsOf occurrences countsOf reportConditions loadingConditions loadedKey publicBuffer publishingConditions publication freedBytes answerBuffer questionConditions gives given answerSize over conditionsOf outputOf noAnswer made unless step run blank heldIn ledgerNumber entered fed ledgerAfter expected answerBy answerOf lockAnswer countsIn answer zeros file published-K1 published-1 rows running bad orders remains two-bytes reports answers story calls flatMap zipWith
+unfolding _⊕_ from every bytesFor bitAt unpack number pack ones weight fillerClear wellFormed eachWith xorRow dot firstOf isWidth isElement modulusOf polyMul reduced mulMod mul power lastBelow inv value sum same monic product someBelow someList hasSquare inLimits pair elements parse twoBytes fileOf distinct goppaAt conditions fileConditions keyNumber K1 K2 K1-with K3 entry inCode parityRow parityRows withRow findPivot clear withPivot columns echelon publicKey dependent written locked rowOf rowsOf lockNumber lock orElse firstRow corrects reading filled exactly opening unsound emptyKey fresh isEmpty isUnpublished heldBy capsuleBits found isNone publishChecks publishConditions freeBytes openConditions readConditions cut capsulesOf capsuleConditions recordOf recordsOf occurrences countsOf reportConditions sessionConditions loadingConditions loadedKey publicBuffer publishingConditions publication freedBytes answerBuffer questionConditions gives given answerSize over conditionsOf outputOf noAnswer made unless step run blank heldIn ledgerNumber entered fed ledgerAfter expected answerBy answerOf lockAnswer countsIn answer zeros file published-K1 published-1 rows running bad orders remains two-bytes reports answers story calls flatMap zipWith
 tables-hold = (refl, refl, refl, refl, refl, (refl, refl, refl))
 
 pub rows-hold : Holds rows

@@ -8,3 +8,4 @@ pub mod Systems
 pub mod Demands
 pub mod OwnWords
 pub mod Reports
+pub mod Sessions

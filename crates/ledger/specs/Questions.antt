@@ -10,25 +10,29 @@ use Rattle.code.specs.Publish.{capsuleBits}
 use Rattle.decoder.specs.Reading.{reading, opening}
 use Rattle.decoder.specs.Calls.{found, openConditions, readConditions}
 use Rattle.records.specs.Records.{recordsOf, countsOf, reportConditions}
+use Rattle.session.specs.Session.{sessionKey, sessionConditions}
 use Rattle.ledger.specs.Station.{Held}
 
--- open: capsule, output; read: word, output; report: capsules back to back, record buffer
+-- open: capsule, output; read: word, output; report: capsules back to back, record buffer; session key: capsule, secret
 pub data Question : Type 0 where
   open-capsule : List ℕ → List ℕ → Question
   read-word : List ℕ → List ℕ → Question
   report : List ℕ → List ℕ → Question
+  session-key : List ℕ → List ℕ → Question
 
--- the buffer that is written to
+-- the buffer that is written to; a session key has none
 unfoldable pub answerBuffer : Question → List ℕ
 answerBuffer (open-capsule capsule out) = out
 answerBuffer (read-word word out) = out
 answerBuffer (report capsules records) = records
+answerBuffer (session-key capsule secret) = []
 
--- open 25, 24, 8, 9, 10, 13; read 25, 8, 9, 10, 14; report 25, 24, 31
+-- open 25, 24, 8, 9, 10, 13; read 25, 8, 9, 10, 14; report 25, 24, 31; session key 25, 24, 8, 9, 33
 unfoldable pub questionConditions : Held → Question → List (Bool × ℕ)
 questionConditions h (open-capsule capsule out) = openConditions (h .unsound) (h .unpublished) (h .key) capsule out
 questionConditions h (read-word word out) = readConditions (h .unsound) (h .key) word out
 questionConditions h (report capsules records) = reportConditions (h .unsound) (h .unpublished) (h .key) capsules (length records)
+questionConditions h (session-key capsule secret) = sessionConditions (h .unsound) (h .unpublished) (h .key) capsule secret
 
 -- What is answered: the output buffer, the number of ones written, and what the form answers besides.
 pub record Given : Type 0 where
@@ -40,15 +44,18 @@ pub record Given : Type 0 where
 unfoldable pub gives : List ℕ → List ℕ → Given
 gives e out = record { output = over (pack e) out; count = ones e; answer = [] }
 
--- the pattern for a capsule; the pattern for a word; the records of the capsules, and how often each byte value is among them
+-- the pattern for a capsule; the pattern for a word; the records of the capsules, and how often each byte value is among them; the
+-- 32 bytes of the session key
 unfoldable pub given : Key → Question → Given
 given k (open-capsule capsule out) = gives (found (opening k (unpack (capsuleBits k) capsule))) out
 given k (read-word word out) = gives (found (reading k (unpack (k .n) word))) out
 given k (report capsules records) =
     record { output = over (recordsOf k capsules) records; count = 0; answer = countsOf (recordsOf k capsules) }
+given k (session-key capsule secret) = record { output = []; count = 0; answer = sessionKey k capsule secret }
 
 -- how many numbers a form answers besides: zeros where it is refused
 unfoldable pub answerSize : Question → ℕ
 answerSize (open-capsule capsule out) = 0
 answerSize (read-word word out) = 0
 answerSize (report capsules records) = 256
+answerSize (session-key capsule secret) = 32
