@@ -1,10 +1,12 @@
--- The three demands of the code's calls, and in their own words; the import report. Assumes nothing.
+-- The three demands of the code's calls, and in their own words; the import report; the session keys. Assumes nothing.
 use Rattle.ledger.specs.Demands.{Demands}
 use Rattle.ledger.specs.OwnWords.{OwnWords}
 use Rattle.ledger.specs.Reports.{ImportReport}
+use Rattle.ledger.specs.Sessions.{SessionKeys}
 use Rattle.ledger.proofs.Simulation as Simulation
 use Rattle.ledger.proofs.OwnWords as Words
 use Rattle.ledger.proofs.Reports as Reports
+use Rattle.ledger.proofs.Sessions as Sessions
 use Rattle.station.specs.Replies.{code}
 use Rattle.station.proofs.StepView.{code-simulates}
 
@@ -16,3 +18,6 @@ own-words = Words.own-words code code-simulates
 
 pub import-report : ImportReport code
 import-report = Reports.import-report code code-simulates
+
+pub session-keys : SessionKeys code
+session-keys = Sessions.session-keys code code-simulates

@@ -2,6 +2,8 @@ pub mod States
 pub mod ReplyLaws
 pub mod LowerLaws
 pub mod StepView
+pub mod QuestionLaws
 pub mod ReportLaws
+pub mod SessionLaws
 pub mod Demands
 pub mod Table

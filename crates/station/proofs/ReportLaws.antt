@@ -1,6 +1,6 @@
 -- What the report hands back, from the lower call's answer. Assumes nothing.
 use Prim.Native.Nat.{ℕ}
-use mathlib.Core.Path.{_≡_, sym, ap, _∙_}
+use mathlib.Core.Path.{_≡_, ap, _∙_}
 use mathlib.Core.Bool.{Bool, true, false, not}
 use mathlib.Core.List.{List}
 use Rattle.key.specs.Kept.{kept}
@@ -8,13 +8,12 @@ use Rattle.records.specs.Records.{reportNumber, reportOutput, reportCounts}
 use Rattle.ledger.specs.Station.{isEmpty, isUnpublished, heldBy}
 use Rattle.ledger.specs.Questions.{report, answerBuffer, questionConditions, given, answerSize}
 use Rattle.ledger.specs.Calls.{Call, ask, outputOf, noAnswer, made}
-use Rattle.ledger.proofs.StepLaws.{step-number}
 use Rattle.station.specs.Replies.{stateOf, view, handed, reportedOf}
 use Rattle.station.specs.declared.Station.{Station}
 use Rattle.station.specs.declared.Reported.{Reported}
-use Rattle.station.proofs.ReplyLaws.{stop, lower, stopped, number-stop, number-lower, lower-output, lower-answer}
-use Rattle.station.proofs.LowerLaws.{not-not}
-use Rattle.station.proofs.StepView.{same, question-left}
+use Rattle.station.proofs.ReplyLaws.{stop, lower, stopped, lower-output}
+use Rattle.station.proofs.QuestionLaws.{question-stopped, question-lower, not-published}
+use Rattle.station.proofs.StepView.{question-left}
 
 -- the reply, part by part
 reported : (s : Station) (capsules records : List ℕ) {n : ℕ} {counts : List ℕ} → (let c = ask (report capsules records) in
@@ -32,8 +31,8 @@ module _ (s : Station) (capsules records : List ℕ) where
       → (record { station = s; refused = 21; counts = counts } ≡ reportedOf (handed s (ask (report capsules records)))) × (records ≡ handed s (ask (report capsules records)) .output)
   unfolding c stop outputOf answerBuffer
   report-stopped h e =
-      let t = stopped s c h in
-      (reported s capsules records (number-stop s c h ∙ sym (step-number (view s) c) ∙ sym (same s c .number)) (e ∙ t .2), t .1)
+      let t = question-stopped s (report capsules records) h in
+      (reported s capsules records (t .0) (e ∙ t .1), stopped s c h .1)
 
   -- with a key: published or not by b
   module _ (keyed : isEmpty (stateOf (s .state)) ≡ false) (b : Bool) (e : b ≡ not (isUnpublished (stateOf (s .state)))) where
@@ -41,18 +40,15 @@ module _ (s : Station) (capsules records : List ℕ) where
     unfolding c stop
     passes = keyed
 
-    marked : not b ≡ isUnpublished (stateOf (s .state))
-    marked = ap not e ∙ not-not _
-
     pub report-lower : record { station = s; refused = reportNumber (not b) (kept (s .key)) capsules records; counts = reportCounts (not b) (kept (s .key)) capsules records }
         ≡ reportedOf (handed s (ask (report capsules records)))
     unfolding c lower questionConditions heldBy view reportNumber reportCounts made given noAnswer answerSize
     report-lower =
-        reported s capsules records
-        (ap (λ (u : Bool). reportNumber u (kept (s .key)) capsules records) marked
-        ∙ sym (same s c .number ∙ step-number (view s) c ∙ number-lower s c passes))
-        (ap (λ (u : Bool). reportCounts u (kept (s .key)) capsules records) marked ∙ lower-answer s c passes)
+        let m = not-published s b e in
+        let l = question-lower s (report capsules records) keyed in
+        reported s capsules records (ap (λ (u : Bool). reportNumber u (kept (s .key)) capsules records) m ∙ l .0)
+        (ap (λ (u : Bool). reportCounts u (kept (s .key)) capsules records) m ∙ l .1)
 
     pub report-output : reportOutput (not b) (kept (s .key)) capsules records ≡ handed s (ask (report capsules records)) .output
     unfolding c lower questionConditions heldBy view reportNumber reportOutput made given outputOf answerBuffer
-    report-output = ap (λ (u : Bool). reportOutput u (kept (s .key)) capsules records) marked ∙ lower-output s c passes
+    report-output = ap (λ (u : Bool). reportOutput u (kept (s .key)) capsules records) (not-published s b e) ∙ lower-output s c passes

@@ -13,6 +13,7 @@ use Rattle.ledger.specs.Systems.{System}
 use Rattle.station.specs.declared.Station.{Station}
 use Rattle.station.specs.declared.Reply.{Reply}
 use Rattle.station.specs.declared.Reported.{Reported}
+use Rattle.station.specs.declared.Derived.{Derived}
 
 -- the state of a state byte: 0 empty, 1 loaded, any other published
 unfoldable pub stateOf : ℕ → Definition.State
@@ -74,6 +75,10 @@ handed s c =
 -- the reply to a report: its answer is the counts
 unfoldable pub reportedOf : Handed → Reported
 reportedOf h = record { station = h .reply .station; refused = h .reply .refused; counts = h .answer }
+
+-- the reply to a session key's call: its answer is the key
+unfoldable pub derivedOf : Handed → Derived
+derivedOf h = record { station = h .reply .station; refused = h .reply .refused; key = h .answer }
 
 -- The code's calls as a system: its stations are the structs with their arrays. The demands are about it.
 unfoldable pub outcomeOf : Handed → Outcome Station

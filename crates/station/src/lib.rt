@@ -9,9 +9,9 @@ ghost use lib.ListN.{drop};
 ghost use Rattle.ledger.specs.Station.{isEmpty, isUnpublished};
 ghost use Rattle.ledger.specs.Loading.{key-file};
 ghost use Rattle.ledger.specs.Publishing.{systematic};
-ghost use Rattle.ledger.specs.Questions.{open-capsule, read-word, report};
+ghost use Rattle.ledger.specs.Questions.{open-capsule, read-word, report, session-key};
 ghost use Rattle.ledger.specs.Calls.{load, publish, ask, drop-key};
-ghost use Rattle.station.specs.Replies.{stateOf, answerNumber, freshStation, refusal, acceptance, handed, reportedOf};
+ghost use Rattle.station.specs.Replies.{stateOf, answerNumber, freshStation, refusal, acceptance, handed, reportedOf, derivedOf};
 
 // One slot: the state and the key, the key of zeros where it is empty. State 0 is no key, 1 a key, any other a published key.
 #[repr(C)]
@@ -35,6 +35,14 @@ pub struct Reported {
     pub station: Station,
     pub refused: u8,
     pub counts: [usize; 256],
+}
+
+// What a session key's call hands back: the station, the number of the refusal, 0 for none, and the key; zeros on refusal.
+#[repr(C)]
+pub struct Derived {
+    pub station: Station,
+    pub refused: u8,
+    pub key: [u8; 32],
 }
 
 // No key is held.
@@ -251,6 +259,37 @@ impl Station {
             station: self,
             refused: counted.refused,
             counts,
+        }
+    }
+
+    // The session key of a capsule, with the secret for one that open refuses with 13; 21, 25, 24, 8, 9 or 33 on refusal.
+    pub fn session(self, capsule: &[u8], secret: &[u8]) -> Derived
+        ensures { λ r. ⌜ r ≡ derivedOf (handed self (ask (session-key (now (capsule .entry)) (now (secret .entry))))) ⌝ }
+    {
+        let state = self.state;
+        if is_empty(state) {
+            return Derived {
+                station: self,
+                refused: 21,
+                key: [0; 32],
+            };
+        }
+        let published = is_published(state);
+        let answer = session_key::session(
+            self.key.m,
+            self.key.n,
+            self.key.t,
+            &self.key.support,
+            &self.key.g,
+            published,
+            capsule,
+            secret,
+        );
+        let key = answer.key;
+        Derived {
+            station: self,
+            refused: answer.refused,
+            key,
         }
     }
 
