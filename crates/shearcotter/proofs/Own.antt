@@ -4,12 +4,13 @@ use mathlib.Core.Path.{_≡_, refl, sym, ap, _∙_}
 use mathlib.Core.List.{List}
 use Rattle.key.specs.declared.kept.Key.{Key}
 use Rattle.ledger.specs.Publishing.{Publishing}
-use Rattle.ledger.specs.Questions.{report}
+use Rattle.ledger.specs.Questions.{Question, report, session-key}
 use Rattle.ledger.specs.Calls.{Call, publish, ask, step}
-use Rattle.station.specs.Replies.{view, refusal, acceptance, moved, replyOf, handed, reportedOf}
+use Rattle.station.specs.Replies.{view, refusal, acceptance, moved, replyOf, handed, reportedOf, derivedOf}
 use Rattle.station.specs.declared.Station.{Station}
 use Rattle.station.specs.declared.Reply.{Reply}
 use Rattle.station.specs.declared.Reported.{Reported}
+use Rattle.station.specs.declared.Derived.{Derived}
 use Rattle.station.proofs.StepView.{refused-reply, question-left}
 
 -- a reply with another station
@@ -47,11 +48,22 @@ module _ (s : Station) (p : Publishing) (r : Reply) (e : r ≡ handed s (publish
       go zero = refl
       go (suc n) = refl
 
--- a report leaves the station
+-- a question leaves the station, whatever else its reply has
+own-question : {A : Type 0} (f : Station → A) (s : Station) (q : Question) → f s ≡ f (handed s (ask q) .reply .station)
+own-question f s q = ap f (sym (question-left s q))
+
 pub own-reported : (s : Station) (capsules records : List ℕ) {r : Reported} → (let h = handed s (ask (report capsules records)) in
     r ≡ reportedOf h → record { station = s; refused = r .refused; counts = r .counts } ≡ reportedOf h)
 unfolding reportedOf
 own-reported s capsules records e =
     let h = handed s (ask (report capsules records)) in
     ap (λ (q : Reported). record { station = s; refused = q .refused; counts = q .counts }) e
-    ∙ ap (λ (t : Station). record { station = t; refused = h .reply .refused; counts = h .answer }) (sym (question-left s (report capsules records)))
+    ∙ own-question (λ t. record { station = t; refused = h .reply .refused; counts = h .answer }) s (report capsules records)
+
+pub own-derived : (s : Station) (capsule secret : List ℕ) {r : Derived} → (let h = handed s (ask (session-key capsule secret)) in
+    r ≡ derivedOf h → record { station = s; refused = r .refused; key = r .key } ≡ derivedOf h)
+unfolding derivedOf
+own-derived s capsule secret e =
+    let h = handed s (ask (session-key capsule secret)) in
+    ap (λ (q : Derived). record { station = s; refused = q .refused; key = q .key }) e
+    ∙ own-question (λ t. record { station = t; refused = h .reply .refused; key = h .answer }) s (session-key capsule secret)

@@ -5,20 +5,22 @@ use boundary::Shape;
 use boundary::as_element;
 use boundary::as_shape;
 use field::Verdict;
+use station::Derived;
 use station::Reply;
 use station::Reported;
 use station::Station;
 ghost use mathlib.Core.Path.{_≡_};
-ghost use lib.ListN.{drop};
+ghost use lib.ListN.{length, drop};
+ghost use Rattle.keccak.specs.Shake.{shake256};
 ghost use Rattle.field.specs.Answers.{addOf, multiplyOf, invertOf};
 ghost use Rattle.register.specs.Registered.{registeredOf};
 ghost use Rattle.key.specs.Answers.{shapeOf};
 ghost use Rattle.code.specs.Lock.{lockNumber, lockOutput};
 ghost use Rattle.ledger.specs.Loading.{key-file};
 ghost use Rattle.ledger.specs.Publishing.{systematic};
-ghost use Rattle.ledger.specs.Questions.{open-capsule, read-word, report};
+ghost use Rattle.ledger.specs.Questions.{open-capsule, read-word, report, session-key};
 ghost use Rattle.ledger.specs.Calls.{load, publish, ask, drop-key};
-ghost use Rattle.station.specs.Replies.{freshStation, handed, reportedOf};
+ghost use Rattle.station.specs.Replies.{freshStation, handed, reportedOf, derivedOf};
 ghost use Rattle.boundary.specs.Boundary.{asElement, asShape};
 
 // The sum of two elements; 1 or 4 on refusal.
@@ -79,6 +81,14 @@ pub extern "C" fn shearcotter_lock(
         return field::number(x);
     };
     0
+}
+
+// The output is filled with SHAKE256 of the input.
+#[no_mangle]
+pub extern "C" fn shearcotter_shake256(input: &[u8], out: &mut [u8])
+    ensures { λ _. ⌜ now (out .exit) ≡ shake256 (length (now (out .entry))) (now (input .entry)) ⌝ }
+{
+    shake::shake256(input, out);
 }
 
 // The empty station.
@@ -166,6 +176,20 @@ pub extern "C" fn shearcotter_report(own: Station, capsules: &[u8], records: &mu
         station: own,
         refused: reported.refused,
         counts,
+    }
+}
+
+// The session key of a capsule, with the secret for one that open refuses with 13; 21, 25, 24, 8, 9 or 33 on refusal.
+#[no_mangle]
+pub extern "C" fn shearcotter_session(own: Station, capsule: &[u8], secret: &[u8]) -> Derived
+    ensures { λ r. ⌜ r ≡ derivedOf (handed own (ask (session-key (now (capsule .entry)) (now (secret .entry))))) ⌝ }
+{
+    let derived = own.session(capsule, secret);
+    let key = derived.key;
+    Derived {
+        station: own,
+        refused: derived.refused,
+        key,
     }
 }
 
