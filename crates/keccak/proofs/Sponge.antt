@@ -13,7 +13,7 @@ use Rattle.bits.proofs.Lists.{from-add, map-append, map-from, map-from-at, map-
 use Rattle.bits.proofs.Bits.{digit-below, zeros-at}
 use Rattle.bits.proofs.Pack.{length-unpack, unpack-take, clear-all, well-formed, pack-unpack}
 use Rattle.keccak.specs.Keccak.{keccakP}
-use Rattle.keccak.specs.Shake.{pad, absorb, squeeze, sponge, keccak, shakeBits, shake256}
+use Rattle.keccak.specs.Shake.{pad10*1, absorb, squeeze, sponge, keccak, shakeBits, shake256}
 use Rattle.keccak.specs.Lanes.{permuted, absorbed, lastBlock, absorbedBlocks, absorbedAll, stateByte, stateBytes, squeezedBlocks, squeezed}
 use Rattle.keccak.proofs.Bit.{bit}
 use Rattle.keccak.proofs.Rounds.{stateBits, permuted-same}
@@ -28,7 +28,7 @@ block-same {a} s state = ap keccakP (absorbed-same s state) ∙ permuted-same (a
 
 -- absorbing the whole blocks and the last one
 blocks-same : (n : ℕ) (s a : List ℕ) → length s / 136 ≡ n → State a
-    → absorb 1088 (suc n) (unpack (8 * length s) s ++ ending (length s)) (stateBits a) ≡ stateBits (absorbedBlocks n s a)
+    → absorb keccakP 1088 (suc n) (unpack (8 * length s) s ++ ending (length s)) (stateBits a) ≡ stateBits (absorbedBlocks n s a)
 unfolding absorb absorbedBlocks
 blocks-same zero s a e state =
     let l : length s < 136 = omega arith in
@@ -43,11 +43,11 @@ blocks-same (suc n) s a e state =
     let split : unpack (8 * length s) s ++ ending (length s) ≡ unpack 1088 s ++ rest =
     ap₂ _++_ (ap (λ (j : ℕ). unpack j s) k ∙ unpack-drop 136 (8 * length (drop 136 s)) s) (ending-less (length s) m ∙ ap ending (sym l))
     ∙ append-assoc (unpack 1088 s) (unpack (8 * length (drop 136 s)) (drop 136 s)) (ending (length (drop 136 s))) in
-    ap (λ (P : List ℕ). absorb 1088 (suc n) (drop 1088 P) (keccakP (xorRow (stateBits a) (take 1088 P ++ replicate 512 0)))) split
-    ∙ ap₂ (λ (P Q : List ℕ). absorb 1088 (suc n) P (keccakP (xorRow (stateBits a) (Q ++ replicate 512 0))))
+    ap (λ (P : List ℕ). absorb keccakP 1088 (suc n) (drop 1088 P) (keccakP (xorRow (stateBits a) (take 1088 P ++ replicate 512 0)))) split
+    ∙ ap₂ (λ (P Q : List ℕ). absorb keccakP 1088 (suc n) P (keccakP (xorRow (stateBits a) (Q ++ replicate 512 0))))
     (drop-at (unpack 1088 s) rest 1088 (length-unpack 1088 s))
     (take-at (unpack 1088 s) rest 1088 (length-unpack 1088 s))
-    ∙ ap (absorb 1088 (suc n) rest) (block-same s state)
+    ∙ ap (absorb keccakP 1088 (suc n) rest) (block-same s state)
     ∙ blocks-same n (drop 136 s) (permuted (absorbed a s)) (omega arith) (permuted-state (absorbed-state s state))
 
 -- the state at the start
@@ -62,17 +62,17 @@ unfolding stateBits bit
 start-same = map-zeros (λ i. getD (replicate 25 0) (i / 64) 0 / 2 ^ (i % 64) % 2) 0 1600 (λ i. simp (zeros-at, zero-div, zero-mod))
 
 -- the padded input
-padded-input : (s : List ℕ) → unpack (8 * length s) s ++ (1 ∷ 1 ∷ 1 ∷ 1 ∷ []) ++ pad 1088 (length (unpack (8 * length s) s ++ 1 ∷ 1 ∷ 1 ∷ 1 ∷ []))
+padded-input : (s : List ℕ) → unpack (8 * length s) s ++ (1 ∷ 1 ∷ 1 ∷ 1 ∷ []) ++ pad10*1 1088 (length (unpack (8 * length s) s ++ 1 ∷ 1 ∷ 1 ∷ 1 ∷ []))
     ≡ unpack (8 * length s) s ++ ending (length s)
 unfolding ending
 padded-input s =
     let e : length (unpack (8 * length s) s ++ 1 ∷ 1 ∷ 1 ∷ 1 ∷ []) ≡ 8 * length s + 4 =
     length-append (unpack (8 * length s) s) (1 ∷ 1 ∷ 1 ∷ 1 ∷ []) ∙ ap (λ (k : ℕ). k + 4) (length-unpack (8 * length s) s) in
-    append-assoc (unpack (8 * length s) s) (1 ∷ 1 ∷ 1 ∷ 1 ∷ []) (pad 1088 (length (unpack (8 * length s) s ++ 1 ∷ 1 ∷ 1 ∷ 1 ∷ [])))
-    ∙ ap (λ (k : ℕ). unpack (8 * length s) s ++ 1 ∷ 1 ∷ 1 ∷ 1 ∷ pad 1088 k) e
+    append-assoc (unpack (8 * length s) s) (1 ∷ 1 ∷ 1 ∷ 1 ∷ []) (pad10*1 1088 (length (unpack (8 * length s) s ++ 1 ∷ 1 ∷ 1 ∷ 1 ∷ [])))
+    ∙ ap (λ (k : ℕ). unpack (8 * length s) s ++ 1 ∷ 1 ∷ 1 ∷ 1 ∷ pad10*1 1088 k) e
 
 blocks-count : (s : List ℕ) → length (unpack (8 * length s) s ++ ending (length s)) / 1088 ≡ suc (length s / 136)
-unfolding ending pad
+unfolding ending pad10*1
 blocks-count s =
     let j : ℕ = (1088 - (8 * length s + 4 + 2) % 1088) % 1088 in
     let e : length (unpack (8 * length s) s ++ ending (length s)) ≡ 8 * length s + suc (suc (suc (suc (suc (j + 1))))) =
@@ -111,7 +111,7 @@ block-bits a =
     ∙ take-at (map f (from 0 1088)) (map f (from 1088 512)) 1088 (length-map-from f 0 1088)
     ∙ map-from f (bitAt (stateBytes 136 a)) 0 0 1088 (λ i h. byte-bit a (0 + i) (omega arith))
 
-squeeze-same : (n : ℕ) (a : List ℕ) → State a → squeeze 1088 n (stateBits a) ≡ unpack (1088 * n) (squeezedBlocks n a)
+squeeze-same : (n : ℕ) (a : List ℕ) → State a → squeeze keccakP 1088 n (stateBits a) ≡ unpack (1088 * n) (squeezedBlocks n a)
 unfolding squeeze squeezedBlocks unpack from
 squeeze-same zero a state = refl
 squeeze-same (suc n) a state =
@@ -119,7 +119,7 @@ squeeze-same (suc n) a state =
     let rest : List ℕ = squeezedBlocks n (permuted a) in
     let e : 8 * length block ≡ 1088 = ap (_*_ 8) (bytes-count 136 a) in
     let k : 1088 * suc n ≡ 8 * length block + 1088 * n = omega arith in
-    ap₂ _++_ (block-bits a) (ap (squeeze 1088 n) (permuted-same a (state .small)) ∙ squeeze-same n (permuted a) (permuted-state state))
+    ap₂ _++_ (block-bits a) (ap (squeeze keccakP 1088 n) (permuted-same a (state .small)) ∙ squeeze-same n (permuted a) (permuted-state state))
     ∙ sym (ap (λ (j : ℕ). unpack j (block ++ rest)) k ∙ unpack-append (1088 * n) block rest ∙ ap (λ (j : ℕ). unpack j block ++ unpack (1088 * n) rest) e)
 
 squeezed-count : (n : ℕ) (a : List ℕ) → length (squeezedBlocks n a) ≡ 136 * n
@@ -153,11 +153,11 @@ shake-same n s =
     let blocks : ℕ = 8 * n / 1088 + 1 in
     let a : List ℕ = absorbedBlocks (length s / 136) s (replicate 25 0) in
     let bytes : List ℕ = squeezedBlocks blocks a in
-    let out : List ℕ → List ℕ = λ S. pack (take (8 * n) (squeeze 1088 blocks S)) in
+    let out : List ℕ → List ℕ = λ S. pack (take (8 * n) (squeeze keccakP 1088 blocks S)) in
     let f : length (take n bytes) ≡ n = length-take-le n bytes (omega (arith, squeezed-count blocks a)) in
     let g : bytesFor (8 * n) ≡ n = bytes-of n in
-    sym (ap (λ (P : List ℕ). out (absorb 1088 (length P / 1088) P (replicate 1600 0))) (padded-input s)
-    ∙ ap₂ (λ (k : ℕ) (S : List ℕ). out (absorb 1088 k (bits ++ ending (length s)) S)) (blocks-count s) (sym start-same)
+    sym (ap (λ (P : List ℕ). out (absorb keccakP 1088 (length P / 1088) P (replicate 1600 0))) (padded-input s)
+    ∙ ap₂ (λ (k : ℕ) (S : List ℕ). out (absorb keccakP 1088 k (bits ++ ending (length s)) S)) (blocks-count s) (sym start-same)
     ∙ ap out (blocks-same (length s / 136) s (replicate 25 0) refl start)
     ∙ ap (λ (l : List ℕ). pack (take (8 * n) l)) (squeeze-same blocks a (blocks-state (length s / 136) s start))
     ∙ ap pack (take-unpack (8 * n) (1088 * blocks) bytes (omega arith) ∙ sym (unpack-take (8 * n) n bytes (omega arith)))

@@ -1,17 +1,16 @@
 // KECCAK-p[1600, 24] of FIPS 202. The state is 25 lanes: bit z of lane (x, y), the number at 5y + x, is the standard's A[x, y, z].
 ghost use mathlib.Core.Path.{_≡_};
-ghost use Prim.Native.Nat.{_<_};
-ghost use lib.ListN.{getD};
-ghost use Rattle.keccak.specs.Lanes.{thetaLanes, rhoPiLanes, chiLanes, roundLanes, constants, permuted};
+ghost use Rattle.keccak.specs.Lanes.{thetaLanes, rhoPiLanes, chiLanes, roundLanes, permuted};
 
 // The 24 rounds.
 pub fn permute(a: [u64; 25]) -> [u64; 25]
     ensures { λ r. ⌜ r ≡ permuted a ⌝ }
 {
+    let constants = CONSTANTS;
     let mut b = a;
     let mut i = 0;
     while i < 24 {
-        let next = round(b, constant(i));
+        let next = round(b, constants[i]);
         b = next;
         i += 1;
     }
@@ -25,13 +24,6 @@ fn round(a: [u64; 25], c: u64) -> [u64; 25]
     let mut b = chi(rho_pi(theta(a)));
     b[0] ^= c;
     b
-}
-
-fn constant(i: usize) -> u64
-    requires { ⌜ i < 24 ⌝ }
-    ensures { λ r. ⌜ r ≡ getD constants i 0 ⌝ }
-{
-    CONSTANTS[i]
 }
 
 // The strings RC of ι, as numbers.
