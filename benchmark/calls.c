@@ -1,5 +1,5 @@
-/* Publishing, locking, opening and reading at the standard's five shapes, and a report beside as many opens at the last: the least
-   processor time of many tries, in ms. Fails where a report takes too much of the opens' time.
+/* Publishing, locking, opening, session keys and reading at the standard's five shapes, and a report beside as many opens at the last:
+   the least processor time of many tries, in ms. Fails where a session key or a report takes too much of the opens' time.
    Standard input, where it has lines: a shape's name and the times of Bouncy Castle's decapsulation and encapsulation, or a size of
    Botan's McEliece, n,t, and the time of its decryption. */
 #include <stdio.h>
@@ -21,12 +21,14 @@ static size_t file_bytes, word_bytes, capsule_bytes, public_bytes, row_bytes;
 static uint8_t file[SHEARCOTTER_FILE_BYTES(PLACES, SHEARCOTTER_MOST_ERRORS) + 1];
 static uint8_t public_key[MOST_ROWS * WORD], again[MOST_ROWS * WORD], work[MOST_ROWS * WORD];
 static uint8_t pattern[WORD], capsule[WORD], own[WORD], filled[WORD], errors[WORD], ones[WORD], out[WORD], zeros[WORD];
+static uint8_t changed[WORD], secret[WORD];
 static shearcotter_station station;
 static int differences;
 
 /* Least times: ours, then Bouncy Castle's, then Botan's. */
 typedef struct {
-    double load, publish, lock, open, capsule_read, errors_read, refused_read, decapsulate, encapsulate, decrypt;
+    double load, publish, lock, open, session, refused_open, refused_session, capsule_read, errors_read, refused_read;
+    double decapsulate, encapsulate, decrypt;
 } times;
 
 static double now(void)
@@ -110,8 +112,13 @@ static int prepare(int shape)
     for (int i = 0; i < WORD; i++)
         errors[i] ^= pattern[i];
     memset(ones, 0, WORD);
-    for (int i = 0; i < n; i++)
+    memset(secret, 0, WORD);
+    for (int i = 0; i < n; i++) {
         set(ones, i, 1);
+        set(secret, i, (int)(next() & 1));
+    }
+    memcpy(changed, capsule, WORD);
+    changed[0] ^= 1;
     return 1;
 }
 
@@ -125,13 +132,28 @@ static void read_word(double *least, const uint8_t *word, int number)
     differences += r.refused != number || memcmp(out, number ? zeros : pattern, WORD) != 0;
 }
 
-static void open_capsule(times *x)
+/* One open of a capsule, likewise. */
+static void open_capsule(double *least, const uint8_t *row, int number)
 {
     memset(out, 0, WORD);
     double a = now();
-    shearcotter_reply r = shearcotter_open(station, capsule, capsule_bytes, out, WORD);
-    lessen(&x->open, now() - a);
-    differences += r.refused != 0 || memcmp(out, pattern, WORD) != 0;
+    shearcotter_reply r = shearcotter_open(station, row, capsule_bytes, out, WORD);
+    lessen(least, now() - a);
+    differences += r.refused != number || memcmp(out, number ? zeros : pattern, WORD) != 0;
+}
+
+/* One session key of a capsule: SHAKE256 of the byte, the pattern or secret, and the capsule. */
+static void derive(double *least, const uint8_t *row, uint8_t first, const uint8_t *middle)
+{
+    uint8_t text[1 + 2 * WORD], key[SHEARCOTTER_SESSION_BYTES];
+    text[0] = first;
+    memcpy(text + 1, middle, word_bytes);
+    memcpy(text + 1 + word_bytes, row, capsule_bytes);
+    shearcotter_shake256(text, 1 + word_bytes + capsule_bytes, key, sizeof key);
+    double a = now();
+    shearcotter_derived r = shearcotter_session(station, row, capsule_bytes, secret, word_bytes);
+    lessen(least, now() - a);
+    differences += r.refused != 0 || memcmp(r.key, key, sizeof key) != 0;
 }
 
 static void load_lock(times *x)
@@ -153,11 +175,24 @@ static void publish(times *x)
     differences += r.refused != 0 || memcmp(again, public_key, public_bytes) != 0;
 }
 
+/* Opens and session keys in turns: what a call before leaves in caches is the same for both. */
+static void open_and_derive(times *x)
+{
+    for (int try = 0; try < 200; try++) {
+        open_capsule(&x->open, capsule, 0);
+        derive(&x->session, capsule, 1, pattern);
+    }
+    for (int try = 0; try < 200; try++) {
+        open_capsule(&x->refused_open, changed, SHEARCOTTER_NO_PATTERN);
+        derive(&x->refused_session, changed, 0, secret);
+    }
+}
+
 static void measure(times *x)
 {
+    open_and_derive(x);
     for (int try = 0; try < 40; try++) {
         load_lock(x);
-        open_capsule(x);
         read_word(&x->capsule_read, filled, 0);
         read_word(&x->errors_read, errors, 0);
         read_word(&x->refused_read, ones, SHEARCOTTER_NO_CODE_WORD);
@@ -278,6 +313,30 @@ static void botan(const times *x)
     ratio("read, code word, t errors", "against Botan", x, SIZES, offsetof(times, errors_read), offsetof(times, decrypt));
 }
 
+/* A session key may take this many times the time of an open. */
+static const double most_of_open = 1.05;
+
+/* The session key's times over the open's; whether all are as small as they may be. */
+static int session_row(const char *capsules, const times *x, size_t session, size_t open)
+{
+    int quick = 1;
+    printf("%-28s", capsules);
+    for (int i = 0; i < SHAPES; i++) {
+        double a = time_at(&x[i], session) / time_at(&x[i], open);
+        quick &= a <= most_of_open;
+        printf(" %15.3f", a);
+    }
+    printf("\n");
+    return quick;
+}
+
+static int sessions(const times *x)
+{
+    printf("\nA session key's time over an open's, in turns, at most %.2f\n", most_of_open);
+    int opened = session_row("capsule that opens", x, offsetof(times, session), offsetof(times, open));
+    return session_row("capsule refused with 13", x, offsetof(times, refused_session), offsetof(times, refused_open)) && opened;
+}
+
 static void chart(const times *x)
 {
     printf("\nDecapsulation by Bouncy Castle / ours, a mark for every four times faster:\n");
@@ -314,6 +373,9 @@ int main(void)
         ratio("Bouncy Castle, encapsulate", "", x, SHAPES, e, 0);
     }
     ratio("open", "against decapsulate", x, SHAPES, offsetof(times, open), d);
+    ratio("session key", "against decapsulate", x, SHAPES, offsetof(times, session), d);
+    ratio("open, refused with 13", "against decapsulate", x, SHAPES, offsetof(times, refused_open), d);
+    ratio("session key of the secret", "against decapsulate", x, SHAPES, offsetof(times, refused_session), d);
     ratio("read, capsule and zeros", "against decapsulate", x, SHAPES, offsetof(times, capsule_read), d);
     ratio("read, code word, t errors", "against decapsulate", x, SHAPES, offsetof(times, errors_read), d);
     ratio("read, ones only, refused", "against decapsulate", x, SHAPES, offsetof(times, refused_read), d);
@@ -324,7 +386,8 @@ int main(void)
         botan(x);
     if (x[0].decapsulate)
         chart(x);
-    int quick = report();
+    int quick = sessions(x);
+    quick &= report();
     double read = passed_by_value(shearcotter_read), c = passed_by_value(hand_back);
     printf("A station passed by value and handed back: %.0f ns, by C %.0f ns, ratio %.2f\n%d differences\n", read, c, read / c, differences);
     return differences != 0 || !quick;

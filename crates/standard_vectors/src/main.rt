@@ -1,5 +1,6 @@
 // Runs the published vector 0 of mceliece348864 through the station's calls and lock: the key is loaded, T is
-// compared with the public key byte for byte, the capsule opened and read, the pattern locked, a changed capsule refused.
+// compared with the public key byte for byte, the capsule opened and read, the pattern locked, a changed capsule refused,
+// and the session keys of both capsules compared.
 ghost use Rattle.io.specs.Counts.{Counts};
 use libc::STDOUT_FILENO;
 use station::Reply;
@@ -105,7 +106,20 @@ fn refuses(s: Station, name: &[u8]) {
     print(b"refused with 13", r.refused == 13);
 }
 
-// The calls of one shape.
+// The session key of a capsule, with the secret, is the one in the file.
+fn derives(s: Station, what: &[u8], capsule: &[u8], secret: &[u8], session: &[u8]) {
+    let mut c = [0u8; FILE];
+    let cn = read_file(capsule, &mut c);
+    let mut z = [0u8; FILE];
+    let zn = read_file(secret, &mut z);
+    let mut key = [0u8; FILE];
+    let n = read_file(session, &mut key);
+    let r = s.session(&c[..cn], &z[..zn]);
+    let own = r.key;
+    print(what, r.refused == 0 && n == 32 && same(&own, &key, 32));
+}
+
+// The other calls of one shape; the station that holds its key, published.
 fn shape(
     key: &[u8],
     public: &[u8],
@@ -115,7 +129,7 @@ fn shape(
     m: u8,
     n: u16,
     t: u16,
-) {
+) -> Station {
     let mut file = [0u8; FILE];
     let k = read_file(key, &mut file);
     let fresh = Station::fresh();
@@ -134,11 +148,12 @@ fn shape(
     reads(s, t, &word, &p[..pn]);
     locks(m, n, t, public, &p[..pn], &c[..cn]);
     refuses(s, reject);
+    s
 }
 
 fn main() {
     io::write_all(STDOUT_FILENO, b"mceliece348864\n");
-    shape(
+    let s = shape(
         b"mceliece348864.key",
         b"mceliece348864.public",
         b"mceliece348864.capsule",
@@ -147,5 +162,19 @@ fn main() {
         12,
         3488,
         64,
+    );
+    derives(
+        s,
+        b"session key",
+        b"mceliece348864.capsule",
+        b"mceliece348864.secret",
+        b"mceliece348864.session",
+    );
+    derives(
+        s,
+        b"session key of the secret",
+        b"mceliece348864.capsule_reject",
+        b"mceliece348864.secret",
+        b"mceliece348864.session_capsule_reject",
     );
 }

@@ -1,8 +1,10 @@
-// Runs data/words.txt through load, publish, read, open, report and lock, and counts agreements and differences.
+// Runs data/words.txt through load, publish, read, open, session, report and lock, and counts agreements and differences.
 // A line is `key FILE`; `public T`, or `public -` where publish refuses; or a case of the key before it: `publish ok`,
 // `read WORD ok PATTERN ONES`, `open CAPSULE ok PATTERN` as if published, `lock PATTERN ok CAPSULE`, or one of the
-// four with `refused NUMBER` from `ok` on. Bytes are in hexadecimal, and `-` is none. A capsule of `open`
-// that is one or a short tail is also reported on.
+// four with `refused NUMBER` from `ok` on; or `session CAPSULE SECRET KEY` as if published. Bytes are in hexadecimal,
+// and `-` is none. A capsule of `open` that is one or a short tail is also reported on.
+ghost use mathlib.Core.Path.{_≡_};
+ghost use lib.ListN.{length};
 use key::kept::Key;
 use libc::STDOUT_FILENO;
 use reading::Answer;
@@ -24,7 +26,7 @@ use vectors::tally::agreements;
 use vectors::tally::differences;
 
 // The bytes of words.txt at most.
-const TEXT: usize = 500000;
+const TEXT: usize = 750000;
 
 // The kinds of lines that are counted.
 const KEY: usize = 0;
@@ -38,6 +40,8 @@ const OPEN: usize = 3;
 const LOCK: usize = 4;
 
 const REPORT: usize = 5;
+
+const SESSION: usize = 6;
 
 // An answer as two numbers.
 struct Outcome {
@@ -122,6 +126,31 @@ fn opens(key: Key, line: &[u8]) -> bool {
     r.refused as u16 == refused(line, 2) && r.ones == ones && holds(&out, output(line, 2))
 }
 
+// The session key is the line's, both for a capsule that opens and for one that does not.
+fn derives(key: Key, line: &[u8]) -> bool {
+    let c = bytes_of(line, 1);
+    let capsule = c.bytes;
+    let n = size(&capsule, c.count);
+    let s = bytes_of(line, 2);
+    let secret = s.bytes;
+    let l = size(&secret, s.count);
+    let w = bytes_of(line, 3);
+    let wanted = w.bytes;
+    let k = size(&wanted, w.count);
+    let r = session_key::session(
+        key.m,
+        key.n,
+        key.t,
+        &key.support,
+        &key.g,
+        true,
+        &capsule[..n],
+        &secret[..l],
+    );
+    let own = r.key;
+    r.refused == 0 && check::same(&own, &wanted[..k])
+}
+
 // A report on the capsule, or on a short tail, has open's number for its only record, and counts it.
 fn reports(key: Key, line: &[u8]) -> bool {
     let mut records = [FILLER; 64];
@@ -195,6 +224,7 @@ fn step(mut s: State, line: &[u8]) -> State {
         b'k' => keyed(s, line),
         b'r' => counted(s, READ, reads(key, line)),
         b'o' => reported(counted(s, OPEN, opens(key, line)), line),
+        b's' => counted(s, SESSION, derives(key, line)),
         b'l' => counted(s, LOCK, locks(key, public, line)),
         _ => {
             if letter(line, 5) == b's' {
@@ -261,6 +291,13 @@ fn print(t: Tally, kind: usize, name: &[u8]) {
     io::write_all(STDOUT_FILENO, b" differences\n");
 }
 
+// Zeros for the text. The contract gives the length alone: the prover cannot compute a list as long as this.
+fn empty_text() -> [u8; 750000]
+    ensures { λ r. ⌜ 750000 ≡ length r ⌝ }
+{
+    [0; TEXT]
+}
+
 fn main() {
     let name = b"words.txt";
     let fd = os::open_read(name);
@@ -268,7 +305,7 @@ fn main() {
         os::fail(name);
         return;
     }
-    let mut text = [0u8; TEXT];
+    let mut text = empty_text();
     let n = io::read_full(fd, &mut text);
     libc::close(fd);
     let s = run(&text[..n]);
@@ -277,6 +314,7 @@ fn main() {
     print(t, PUBLISH, b"publish: ");
     print(t, READ, b"read: ");
     print(t, OPEN, b"open: ");
+    print(t, SESSION, b"session: ");
     print(t, REPORT, b"report: ");
     print(t, LOCK, b"lock: ");
     by_running();
