@@ -14,6 +14,10 @@ use Rattle.bits.proofs.Parts.{part-all, part-back}
 use Rattle.keccak.specs.Lanes.{permuted, absorbed, lastBlock, absorbedBlocks, absorbedAll, laneBytes, stateByte, stateBytes, squeezedBlocks, squeezed}
 use Rattle.keccak.proofs.Sponge.{bytes-count}
 
+-- the part of a list from `at` on
+pub rest-count : (at : ℕ) (s : List ℕ) → length (take (length s - at) (drop at s)) ≡ length s - at
+rest-count at s = ap length (part-all at s) ∙ length-drop at s
+
 -- blocks of input, from byte `at` on
 unfoldable pub absorbedFrom : ℕ → List ℕ → List ℕ → List ℕ
 absorbedFrom at s a = absorbedBlocks ((length s - at) / 136) (drop at s) a
@@ -80,7 +84,7 @@ module _ (f : ℕ → List ℕ) (count : (n : ℕ) → length (f n) ≡ n) (out 
 pub last-filled : (f : ℕ → List ℕ) (out new : List ℕ) (at : ℕ) → new ≡ f (length (take (length out - at) (drop at out)))
     → putMid at (length out - at) out new ≡ take at out ++ f (length out - at)
 last-filled f out new at e =
-    part-back at out new ∙ ap (_++_ (take at out)) (e ∙ ap f (ap length (part-all at out) ∙ length-drop at out))
+    part-back at out new ∙ ap (_++_ (take at out)) (e ∙ ap f (rest-count at out))
 
 -- the next lane written behind the bytes of k lanes, and the last, as far as the output goes
 module _ (out new a : List ℕ) (at k : ℕ) (e : at ≡ 8 * k) (before : take at out ≡ stateBytes (8 * k) a) where
