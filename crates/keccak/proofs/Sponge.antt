@@ -155,3 +155,17 @@ shake-same n s =
     ∙ ap pack (take-unpack (8 * n) (1088 * blocks) bytes (omega arith) ∙ sym (unpack-take (8 * n) n bytes (omega arith)))
     ∙ pack-unpack (8 * n) (take n bytes) (take-below 256 n bytes (squeezed-bytes blocks a))
     (well-formed (8 * n) (take n bytes) (f ∙ sym g) (clear-all (8 * n) (take n bytes) (λ i h l. absurd (omega arith)))))
+
+-- as many bytes as are asked for
+pub shake-count : (n : ℕ) (s : List ℕ) → length (shake256 n s) ≡ n
+unfolding squeezed
+shake-count n s =
+    let blocks : ℕ = 8 * n / 1088 + 1 in
+    let e : length (squeezedBlocks blocks (absorbedAll s)) ≡ 136 * blocks = squeezed-count blocks (absorbedAll s) in
+    ap length (sym (shake-same n s)) ∙ length-take-le n (squeezedBlocks blocks (absorbedAll s)) (omega arith)
+
+pub shake-bytes : (n : ℕ) (s : List ℕ) → Bytes (shake256 n s)
+unfolding squeezed
+shake-bytes n s k =
+    let blocks : ℕ = 8 * n / 1088 + 1 in
+    rw (← shake-same n s) (take-below 256 n (squeezedBlocks blocks (absorbedAll s)) (squeezed-bytes blocks (absorbedAll s)) k)
