@@ -1,23 +1,23 @@
 -- The sponge on lanes and bytes is SHAKE256. Assumes nothing.
 use mathlib.Core.Path.{_≡_, refl, sym, ap, ap₂, _∙_}
-use mathlib.Core.List.{List, [], _∷_, _++_, map, append-assoc}
+use mathlib.Core.List.{List, [], _∷_, _++_, append-assoc}
 use Prim.Native.Nat.{ℕ, zero, suc, _+_, _-_, _*_, _/_, _%_, _^_, _≤_, _<_}
 use native.Mathlib.Nat.{zero-div, zero-mod, zero-lt-suc, mod-lt}
-use native.Mathlib.Decide.{decLt}
 use native.Mathlib.Omega.{arith}
 use lib.ListN.{length, getD, take, drop, replicate, length-append, length-drop, length-replicate}
 use lib.Pow.{pow-pos, shr-shr}
 use lib.Seq.{take-at, drop-at, length-take-le}
 use Rattle.bits.specs.Bits.{Bytes, from, bytesFor, bitAt, unpack, pack, xorRow}
-use Rattle.bits.proofs.Lists.{from-add, map-append, map-from, map-from-at, map-from-past, length-map-from, take-below}
+use Rattle.bits.proofs.Lists.{map-from, map-from-at, map-from-part, length-map-from, take-below}
 use Rattle.bits.proofs.Bits.{digit-below, zeros-at}
 use Rattle.bits.proofs.Pack.{length-unpack, unpack-take, clear-all, well-formed, pack-unpack}
 use Rattle.keccak.specs.Keccak.{keccakP}
 use Rattle.keccak.specs.Shake.{pad10*1, absorb, squeeze, sponge, keccak, shakeBits, shake256}
 use Rattle.keccak.specs.Lanes.{permuted, absorbed, lastBlock, absorbedBlocks, absorbedAll, stateByte, stateBytes, squeezedBlocks, squeezed}
+use Rattle.keccak.proofs.Below.{map-below, append-below}
 use Rattle.keccak.proofs.Bit.{bit}
 use Rattle.keccak.proofs.Rounds.{stateBits, permuted-same}
-use Rattle.keccak.proofs.Strings.{unpack-append, unpack-drop, take-unpack, map-zeros, bytes-append}
+use Rattle.keccak.proofs.Strings.{bitsOf, unpack-append, unpack-drop, take-unpack, map-zeros}
 use Rattle.keccak.proofs.Blocks.{State, permuted-state, absorbed-same, absorbed-state}
 use Rattle.keccak.proofs.Padding.{ending, ending-less, last-bits}
 
@@ -28,7 +28,7 @@ block-same {a} s state = ap keccakP (absorbed-same s state) ∙ permuted-same (a
 
 -- absorbing the whole blocks and the last one
 blocks-same : (n : ℕ) (s a : List ℕ) → length s / 136 ≡ n → State a
-    → absorb keccakP 1088 (suc n) (unpack (8 * length s) s ++ ending (length s)) (stateBits a) ≡ stateBits (absorbedBlocks n s a)
+    → absorb keccakP 1088 (suc n) (bitsOf s ++ ending (length s)) (stateBits a) ≡ stateBits (absorbedBlocks n s a)
 unfolding absorb absorbedBlocks
 blocks-same zero s a e state =
     let l : length s < 136 = omega arith in
@@ -39,10 +39,10 @@ blocks-same (suc n) s a e state =
     let l : length (drop 136 s) ≡ length s - 136 = length-drop 136 s in
     let m : 136 ≤ length s = omega arith in
     let k : 8 * length s ≡ 8 * 136 + 8 * length (drop 136 s) = omega arith in
-    let rest : List ℕ = unpack (8 * length (drop 136 s)) (drop 136 s) ++ ending (length (drop 136 s)) in
-    let split : unpack (8 * length s) s ++ ending (length s) ≡ unpack 1088 s ++ rest =
+    let rest : List ℕ = bitsOf (drop 136 s) ++ ending (length (drop 136 s)) in
+    let split : bitsOf s ++ ending (length s) ≡ unpack 1088 s ++ rest =
     ap₂ _++_ (ap (λ (j : ℕ). unpack j s) k ∙ unpack-drop 136 (8 * length (drop 136 s)) s) (ending-less (length s) m ∙ ap ending (sym l))
-    ∙ append-assoc (unpack 1088 s) (unpack (8 * length (drop 136 s)) (drop 136 s)) (ending (length (drop 136 s))) in
+    ∙ append-assoc (unpack 1088 s) (bitsOf (drop 136 s)) (ending (length (drop 136 s))) in
     ap (λ (P : List ℕ). absorb keccakP 1088 (suc n) (drop 1088 P) (keccakP (xorRow (stateBits a) (take 1088 P ++ replicate 512 0)))) split
     ∙ ap₂ (λ (P Q : List ℕ). absorb keccakP 1088 (suc n) P (keccakP (xorRow (stateBits a) (Q ++ replicate 512 0))))
     (drop-at (unpack 1088 s) rest 1088 (length-unpack 1088 s))
@@ -62,21 +62,21 @@ unfolding stateBits bit
 start-same = map-zeros (λ i. getD (replicate 25 0) (i / 64) 0 / 2 ^ (i % 64) % 2) 0 1600 (λ i. simp (zeros-at, zero-div, zero-mod))
 
 -- the padded input
-padded-input : (s : List ℕ) → unpack (8 * length s) s ++ (1 ∷ 1 ∷ 1 ∷ 1 ∷ []) ++ pad10*1 1088 (length (unpack (8 * length s) s ++ 1 ∷ 1 ∷ 1 ∷ 1 ∷ []))
-    ≡ unpack (8 * length s) s ++ ending (length s)
+padded-input : (s : List ℕ) → bitsOf s ++ (1 ∷ 1 ∷ 1 ∷ 1 ∷ []) ++ pad10*1 1088 (length (bitsOf s ++ 1 ∷ 1 ∷ 1 ∷ 1 ∷ []))
+    ≡ bitsOf s ++ ending (length s)
 unfolding ending
 padded-input s =
-    let e : length (unpack (8 * length s) s ++ 1 ∷ 1 ∷ 1 ∷ 1 ∷ []) ≡ 8 * length s + 4 =
-    length-append (unpack (8 * length s) s) (1 ∷ 1 ∷ 1 ∷ 1 ∷ []) ∙ ap (λ (k : ℕ). k + 4) (length-unpack (8 * length s) s) in
-    append-assoc (unpack (8 * length s) s) (1 ∷ 1 ∷ 1 ∷ 1 ∷ []) (pad10*1 1088 (length (unpack (8 * length s) s ++ 1 ∷ 1 ∷ 1 ∷ 1 ∷ [])))
-    ∙ ap (λ (k : ℕ). unpack (8 * length s) s ++ 1 ∷ 1 ∷ 1 ∷ 1 ∷ pad10*1 1088 k) e
+    let e : length (bitsOf s ++ 1 ∷ 1 ∷ 1 ∷ 1 ∷ []) ≡ 8 * length s + 4 =
+    length-append (bitsOf s) (1 ∷ 1 ∷ 1 ∷ 1 ∷ []) ∙ ap (λ (k : ℕ). k + 4) (length-unpack (8 * length s) s) in
+    append-assoc (bitsOf s) (1 ∷ 1 ∷ 1 ∷ 1 ∷ []) (pad10*1 1088 (length (bitsOf s ++ 1 ∷ 1 ∷ 1 ∷ 1 ∷ [])))
+    ∙ ap (λ (k : ℕ). bitsOf s ++ 1 ∷ 1 ∷ 1 ∷ 1 ∷ pad10*1 1088 k) e
 
-blocks-count : (s : List ℕ) → length (unpack (8 * length s) s ++ ending (length s)) / 1088 ≡ suc (length s / 136)
+blocks-count : (s : List ℕ) → length (bitsOf s ++ ending (length s)) / 1088 ≡ suc (length s / 136)
 unfolding ending pad10*1
 blocks-count s =
     let j : ℕ = (1088 - (8 * length s + 4 + 2) % 1088) % 1088 in
-    let e : length (unpack (8 * length s) s ++ ending (length s)) ≡ 8 * length s + suc (suc (suc (suc (suc (j + 1))))) =
-    length-append (unpack (8 * length s) s) (ending (length s))
+    let e : length (bitsOf s ++ ending (length s)) ≡ 8 * length s + suc (suc (suc (suc (suc (j + 1))))) =
+    length-append (bitsOf s) (ending (length s))
     ∙ ap₂ _+_ (length-unpack (8 * length s) s)
     (ap (λ (k : ℕ). suc (suc (suc (suc (suc k))))) (length-append (replicate j 0) (1 ∷ []) ∙ ap (λ (k : ℕ). k + 1) (length-replicate {A = ℕ} j 0))) in
     rw e (omega arith)
@@ -106,10 +106,7 @@ block-bits : (a : List ℕ) → take 1088 (stateBits a) ≡ unpack 1088 (stateBy
 unfolding stateBits unpack
 block-bits a =
     let f : ℕ → ℕ = λ i. bit (i % 64) (getD a (i / 64) 0) in
-    ap (λ (l : List ℕ). take 1088 (map f l)) (from-add 0 1088 512)
-    ∙ ap (take 1088) (map-append f (from 0 1088) (from 1088 512))
-    ∙ take-at (map f (from 0 1088)) (map f (from 1088 512)) 1088 (length-map-from f 0 1088)
-    ∙ map-from f (bitAt (stateBytes 136 a)) 0 0 1088 (λ i h. byte-bit a (0 + i) (omega arith))
+    map-from-part f 0 1600 0 1088 (omega arith) ∙ map-from f (bitAt (stateBytes 136 a)) 0 0 1088 (λ i h. byte-bit a (0 + i) (omega arith))
 
 squeeze-same : (n : ℕ) (a : List ℕ) → State a → squeeze keccakP 1088 n (stateBits a) ≡ unpack (1088 * n) (squeezedBlocks n a)
 unfolding squeeze squeezedBlocks unpack from
@@ -130,11 +127,7 @@ squeezed-count (suc n) a =
 
 bytes-lt : (n : ℕ) (a : List ℕ) → Bytes (stateBytes n a)
 unfolding stateBytes stateByte
-bytes-lt n a k = go (decLt k n)
-  where
-    go : Dec (k < n) → getD (map (stateByte a) (from 0 n)) k 0 < 256
-    go (yes l) = rw (map-from-at (stateByte a) 0 n k 0 l) (mod-lt (getD a ((0 + k) / 8) 0 / 2 ^ (8 * ((0 + k) % 8))) (zero-lt-suc 255))
-    go (no l) = rw (map-from-past (stateByte a) 0 n k 0 (omega arith)) (zero-lt-suc 255)
+bytes-lt n a = map-below 256 (zero-lt-suc 255) (stateByte a) (λ k. mod-lt (getD a (k / 8) 0 / 2 ^ (8 * (k % 8))) (zero-lt-suc 255)) 0 n
 
 bytes-of : (n : ℕ) → bytesFor (8 * n) ≡ n
 unfolding bytesFor
@@ -143,13 +136,12 @@ bytes-of n = omega arith
 squeezed-bytes : (n : ℕ) (a : List ℕ) → Bytes (squeezedBlocks n a)
 unfolding squeezedBlocks
 squeezed-bytes zero a = λ k. zero-lt-suc 255
-squeezed-bytes (suc n) a = bytes-append (stateBytes 136 a) (squeezedBlocks n (permuted a)) (bytes-lt 136 a) (squeezed-bytes n (permuted a))
+squeezed-bytes (suc n) a = append-below 256 (stateBytes 136 a) (squeezedBlocks n (permuted a)) (bytes-lt 136 a) (squeezed-bytes n (permuted a))
 
 -- what the lanes give is SHAKE256
 pub shake-same : (n : ℕ) (s : List ℕ) → squeezed n (absorbedAll s) ≡ shake256 n s
 unfolding squeezed absorbedAll shake256 shakeBits keccak sponge
 shake-same n s =
-    let bits : List ℕ = unpack (8 * length s) s in
     let blocks : ℕ = 8 * n / 1088 + 1 in
     let a : List ℕ = absorbedBlocks (length s / 136) s (replicate 25 0) in
     let bytes : List ℕ = squeezedBlocks blocks a in
@@ -157,9 +149,23 @@ shake-same n s =
     let f : length (take n bytes) ≡ n = length-take-le n bytes (omega (arith, squeezed-count blocks a)) in
     let g : bytesFor (8 * n) ≡ n = bytes-of n in
     sym (ap (λ (P : List ℕ). out (absorb keccakP 1088 (length P / 1088) P (replicate 1600 0))) (padded-input s)
-    ∙ ap₂ (λ (k : ℕ) (S : List ℕ). out (absorb keccakP 1088 k (bits ++ ending (length s)) S)) (blocks-count s) (sym start-same)
+    ∙ ap₂ (λ (k : ℕ) (S : List ℕ). out (absorb keccakP 1088 k (bitsOf s ++ ending (length s)) S)) (blocks-count s) (sym start-same)
     ∙ ap out (blocks-same (length s / 136) s (replicate 25 0) refl start)
     ∙ ap (λ (l : List ℕ). pack (take (8 * n) l)) (squeeze-same blocks a (blocks-state (length s / 136) s start))
     ∙ ap pack (take-unpack (8 * n) (1088 * blocks) bytes (omega arith) ∙ sym (unpack-take (8 * n) n bytes (omega arith)))
     ∙ pack-unpack (8 * n) (take n bytes) (take-below 256 n bytes (squeezed-bytes blocks a))
     (well-formed (8 * n) (take n bytes) (f ∙ sym g) (clear-all (8 * n) (take n bytes) (λ i h l. absurd (omega arith)))))
+
+-- as many bytes as are asked for
+pub shake-count : (n : ℕ) (s : List ℕ) → length (shake256 n s) ≡ n
+unfolding squeezed
+shake-count n s =
+    let blocks : ℕ = 8 * n / 1088 + 1 in
+    let e : length (squeezedBlocks blocks (absorbedAll s)) ≡ 136 * blocks = squeezed-count blocks (absorbedAll s) in
+    ap length (sym (shake-same n s)) ∙ length-take-le n (squeezedBlocks blocks (absorbedAll s)) (omega arith)
+
+pub shake-bytes : (n : ℕ) (s : List ℕ) → Bytes (shake256 n s)
+unfolding squeezed
+shake-bytes n s k =
+    let blocks : ℕ = 8 * n / 1088 + 1 in
+    rw (← shake-same n s) (take-below 256 n (squeezedBlocks blocks (absorbedAll s)) (squeezed-bytes blocks (absorbedAll s)) k)

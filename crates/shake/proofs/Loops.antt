@@ -14,6 +14,10 @@ use Rattle.bits.proofs.Parts.{part-all, part-back}
 use Rattle.keccak.specs.Lanes.{permuted, absorbed, lastBlock, absorbedBlocks, absorbedAll, laneBytes, stateByte, stateBytes, squeezedBlocks, squeezed}
 use Rattle.keccak.proofs.Sponge.{bytes-count}
 
+-- the part of a list from `at` on
+pub rest-count : (at : ℕ) (s : List ℕ) → length (take (length s - at) (drop at s)) ≡ length s - at
+rest-count at s = ap length (part-all at s) ∙ length-drop at s
+
 -- blocks of input, from byte `at` on
 unfoldable pub absorbedFrom : ℕ → List ℕ → List ℕ → List ℕ
 absorbedFrom at s a = absorbedBlocks ((length s - at) / 136) (drop at s) a
@@ -49,7 +53,7 @@ module _ (n v : ℕ) where
   lane-byte-at i h = map-from-at (λ i. v / 2 ^ (8 * i) % 256) 0 n i 0 h ∙ ap (λ (k : ℕ). v / 2 ^ (8 * k) % 256) (zero-add i)
 
 -- behind the bytes of k lanes those of the next
-pub lane-next : (k n : ℕ) (a : List ℕ) → n ≤ 8 → stateBytes (8 * k) a ++ laneBytes n (getD a k 0) ≡ stateBytes (8 * k + n) a
+lane-next : (k n : ℕ) (a : List ℕ) → n ≤ 8 → stateBytes (8 * k) a ++ laneBytes n (getD a k 0) ≡ stateBytes (8 * k + n) a
 unfolding stateBytes laneBytes stateByte
 lane-next k n a h =
     sym (ap (map (stateByte a)) (from-add 0 (8 * k) n)
@@ -67,7 +71,7 @@ take-bytes n m a h = map-from-part (stateByte a) 0 m 0 n (omega arith)
 
 -- a part of the output filled: the bytes before its end
 module _ (f : ℕ → List ℕ) (count : (n : ℕ) → length (f n) ≡ n) (out new : List ℕ) (at end : ℕ) (h : at ≤ end) (l : end ≤ length out) where
-  pub part-filled : new ≡ f (length (take (end - at) (drop at out))) → take end (putMid at (end - at) out new) ≡ take at out ++ f (end - at)
+  part-filled : new ≡ f (length (take (end - at) (drop at out))) → take end (putMid at (end - at) out new) ≡ take at out ++ f (end - at)
   part-filled e =
       let k : length (take (end - at) (drop at out)) ≡ end - at = length-take-le (end - at) (drop at out) (omega (arith, length-drop at out)) in
       let g : new ≡ f (end - at) = e ∙ ap f k in
@@ -77,10 +81,10 @@ module _ (f : ℕ → List ℕ) (count : (n : ℕ) → length (f n) ≡ n) (out 
       ∙ take-at (take at out ++ new) (drop (end - at) (drop at out)) end (omega (arith, length-append (take at out) new))
       ∙ ap (_++_ (take at out)) g
 
-pub last-filled : (f : ℕ → List ℕ) (out new : List ℕ) (at : ℕ) → new ≡ f (length (take (length out - at) (drop at out)))
+last-filled : (f : ℕ → List ℕ) (out new : List ℕ) (at : ℕ) → new ≡ f (length (take (length out - at) (drop at out)))
     → putMid at (length out - at) out new ≡ take at out ++ f (length out - at)
 last-filled f out new at e =
-    part-back at out new ∙ ap (_++_ (take at out)) (e ∙ ap f (ap length (part-all at out) ∙ length-drop at out))
+    part-back at out new ∙ ap (_++_ (take at out)) (e ∙ ap f (rest-count at out))
 
 -- the next lane written behind the bytes of k lanes, and the last, as far as the output goes
 module _ (out new a : List ℕ) (at k : ℕ) (e : at ≡ 8 * k) (before : take at out ≡ stateBytes (8 * k) a) where
@@ -104,7 +108,7 @@ module _ (out new a : List ℕ) (at k : ℕ) (e : at ≡ 8 * k) (before : take a
       ∙ ap (λ (n : ℕ). stateBytes n a) n
 
 -- blocks of output
-pub squeezed-next : (n : ℕ) (a : List ℕ) → 136 ≤ n → squeezed n a ≡ stateBytes 136 a ++ squeezed (n - 136) (permuted a)
+squeezed-next : (n : ℕ) (a : List ℕ) → 136 ≤ n → squeezed n a ≡ stateBytes 136 a ++ squeezed (n - 136) (permuted a)
 unfolding squeezed squeezedBlocks
 squeezed-next n a h =
     let e : 8 * n / 1088 + 1 ≡ suc (8 * (n - 136) / 1088 + 1) = omega arith in
@@ -112,7 +116,7 @@ squeezed-next n a h =
     ap₂ (λ (k m : ℕ). take k (squeezedBlocks m a)) l e
     ∙ take-append-add (stateBytes 136 a) (squeezedBlocks (8 * (n - 136) / 1088 + 1) (permuted a)) (n - 136)
 
-pub squeezed-end : (n : ℕ) (a : List ℕ) → n ≤ 136 → squeezed n a ≡ stateBytes n a
+squeezed-end : (n : ℕ) (a : List ℕ) → n ≤ 136 → squeezed n a ≡ stateBytes n a
 unfolding squeezed squeezedBlocks
 squeezed-end n a h =
     ap (λ (m : ℕ). take n (squeezedBlocks m a)) (add-one (8 * n / 1088))

@@ -24,8 +24,8 @@ loop-holds c =
     let a = c .before .args in
     (omega arith, refl, over-start (laneBytes (length (a .out .now)) (a .v)) (a .out .now))
 
-byte-of-requires : tie.Need-byte-of-requires Inv-loop μ-loop
-byte-of-requires c κs = search needs
+lane-byte-requires : tie.Need-lane-byte-requires Inv-loop μ-loop
+lane-byte-requires c κs = search needs
 
 slice-write-out : tie.Need-slice-write-out Inv-loop μ-loop
 slice-write-out c = search needs
@@ -43,7 +43,7 @@ loop-again c =
     let n : ℕ = length (a .out .now) in (
       omega arith,
       simp length-set (omega arith),
-      ap₂ (λ (d : List ℕ) (b : ℕ). set d (l .i) b) (l .inv .2) (c .byte-of .ensures ∙ sym (lane-byte-at n (a .v) (l .i) (omega arith)))
+      ap₂ (λ (d : List ℕ) (b : ℕ). set d (l .i) b) (l .inv .2) (c .lane-byte .ensures ∙ sym (lane-byte-at n (a .v) (l .i) (omega arith)))
           ∙ over-next (l .i) (laneBytes n (a .v)) (a .out .now) (omega (arith, lane-bytes-count n (a .v))) (omega arith),
     )
 
@@ -67,7 +67,7 @@ write-lane-spec =
     Inv-loop
     μ-loop
     loop-holds
-    byte-of-requires
+    lane-byte-requires
     slice-write-out
     add-i
     loop-less
