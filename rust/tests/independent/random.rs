@@ -69,7 +69,7 @@ impl Random {
     pub fn secret(&mut self, n: usize) -> Vec<u8> {
         let mut secret = self.row(n);
         match self.below(8) {
-            0 => secret = self.other_length(secret),
+            0 if n > 0 => secret = self.other_length(secret),
             1 if n % 8 > 0 => bits::set(&mut secret, n + self.below(8 - n % 8)),
             _ => {}
         }
