@@ -115,13 +115,9 @@ impl Station {
     /// # Ok::<(), Refusal>(())
     /// ```
     pub fn session(&self, capsule: &[u8], secret: &[u8]) -> Result<[u8; raw::SESSION_BYTES], Refusal> {
-        // The key is written where it is handed back, so that no copy of it is left here.
-        let mut answer = Ok([0; raw::SESSION_BYTES]);
-        if let Ok(key) = &mut answer {
-            if let Err(refusal) = calls::session(&self.raw, capsule, secret, key) {
-                answer = Err(refusal);
-            }
-        }
+        let mut key = [0; raw::SESSION_BYTES];
+        let answer = calls::session(&self.raw, capsule, secret, &mut key).map(|()| key);
+        wipe(&mut key);
         answer
     }
 
