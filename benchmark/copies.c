@@ -11,6 +11,7 @@ static uint8_t file[1 << 15], public_key[1 << 19], work[1 << 19], row[1 << 10], 
 static shearcotter_station station;
 static shearcotter_reply reply;
 static shearcotter_reported reported;
+static shearcotter_derived derived;
 static int counting, copies, failed;
 
 /* A station or its key, whose support and g lie side by side, or the support alone of the held key or of the file's. The decoder also copies arrays of about a
@@ -53,6 +54,7 @@ static void say(const char *call, int wrong)
     } while (0)
 #define COUNT(name, call, number) COUNT_IN(reply, name, call, number)
 #define COUNT_REPORT(name, call, number) COUNT_IN(reported, name, call, number)
+#define COUNT_SESSION(name, call, number) COUNT_IN(derived, name, call, number)
 
 int main(int count, char **words)
 {
@@ -62,6 +64,7 @@ int main(int count, char **words)
     COUNT("drop, refused", shearcotter_drop(station), 21);
     COUNT("open, refused, no key", shearcotter_open(station, row, 1, out, sizeof out), 21);
     COUNT_REPORT("report, refused, no key", shearcotter_report(station, row, 1, out, sizeof out), 21);
+    COUNT_SESSION("session, refused, no key", shearcotter_session(station, row, 1, out, 1), 21);
     COUNT("load, refused", shearcotter_load(station, file, size - 1), 2);
     COUNT("load", shearcotter_load(station, file, size), 0);
     COUNT("load, refused, key held", shearcotter_load(station, file, size), 22);
@@ -70,6 +73,8 @@ int main(int count, char **words)
     COUNT("open, refused", shearcotter_open(station, row, SHEARCOTTER_CAPSULE_BYTES(12, 64), out, sizeof out), 13);
     COUNT_REPORT("report, refused", shearcotter_report(station, row, 1, out, 0), 31);
     COUNT_REPORT("report", shearcotter_report(station, row, sizeof row, out, sizeof out), 0);
+    COUNT_SESSION("session, refused", shearcotter_session(station, row, SHEARCOTTER_CAPSULE_BYTES(12, 64), out, 1), 33);
+    COUNT_SESSION("session", shearcotter_session(station, row, SHEARCOTTER_CAPSULE_BYTES(12, 64), out, SHEARCOTTER_PATTERN_BYTES(3488)), 0);
     COUNT("read, refused", shearcotter_read(station, row, 1, out, sizeof out), 8);
     COUNT("read", shearcotter_read(station, row, SHEARCOTTER_PATTERN_BYTES(3488), out, sizeof out), 0);
     COUNT("drop", shearcotter_drop(station), 0);

@@ -46,6 +46,29 @@ static void *report(void *none)
     return none;
 }
 
+/* Of the capsule, which opens, or does not with a bit turned. */
+static void *session(void *none)
+{
+    shearcotter_derived derived = shearcotter_session(station, capsule, sizeof capsule, pattern, sizeof pattern);
+    station = derived.station;
+    refused = derived.refused;
+    return none;
+}
+
+static void *session_13(void *none)
+{
+    capsule[0] ^= 1;
+    session(none);
+    capsule[0] ^= 1;
+    return none;
+}
+
+static void *shake(void *none)
+{
+    shearcotter_shake256(pattern, sizeof pattern, out, sizeof out);
+    return none;
+}
+
 static void *lock(void *none)
 {
     refused = shearcotter_lock(M, N, T, public_key, SHEARCOTTER_PUBLIC_BYTES(M, N, T), pattern, sizeof pattern, capsule,
@@ -82,7 +105,7 @@ static int failed;
 static void measure(const char *name, void *(*call)(void *), size_t stated)
 {
     size_t kib = (taken(call) - taken(nothing) + 1023) / 1024;
-    printf("%-9s %4zu KiB, stated %zu\n", name, kib, stated);
+    printf("%-12s %4zu KiB, stated %zu\n", name, kib, stated);
     failed |= refused != 0 || kib > stated;
 }
 
@@ -99,9 +122,12 @@ int main(int count, char **words)
     measure("lock", lock, SHEARCOTTER_STACK_LOCK);
     measure("open", open_capsule, SHEARCOTTER_STACK_OPEN);
     measure("report", report, SHEARCOTTER_STACK_REPORT);
+    measure("session", session, SHEARCOTTER_STACK_SESSION);
+    measure("the same, 13", session_13, SHEARCOTTER_STACK_SESSION);
     measure("read", read_word, SHEARCOTTER_STACK_READ);
     measure("drop", drop, SHEARCOTTER_STACK_DROP);
     measure("register", shortest_register, SHEARCOTTER_STACK_REGISTER);
+    measure("shake256", shake, SHEARCOTTER_STACK_SHAKE);
     puts(failed ? "stack: a call takes more than the header says, or was refused" : "stack: no call takes more than the header says");
     return failed;
 }

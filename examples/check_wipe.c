@@ -1,5 +1,5 @@
-/* Whether wipe.h wipes: a key file is loaded, published, opened and reported with, and then this program's own memory is looked
- * through for eight elements of the support in a row. Without wiping they are found; with it they must not be. Linux. */
+/* Whether wipe.h wipes: a key file is loaded, published, opened, reported and derived with, and then this program's own memory is
+ * looked through for eight elements of the support in a row. Without wiping they are found; with it they must not be. Linux. */
 #include <stdio.h>
 #include <stdlib.h>
 
@@ -50,7 +50,7 @@ static WIPE_APART void hold_key(const char *name)
     wipe(copies, sizeof copies);
 }
 
-/* Loads, publishes, locks, opens and reports; the stack is left as it is. */
+/* Loads, publishes, locks, opens, reports and derives; the stack is left as it is. */
 static WIPE_APART void use_key(const char *name)
 {
     read_key(name, file);
@@ -66,6 +66,8 @@ static WIPE_APART void use_key(const char *name)
     uint8_t record;
     shearcotter_reported reported = shearcotter_report(reply.station, capsule, sizeof capsule, &record, 1);
     expect(reported.counts[SHEARCOTTER_ACCEPTED] == 1, shearcotter_words(reported.refused));
+    shearcotter_derived derived = shearcotter_session(reported.station, capsule, sizeof capsule, pattern, sizeof pattern);
+    expect(derived.refused == SHEARCOTTER_ACCEPTED, shearcotter_words(derived.refused));
 }
 
 /* The element that comes after each in the support; the support itself is not kept. */

@@ -1,4 +1,4 @@
-/* Goppa code capsules: field, keys, public key, locking, reading, opening, reports. Link libshearcotter.a (x86-64).
+/* Goppa code capsules: field, keys, public key, locking, reading, opening, reports, session keys. Link libshearcotter.a (x86-64).
  *
  * Rules for every call:
  * - Pointers are not null, also with length 0, and the buffers of one call do not overlap.
@@ -7,10 +7,10 @@
  * - Refusals are listed in the order in which they are looked for: the first whose condition holds is answered.
  * - Nothing is allocated or kept between calls, so calls may run at once in several threads.
  * - Stack: enum shearcotter_stack_kib.
- * - Secret are key files, stations, replies, patterns, publish's workspace, and the stack that a call used. The calls wipe none of
- *   them: see 'Secrets' below.
+ * - Secret are key files, stations, replies, patterns, session keys and the secrets lent for them, publish's workspace, and the
+ *   stack that a call used. The calls wipe none of them: see 'Secrets' below.
  *
- * Key files, public keys, capsules, patterns and words, byte by byte: docs/FORMATS.md.
+ * Key files, public keys, capsules, patterns, secrets and words, byte by byte: docs/FORMATS.md.
  */
 #ifndef SHEARCOTTER_H
 #define SHEARCOTTER_H
@@ -31,7 +31,8 @@ enum shearcotter_limit {
     SHEARCOTTER_MOST_ERRORS = 128,   /* t */
     SHEARCOTTER_LONGEST = 256,       /* elements in the list for a register */
     SHEARCOTTER_COEFFICIENTS = 257,  /* of a register's connection polynomial */
-    SHEARCOTTER_BYTE_VALUES = 256    /* that a report counts */
+    SHEARCOTTER_BYTE_VALUES = 256,   /* that a report counts */
+    SHEARCOTTER_SESSION_BYTES = 32   /* of a session key */
 };
 
 /* KiB of stack that a call takes, its argument and reply in the caller included: as measured at (13, 8192, 128), rounded up; the
@@ -44,8 +45,10 @@ enum shearcotter_stack_kib {
     SHEARCOTTER_STACK_OPEN = 225,
     SHEARCOTTER_STACK_READ = 225,
     SHEARCOTTER_STACK_REPORT = 229,
+    SHEARCOTTER_STACK_SESSION = 229,
     SHEARCOTTER_STACK_DROP = 49,
-    SHEARCOTTER_STACK_REGISTER = 4
+    SHEARCOTTER_STACK_REGISTER = 4,
+    SHEARCOTTER_STACK_SHAKE = 2
 };
 
 /* Byte lengths for the shape (m, n, t), with m*t < n. */
@@ -93,7 +96,9 @@ enum shearcotter_state {
     /* of a report */                                                                                  \
     X(SHEARCOTTER_SHORT_RECORDS, 31, "record buffer shorter than the number of capsules")              \
     /* of the field */                                                                                 \
-    X(SHEARCOTTER_INVERSE_OF_ZERO, 32, "inverse of 0")
+    X(SHEARCOTTER_INVERSE_OF_ZERO, 32, "inverse of 0")                                                 \
+    /* of a session key */                                                                             \
+    X(SHEARCOTTER_BAD_SECRET, 33, "secret of wrong length or with filler set")
 
 /* What `refused` says. */
 #define SHEARCOTTER_NUMBER(name, number, words) name = number,
@@ -146,6 +151,14 @@ typedef struct {
     size_t counts[SHEARCOTTER_BYTE_VALUES];
 } shearcotter_reported;
 
+/* The caller's station, the number of the refusal, 0 for none, and the session key, zeros where it is refused. A reply of its own,
+ * and secret as the others are. */
+typedef struct {
+    shearcotter_station station;
+    uint8_t refused;
+    uint8_t key[SHEARCOTTER_SESSION_BYTES];
+} shearcotter_derived;
+
 /* value is 0 where it is refused. */
 typedef struct {
     uint8_t refused;
@@ -196,6 +209,10 @@ SHEARCOTTER_SIZE(reported, 18704)
 SHEARCOTTER_OFFSET(reported, station, 0)
 SHEARCOTTER_OFFSET(reported, refused, 16648)
 SHEARCOTTER_OFFSET(reported, counts, 16656)
+SHEARCOTTER_SIZE(derived, 16682)
+SHEARCOTTER_OFFSET(derived, station, 0)
+SHEARCOTTER_OFFSET(derived, refused, 16648)
+SHEARCOTTER_OFFSET(derived, key, 16649)
 SHEARCOTTER_SIZE(element, 4)
 SHEARCOTTER_OFFSET(element, refused, 0)
 SHEARCOTTER_OFFSET(element, value, 2)
@@ -213,9 +230,11 @@ SHEARCOTTER_OFFSET(register, c, 16)
 #undef SHEARCOTTER_SIZE
 #undef SHEARCOTTER_HOLDS
 
-/* Secrets. On the stack the calls leave copies of the station, and points of the pattern that they found. Who holds a key wipes
+/* Secrets. On the stack the calls leave copies of the station, points of the pattern that they found, and what they hashed. Who
+ * holds a key wipes
  * - the bytes of the key file after load, and publish's workspace after publish, refused or not;
- * - each pattern, station and reply after its use; drop hands back a fresh station, and the old one stays the caller's;
+ * - each pattern, session key, station and reply after its use, and after the last session the secret that was lent for it; drop
+ *   hands back a fresh station, and the old one stays the caller's;
  * - the stack. Stations pass by value, so that the compiler makes copies without a name in the frame of the function that calls.
  *   All calls go into a function that is not inlined, and once that has returned its caller wipes the stack below its own frame:
  *   the call's KiB above, and what the function itself takes.
@@ -236,6 +255,9 @@ shearcotter_shape shearcotter_shape_at(uint8_t position);
 
 /* The shortest register that generates the list, at most 256 elements of width m. Refused: 1, 2, 4. */
 shearcotter_register shearcotter_shortest_register(uint8_t m, const uint16_t *list, size_t list_length);
+
+/* Fills `out` with the first bytes of SHAKE256 (FIPS 202) of the input, both of any length. Nothing is refused. */
+void shearcotter_shake256(const uint8_t *input, size_t input_length, uint8_t *out, size_t out_length);
 
 /* Writes the capsule of a pattern with exactly t ones under a public key of the shape. Returns 0 or the refusal:
  * 1, 3, 8, 9, 12, 10. */
@@ -266,6 +288,15 @@ shearcotter_reply shearcotter_open(shearcotter_station station, const uint8_t *c
  * Refused: 21, 25, 24, 31: then no record is written and the counts are 0. A sender must not learn of a 13 here either. */
 shearcotter_reported shearcotter_report(shearcotter_station station, const uint8_t *capsules, size_t capsules_length,
                                         uint8_t *records, size_t records_length);
+
+/* The session key of the capsule, as Classic McEliece's DECAP derives it: the first 32 bytes of SHAKE256 of the byte 1, the
+ * pattern and the capsule; where open refuses with 13, of the byte 0, the secret and the capsule. A sender cannot tell from the key
+ * which of the two it is, so that the caller has no 13 to hide. The station stays.
+ * The secret is the standard's s: SHEARCOTTER_PATTERN_BYTES random bytes with clear filler. It stays the caller's, is as secret as
+ * the key file, and is the same in every call with that key, so that a capsule that does not open has one key too.
+ * Refused: 21, 25, 24, 8, 9, 33: then the key is zeros. 8 and 9 are about bytes that the sender knows. */
+shearcotter_derived shearcotter_session(shearcotter_station station, const uint8_t *capsule, size_t capsule_length,
+                                        const uint8_t *secret, size_t secret_length);
 
 /* Writes the pattern that turns the word into the code word within t places, and counts its ones. The station stays.
  * Refused: 21, 25, 8, 9, 10, 14. */

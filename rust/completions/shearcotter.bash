@@ -31,18 +31,22 @@ _shearcotter() {
     done
     if [[ $option ]]; then
         [[ $cur == = ]] && cur=''
-        case $option in
-            --format) _shearcotter_words 'places hex raw json' "$cur" ;;
-            --records) _shearcotter_files "$cur" ;;
+        case $command,$option in
+            lock,--format) _shearcotter_words 'places hex raw json' "$cur" ;;
+            open,--format) _shearcotter_words 'places hex raw json' "$cur" ;;
+            session,--format) _shearcotter_words 'hex raw json' "$cur" ;;
+            report,--records) _shearcotter_files "$cur" ;;
+            read,--format) _shearcotter_words 'places hex raw json' "$cur" ;;
         esac
     elif [[ -z $command ]]; then
-        _shearcotter_words 'check publish lock open report read shapes help man completions --help --version' "$cur"
+        _shearcotter_words 'check publish lock open session report read shapes help man completions --help --version' "$cur"
     elif [[ -z $ended && $cur == -* ]]; then
         case $command in
             check) _shearcotter_words '--quiet --help' "$cur" ;;
             publish) _shearcotter_words '--quiet --help' "$cur" ;;
             lock) _shearcotter_words '--format --quiet --help' "$cur" ;;
             open) _shearcotter_words '--format --jobs --explain --quiet --help' "$cur" ;;
+            session) _shearcotter_words '--format --jobs --explain --quiet --help' "$cur" ;;
             report) _shearcotter_words '--records --jobs --quiet --help' "$cur" ;;
             read) _shearcotter_words '--format --jobs --explain --quiet --help' "$cur" ;;
             shapes) _shearcotter_words '--quiet --help' "$cur" ;;
@@ -61,11 +65,14 @@ _shearcotter() {
             lock,3) _shearcotter_files "$cur" ;;
             open,0) _shearcotter_files "$cur" ;;
             open,1) _shearcotter_files "$cur" ;;
+            session,0) _shearcotter_files "$cur" ;;
+            session,1) _shearcotter_files "$cur" ;;
+            session,2) _shearcotter_files "$cur" ;;
             report,0) _shearcotter_files "$cur" ;;
             report,1) _shearcotter_files "$cur" ;;
             read,0) _shearcotter_files "$cur" ;;
             read,1) _shearcotter_files "$cur" ;;
-            help,0) _shearcotter_words 'check publish lock open report read shapes help man completions' "$cur" ;;
+            help,0) _shearcotter_words 'check publish lock open session report read shapes help man completions' "$cur" ;;
             completions,0) _shearcotter_words 'bash' "$cur" ;;
         esac
     fi

@@ -22,7 +22,9 @@ const _: () = {
         raw::STACK_OPEN,
         raw::STACK_READ,
         raw::STACK_REPORT,
+        raw::STACK_SESSION,
         raw::STACK_DROP,
+        raw::STACK_SHAKE,
     ];
     let mut i = 0;
     while i < taken.len() {
@@ -68,6 +70,13 @@ pub(crate) fn register(m: u8, list: &[u16]) -> Result<raw::Register, Refusal> {
     touch_stack();
     let found = unsafe { raw::shearcotter_shortest_register(m, list.as_ptr(), list.len()) };
     Refusal::check(found.refused).map(|()| found)
+}
+
+/// What is hashed may be a secret.
+pub(crate) fn shake256(input: &[u8], out: &mut [u8]) {
+    secretly::<{ raw::STACK_SHAKE + FRAMES }, _>(|| unsafe {
+        raw::shearcotter_shake256(input.as_ptr(), input.len(), out.as_mut_ptr(), out.len());
+    });
 }
 
 pub(crate) fn lock(shape: (u8, u16, u16), public: &[u8], pattern: &[u8], out: &mut [u8]) -> Result<(), Refusal> {
@@ -139,6 +148,22 @@ pub(crate) fn report(station: &raw::Station, capsules: &[u8], records: &mut [u8]
         Refusal::check(reported.refused)
     })
     .map(|()| counts)
+}
+
+/// Writes the session key, zeros where it is refused. The station that the call hands back is the caller's own.
+pub(crate) fn session(
+    station: &raw::Station,
+    capsule: &[u8],
+    secret: &[u8],
+    key: &mut [u8; raw::SESSION_BYTES],
+) -> Result<(), Refusal> {
+    secretly::<{ raw::STACK_SESSION + COPIES }, _>(|| {
+        let derived = unsafe {
+            raw::shearcotter_session(*station, capsule.as_ptr(), capsule.len(), secret.as_ptr(), secret.len())
+        };
+        *key = derived.key;
+        Refusal::check(derived.refused)
+    })
 }
 
 pub(crate) fn drop_key(station: &mut raw::Station) -> Result<(), Refusal> {

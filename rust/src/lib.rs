@@ -1,8 +1,9 @@
 //! Classic McEliece capsules: the proved calls of `libshearcotter.a` as safe types.
 //!
 //! A [`Station`] keeps one key: [`load`](Station::load) it from a key file, [`publish`](Station::publish) its
-//! public key, [`open`](Station::open) capsules, [`report`](Station::report) on them and [`read`](Station::read) words.
-//! [`lock`](lock()) makes a capsule from a public key. A call that is refused answers a [`Refusal`] and changes nothing.
+//! public key, [`open`](Station::open) capsules, derive their [`session`](Station::session) keys, [`report`](Station::report)
+//! on them and [`read`](Station::read) words. [`lock`](lock()) makes a capsule from a public key, and [`shake256`](shake256())
+//! is the function that session keys are derived by. A call that is refused answers a [`Refusal`] and changes nothing.
 //!
 //! ```
 //! use shearcotter::{lock, Shape, Station};
@@ -28,9 +29,9 @@
 //! # Secrets
 //!
 //! A [`Station`] and a [`Pattern`] are overwritten with zeros when they are dropped, publish's workspace when it is done,
-//! and the stack that a call used when it returns. The caller's to [`wipe`] are the bytes of a key file, buffers that
-//! were lent, and bytes from [`Pattern::into_bytes`]. Registers, swapped pages and core dumps are not reached, nor what
-//! the calls of [`raw`] leave, nor what [`std::mem::forget`] keeps.
+//! and the stack that a call used when it returns. The caller's to [`wipe`] are the bytes of a key file, buffers and
+//! secrets that were lent, session keys, and bytes from [`Pattern::into_bytes`]. Registers, swapped pages and core dumps are
+//! not reached, nor what the calls of [`raw`] leave, nor what [`std::mem::forget`] keeps.
 
 #![deny(missing_docs)]
 #![deny(unsafe_code)]
@@ -43,6 +44,7 @@ pub mod raw;
 mod refusal;
 mod register;
 mod report;
+mod shake;
 mod shape;
 mod station;
 mod wiping;
@@ -52,6 +54,7 @@ pub use pattern::Pattern;
 pub use refusal::Refusal;
 pub use register::{register, Register};
 pub use report::{Counts, Report};
+pub use shake::shake256;
 pub use shape::Shape;
 pub use station::Station;
 pub use wiping::wipe;

@@ -14,6 +14,8 @@ pub const LONGEST: usize = 256;
 pub const COEFFICIENTS: usize = LONGEST + 1;
 /// The values of a byte, which a report counts.
 pub const BYTE_VALUES: usize = 256;
+/// Bytes of a session key.
+pub const SESSION_BYTES: usize = 32;
 /// Bytes of stack that each safe call makes sure of.
 pub const STACK: usize = 384 * 1024;
 /// Bytes of stack that `shearcotter_load` takes, its argument and reply in the caller included.
@@ -28,8 +30,12 @@ pub const STACK_OPEN: usize = 225 * 1024;
 pub const STACK_READ: usize = 225 * 1024;
 /// The same for `shearcotter_report`.
 pub const STACK_REPORT: usize = 229 * 1024;
+/// The same for `shearcotter_session`.
+pub const STACK_SESSION: usize = 229 * 1024;
 /// The same for `shearcotter_drop`.
 pub const STACK_DROP: usize = 49 * 1024;
+/// Bytes of stack that `shearcotter_shake256` takes.
+pub const STACK_SHAKE: usize = 2 * 1024;
 
 /// `state` of an empty station.
 pub const EMPTY: u8 = 0;
@@ -88,6 +94,18 @@ pub struct Reported {
     pub counts: [usize; BYTE_VALUES],
 }
 
+/// What the call for a session key hands back.
+#[derive(Clone, Copy, PartialEq, Eq)]
+#[repr(C)]
+pub struct Derived {
+    /// The caller's own station.
+    pub station: Station,
+    /// 0, or the refusal's number.
+    pub refused: u8,
+    /// The session key; zeros where it is refused.
+    pub key: [u8; SESSION_BYTES],
+}
+
 /// What a field call hands back.
 #[derive(Clone, Copy, PartialEq, Eq, Debug)]
 #[repr(C)]
@@ -135,6 +153,8 @@ extern "C" {
     pub fn shearcotter_shape_at(position: u8) -> Shape;
     /// The shortest register of a list.
     pub fn shearcotter_shortest_register(m: u8, list: *const u16, list_length: usize) -> Register;
+    /// Fills the output with the first bytes of SHAKE256 of the input.
+    pub fn shearcotter_shake256(input: *const u8, input_length: usize, out: *mut u8, out_length: usize);
     /// Writes the capsule of a pattern; 0, or the refusal's number.
     pub fn shearcotter_lock(
         m: u8,
@@ -183,6 +203,14 @@ extern "C" {
         records: *mut u8,
         records_length: usize,
     ) -> Reported;
+    /// The session key of a capsule, with the secret for one that does not open.
+    pub fn shearcotter_session(
+        station: Station,
+        capsule: *const u8,
+        capsule_length: usize,
+        secret: *const u8,
+        secret_length: usize,
+    ) -> Derived;
     /// Drops the key.
     pub fn shearcotter_drop(station: Station) -> Reply;
 }

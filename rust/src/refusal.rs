@@ -67,6 +67,7 @@ refusals! {
     UnsoundKey 25 "the kept key is not one that load accepts",
     ShortRecords 31 "record buffer shorter than the number of capsules",
     InverseOfZero 32 "inverse of 0",
+    BadSecret 33 "secret of wrong length or with filler set",
 }
 
 impl Refusal {

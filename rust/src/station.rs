@@ -85,6 +85,42 @@ impl Station {
         calls::report(&self.raw, capsules, records)
     }
 
+    /// The session key of a capsule, as Classic McEliece's decapsulation derives it: refused with the first that applies
+    /// of 21, 24, 8, 9, 33.
+    ///
+    /// It is the first 32 bytes of [`shake256`](crate::shake256) of the byte 1, the pattern and the capsule; where
+    /// [`open`](Station::open) refuses with 13, of the byte 0, the secret and the capsule. A sender cannot tell from the
+    /// key which of the two it is, so that the caller has no 13 to hide.
+    ///
+    /// The secret is the standard's s, [`Shape::pattern_length`] random bytes with clear filler. It is as secret as the key
+    /// file, and the same in every call with that key. It and the key that is answered are the caller's to [`wipe`].
+    ///
+    /// ```
+    /// use shearcotter::{shake256, wipe, Refusal, Station};
+    ///
+    /// let file = [4, 6, 0, 1, 0, 9, 0, 13, 0, 15, 0, 14, 0, 11, 0, 1, 0, 0, 0];
+    /// let mut station = Station::fresh();
+    /// station.load(&file)?;
+    /// station.publish()?;
+    /// let mut secret = [0x2a];
+    /// // The capsule 03 opens to the pattern 10; no pattern has the capsule 00.
+    /// let (mut opened, mut other) = ([0; 32], [0; 32]);
+    /// shake256(&[1, 0x10, 0x03], &mut opened);
+    /// shake256(&[0, 0x2a, 0x00], &mut other);
+    /// assert_eq!(station.session(&[0x03], &secret)?, opened);
+    /// assert_eq!(station.session(&[0x00], &secret)?, other);
+    /// assert_eq!(station.session(&[0x13], &secret), Err(Refusal::FillerSet));
+    /// assert_eq!(station.session(&[0x03], &[0x6a]), Err(Refusal::BadSecret));
+    /// wipe(&mut secret);
+    /// # Ok::<(), Refusal>(())
+    /// ```
+    pub fn session(&self, capsule: &[u8], secret: &[u8]) -> Result<[u8; raw::SESSION_BYTES], Refusal> {
+        let mut key = [0; raw::SESSION_BYTES];
+        let answer = calls::session(&self.raw, capsule, secret, &mut key).map(|()| key);
+        wipe(&mut key);
+        answer
+    }
+
     /// The pattern that turns a word into the code word within t places: refused with the first that applies of
     /// 21, 8, 9, 14.
     pub fn read(&self, word: &[u8]) -> Result<Pattern, Refusal> {

@@ -16,7 +16,7 @@ compile_error!("libshearcotter.a is for x86-64");
 /// Overwrites the bytes with zeros, in a way that the compiler keeps.
 ///
 /// For what the caller holds: the bytes of a key file after [`load`](crate::Station::load), a lent workspace, a pattern
-/// that was written into a lent output.
+/// that was written into a lent output, a session key and the secret that was lent for it.
 pub fn wipe(bytes: &mut [u8]) {
     bytes.fill(0);
     keep(bytes.as_ptr());

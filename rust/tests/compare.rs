@@ -46,9 +46,17 @@ fn same_reading(station: &Station, held: &Held, word: &[u8]) {
     assert_eq!(answer(station.read(word)), expected, "{word:02x?} {:?}", held.key);
 }
 
-fn same_opening(station: &Station, held: &Held, capsule: &[u8]) {
+/// The pattern, and the session key with a secret of any kind.
+fn same_opening(random: &mut Random, station: &Station, held: &Held, capsule: &[u8]) {
     let expected = calls::open(2, held, capsule, held.key.n.div_ceil(8));
     assert_eq!(answer(station.open(capsule)), expected, "{capsule:02x?} {:?}", held.key);
+    let secret = random.secret(held.key.n);
+    let expected = match calls::session(2, held, capsule, &secret) {
+        (0, key) => Ok(key),
+        (number, _) => Err(number),
+    };
+    let answer = station.session(capsule, &secret).map_err(Refusal::number);
+    assert_eq!(answer, expected, "{capsule:02x?} {secret:02x?} {:?}", held.key);
 }
 
 fn same_locking(held: &Held, pattern: &[u8]) -> Vec<u8> {
@@ -107,7 +115,7 @@ fn compare_small(random: &mut Random, held: &Held) {
         return;
     }
     for number in some(random, rank) {
-        same_opening(&station, held, &packed(rank, number));
+        same_opening(random, &station, held, &packed(rank, number));
     }
     for ones in (0..=t + 1).cycle().take(20) {
         let capsule = same_locking(held, &random.pattern(n, ones));
@@ -143,14 +151,15 @@ fn compare_large(random: &mut Random, held: &Held, rounds: usize) {
     }
     for round in 0..rounds {
         let mut capsule = same_locking(held, &random.pattern(n, t));
-        same_opening(&station, held, &capsule);
+        same_opening(random, &station, held, &capsule);
         if round % 3 == 0 {
             let turned = random.below(rank);
             capsule[turned / 8] ^= 1 << (turned % 8);
-            same_opening(&station, held, &capsule);
+            same_opening(random, &station, held, &capsule);
         }
     }
-    same_opening(&station, held, &random.row(rank));
+    let capsule = random.row(rank);
+    same_opening(random, &station, held, &capsule);
     malformed(random, &station, held);
 }
 
@@ -159,7 +168,8 @@ fn malformed(random: &mut Random, station: &Station, held: &Held) {
     let (n, rank) = (held.key.n, held.key.capsule_bits());
     for extra in [0, 2] {
         same_reading(station, held, &random.bytes(n.div_ceil(8) + extra - 1));
-        same_opening(station, held, &random.bytes(rank.div_ceil(8) + extra - 1));
+        let capsule = random.bytes(rank.div_ceil(8) + extra - 1);
+        same_opening(random, station, held, &capsule);
     }
     for filler in n..8 * n.div_ceil(8) {
         let mut word = random.row(n);
@@ -169,7 +179,7 @@ fn malformed(random: &mut Random, station: &Station, held: &Held) {
     for filler in rank..8 * rank.div_ceil(8) {
         let mut capsule = random.row(rank);
         bits::set(&mut capsule, filler);
-        same_opening(station, held, &capsule);
+        same_opening(random, station, held, &capsule);
     }
 }
 

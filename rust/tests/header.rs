@@ -47,6 +47,7 @@ fn limits_states_and_stack() {
         ("LONGEST", raw::LONGEST),
         ("COEFFICIENTS", raw::COEFFICIENTS),
         ("BYTE_VALUES", raw::BYTE_VALUES),
+        ("SESSION_BYTES", raw::SESSION_BYTES),
         ("EMPTY", raw::EMPTY.into()),
         ("LOADED", raw::LOADED.into()),
         ("PUBLISHED", raw::PUBLISHED.into()),
@@ -56,7 +57,9 @@ fn limits_states_and_stack() {
         ("STACK_OPEN", raw::STACK_OPEN / 1024),
         ("STACK_READ", raw::STACK_READ / 1024),
         ("STACK_REPORT", raw::STACK_REPORT / 1024),
+        ("STACK_SESSION", raw::STACK_SESSION / 1024),
         ("STACK_DROP", raw::STACK_DROP / 1024),
+        ("STACK_SHAKE", raw::STACK_SHAKE / 1024),
     ] {
         assert_eq!(constant(name), value, "{name}");
     }
@@ -91,6 +94,7 @@ fn layout_is_the_crate_s() {
     layout!(Station "station" state key);
     layout!(Reply "reply" station refused ones);
     layout!(Reported "reported" station refused counts);
+    layout!(Derived "derived" station refused key);
     layout!(Element "element" refused value);
     layout!(Shape "shape" refused m n t);
     layout!(Register "register" refused length c);

@@ -4,14 +4,15 @@ use std::fmt::Debug;
 use std::marker::PhantomData;
 use std::mem::size_of;
 
-use shearcotter::{field, lock_into, raw, register, wipe, Counts, Pattern, Refusal, Shape, Station};
+use shearcotter::{field, lock_into, raw, register, shake256, wipe, Counts, Pattern, Refusal, Shape, Station};
 
 use crate::bench_keys::{K1, K3};
+use crate::support::bytes;
 
 #[test]
 fn refusals_have_their_numbers_and_words() {
     let numbers: Vec<u8> = Refusal::ALL.iter().map(|refusal| refusal.number()).collect();
-    let expected: Vec<u8> = (1..=14).chain(21..=25).chain([31, 32]).collect();
+    let expected: Vec<u8> = (1..=14).chain(21..=25).chain(31..=33).collect();
     assert_eq!(numbers, expected);
     for number in 0..=255 {
         let refusal = Refusal::from_number(number);
@@ -37,9 +38,9 @@ impl<T> Hidden for Shown<T> {}
 
 #[test]
 fn secrets_are_not_shown() {
-    let replies = [Shown::<raw::Reply>::SHOWN, Shown::<raw::Reported>::SHOWN];
+    let replies = [Shown::<raw::Reply>::SHOWN, Shown::<raw::Reported>::SHOWN, Shown::<raw::Derived>::SHOWN];
     let structs = [Shown::<raw::Key>::SHOWN, Shown::<raw::Station>::SHOWN];
-    assert_eq!((replies, structs, Shown::<raw::Element>::SHOWN), ([false; 2], [false; 2], true));
+    assert_eq!((replies, structs, Shown::<raw::Element>::SHOWN), ([false; 3], [false; 2], true));
     let mut station = Station::fresh();
     station.load(&K1).expect("load accepts");
     station.publish().expect("publish accepts");
@@ -92,6 +93,8 @@ fn sizes_of_the_structs() {
     assert_eq!(size_of::<raw::Station>(), 2 + size_of::<raw::Key>());
     assert_eq!(size_of::<raw::Reply>(), size_of::<raw::Station>() + 4);
     assert_eq!(size_of::<raw::Reported>(), size_of::<raw::Station>() + 8 + 8 * 256);
+    // To the station's 2 bytes of alignment.
+    assert_eq!(size_of::<raw::Derived>(), size_of::<raw::Station>() + 1 + 32 + 1);
     assert_eq!((size_of::<raw::Element>(), size_of::<raw::Shape>()), (4, 6));
     assert_eq!(size_of::<raw::Register>(), 536);
 }
@@ -139,12 +142,14 @@ fn states() {
     assert_eq!(station.open(&[3]), Err(Refusal::NoKey));
     assert_eq!(station.report(&[3]), Err(Refusal::NoKey));
     assert_eq!(station.report(&[]), Err(Refusal::NoKey));
+    assert_eq!(station.session(&[3], &[0]), Err(Refusal::NoKey));
     assert_eq!(station.read(&[3]), Err(Refusal::NoKey));
     assert_eq!(station.drop_key(), Err(Refusal::NoKey));
     station.load(&K1).expect("load accepts");
     assert_eq!(station.load(&K1), Err(Refusal::KeyHeld));
     assert_eq!(station.open(&[3]), Err(Refusal::NotPublished));
     assert_eq!(station.report(&[3]), Err(Refusal::NotPublished));
+    assert_eq!(station.session(&[3], &[0]), Err(Refusal::NotPublished));
     assert_eq!((station.shape(), station.is_published()), (Shape::new(4, 6, 1).ok(), false));
     station.publish().expect("publish accepts");
     assert!(station.is_published());
@@ -193,6 +198,43 @@ fn counts_of_records() {
     let all: Counts = (0..=u8::MAX).chain([255; 2]).collect();
     assert_eq!([0, 1, 254, 255].map(|number| all.of(number)), [1, 1, 1, 3]);
     assert_eq!((all.total(), all.opened(), all.refused()), (258, 1, 257));
+}
+
+/// K1's capsule 03 is that of the pattern 10, and 00 is no pattern's. The keys were worked out by another SHAKE256.
+#[test]
+fn what_a_session_gives() {
+    let opened = bytes("b5def76bb17404030c17a3527c93c3f26ee1aafb50930a530d6da4c05238e271");
+    let other = bytes("f32b24300fe876014d9bca2339e547c8c052cc68a34354f1ccc0cb887bb4cd6d");
+    let mut station = Station::fresh();
+    station.load(&K1).expect("load accepts");
+    station.publish().expect("publish accepts");
+    for secret in [[0x00], [0x15], [0x3f]] {
+        assert_eq!(station.session(&[0x03], &secret).expect("a key"), opened[..]);
+    }
+    assert_eq!(station.session(&[0x00], &[0x15]).expect("a key"), other[..]);
+    assert_ne!(station.session(&[0x00], &[0x14]).expect("a key"), other[..]);
+    for secret in [&[][..], &[0x15, 0x00], &[0x55], &[0x95]] {
+        assert_eq!(station.session(&[0x03], secret), Err(Refusal::BadSecret));
+        assert_eq!(station.session(&[0x00], secret), Err(Refusal::BadSecret));
+        assert_eq!(station.session(&[0x13], secret), Err(Refusal::FillerSet));
+        assert_eq!(station.session(&[], secret), Err(Refusal::BadBytes));
+    }
+    assert_eq!(Refusal::BadSecret.to_string(), "refused 33: secret of wrong length or with filler set");
+}
+
+#[test]
+fn shake256_fills_what_it_is_lent() {
+    let mut out = [7; 40];
+    shake256(&[0x01, 0x10, 0x03], &mut out[4..36]);
+    let expected = bytes("b5def76bb17404030c17a3527c93c3f26ee1aafb50930a530d6da4c05238e271");
+    assert_eq!((&out[..4], &out[4..36], &out[36..]), (&[7; 4][..], &expected[..], &[7; 4][..]));
+    shake256(&[1, 2, 3], &mut out[..0]);
+    assert_eq!(out[..4], [7; 4]);
+    let mut longer = [0; 300];
+    shake256(&[], &mut longer);
+    let mut shorter = [0; 299];
+    shake256(&[], &mut shorter);
+    assert_eq!(longer[..299], shorter);
 }
 
 #[test]

@@ -89,6 +89,20 @@ impl<'a> List<'a> {
         reported.refused
     }
 
+    fn session(&mut self, random: &mut Random) -> u8 {
+        let key = &self.held.key;
+        let mut capsule = random.row(key.capsule_bits());
+        if random.one_in(4) {
+            let length = random.below(4);
+            capsule = random.bytes(length);
+        }
+        let secret = random.secret(key.n);
+        let derived = raw_calls::session(self.station, &capsule, &secret);
+        assert_eq!((derived.refused, derived.key), calls::session(self.state, self.held, &capsule, &secret));
+        self.hold(derived.station);
+        derived.refused
+    }
+
     fn drop(&mut self) -> u8 {
         let reply = raw_calls::drop(self.station);
         assert_eq!(reply.refused, calls::drop(self.state));
@@ -103,12 +117,13 @@ impl<'a> List<'a> {
 
     /// A call of any kind; its name and its number.
     fn call(&mut self, random: &mut Random) -> (&'static str, u8) {
-        match random.below(12) {
+        match random.below(15) {
             0 | 1 => ("load", self.load(random)),
             2..=4 => ("publish", self.publish()),
             5 | 6 => ("open", self.open(random)),
             7 => ("read", self.read(random)),
             8 => ("drop", self.drop()),
+            9..=11 => ("session", self.session(random)),
             _ => ("report", self.report(random)),
         }
     }
@@ -127,7 +142,9 @@ fn answers_and_stations_of_random_lists() {
             *met.entry(list.call(&mut random)).or_insert(0) += 1;
         }
     }
-    for number in [0, 21, 24, 31] {
-        assert!(met.contains_key(&("report", number)), "report never answered {number}: {met:?}");
+    let report = [0, 21, 24, 31].map(|number| ("report", number));
+    let session = [0, 21, 24, 8, 9, 33].map(|number| ("session", number));
+    for (call, number) in report.into_iter().chain(session) {
+        assert!(met.contains_key(&(call, number)), "{call} never answered {number}: {met:?}");
     }
 }

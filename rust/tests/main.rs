@@ -10,6 +10,8 @@ mod lists;
 mod reports;
 #[cfg(target_os = "linux")]
 mod secrets;
+mod sessions;
+mod shake;
 mod support;
 mod tool;
 mod vectors;

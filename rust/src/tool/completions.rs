@@ -39,7 +39,7 @@ _shearcotter() {
     done
     if [[ $option ]]; then
         [[ $cur == = ]] && cur=''
-        case $option in
+        case $command,$option in
 @VALUES@
         esac
     elif [[ -z $command ]]; then
@@ -66,7 +66,7 @@ pub fn bash() -> String {
     let parts = [
         ("@VALUED@", valued),
         ("@COMMANDS@", format!("{commands} --help --version")),
-        ("@VALUES@", cases(options().filter_map(values))),
+        ("@VALUES@", cases(COMMANDS.iter().flat_map(values_of))),
         ("@OPTIONS@", cases(COMMANDS.iter().map(options_of))),
         ("@OPERANDS@", cases(COMMANDS.iter().flat_map(operands))),
     ];
@@ -100,14 +100,19 @@ fn words(words: &str) -> String {
     format!("_shearcotter_words '{words}' \"$cur\"")
 }
 
+/// What the options of a command take.
+fn values_of(command: &Command) -> Vec<(String, String)> {
+    let of = |choice: &Choice| values(choice).map(|offered| (format!("{},{}", command.name, choice.name), offered));
+    command.options().filter_map(of).collect()
+}
+
 /// What an option takes: words or a file.
-fn values(choice: &Choice) -> Option<(String, String)> {
-    let offered = match choice.takes {
-        Takes::OneOf { words: list, .. } => words(&joined(list.iter().map(|word| word.name), " ")),
-        Takes::Output { .. } => operand(&Kind::Output),
-        Takes::Nothing | Takes::Number { .. } => return None,
-    };
-    Some((choice.name.to_owned(), offered))
+fn values(choice: &Choice) -> Option<String> {
+    match choice.takes {
+        Takes::OneOf { words: list, .. } => Some(words(&joined(list.iter().map(|word| word.name), " "))),
+        Takes::Output { .. } => Some(operand(&Kind::Output)),
+        Takes::Nothing | Takes::Number { .. } => None,
+    }
 }
 
 fn options_of(command: &Command) -> (String, String) {

@@ -5,6 +5,7 @@ use shearcotter::Pattern;
 use crate::explain::Explained;
 use crate::rows::Answer;
 use crate::table::Word;
+use crate::wiped::Wiped;
 use crate::{failure, json};
 
 #[derive(Clone, Copy, PartialEq, Eq)]
@@ -25,6 +26,13 @@ pub const WORDS: &[Word] = &[
     Word { name: "json", about: "an object a line: position, answer, number, words, ones and places" },
 ];
 
+/// Those of session keys, which have no places.
+pub const KEY_WORDS: &[Word] = &[
+    Word { name: "hex", about: "the key's bytes as one hexadecimal word" },
+    Word { name: "raw", about: "the key's 32 bytes, back to back, and nothing else" },
+    Word { name: "json", about: "an object a line: position, answer, number, words and key" },
+];
+
 impl Format {
     /// By one of the words; the parsing takes no other.
     pub fn named(word: &str) -> Format {
@@ -36,6 +44,7 @@ impl Format {
 /// The words of rows.
 pub const OPEN: &str = "open";
 pub const READ: &str = "read";
+pub const SESSION: &str = "session";
 pub const REFUSED: &str = "refused";
 
 /// How the rows of a file are answered.
@@ -63,13 +72,29 @@ impl Form {
                 format!("{{{answer},\"ones\":{ones},\"places\":[{places}]}}\n").into_bytes()
             }
         };
-        Answer { text, notes: String::new(), number: 0 }
+        Answer { text: text.into(), notes: String::new(), number: 0 }
     }
 
     fn line(&self, position: u64, pattern: &Pattern, written: &str) -> Vec<u8> {
         let count = if self.counted { format!(" {}", pattern.ones()) } else { String::new() };
         let blank = if written.is_empty() { "" } else { " " };
         format!("{position} {}{count}{blank}{written}\n", self.word).into_bytes()
+    }
+
+    /// A session key, which is in the text and nowhere else.
+    pub fn derived(&self, position: u64, key: &[u8]) -> Answer {
+        let (before, behind) = match self.format {
+            Format::Raw => (String::new(), ""),
+            Format::Json => (format!("{{{},\"key\":\"", json_answer(position, self.word, 0, "accepted")), "\"}\n"),
+            Format::Places | Format::Hex => (format!("{position} {} ", self.word), "\n"),
+        };
+        let mut text = Wiped::from(before);
+        match self.format {
+            Format::Raw => text.extend(key),
+            _ => key.iter().for_each(|byte| text.extend(&hex_digits(*byte))),
+        }
+        text.extend(behind.as_bytes());
+        Answer { text, notes: String::new(), number: 0 }
     }
 
     /// With raw a refused row is named on standard error, else on standard output.
@@ -82,8 +107,10 @@ impl Form {
             (_, false) => format!("{position} {REFUSED} {number}"),
         };
         match self.format {
-            Format::Raw => Answer { text: vec![], notes: failure::line(&format!("{}: {said}", self.file)), number },
-            _ => Answer { text: (said + "\n").into_bytes(), notes: String::new(), number },
+            Format::Raw => {
+                Answer { text: Wiped::default(), notes: failure::line(&format!("{}: {said}", self.file)), number }
+            }
+            _ => Answer { text: (said + "\n").into(), notes: String::new(), number },
         }
     }
 
@@ -105,6 +132,9 @@ fn separated(pattern: &Pattern, separator: &str) -> String {
 }
 
 fn hex(bytes: &[u8]) -> String {
-    let digit = |half: u8| char::from(b"0123456789abcdef"[usize::from(half)]);
-    bytes.iter().flat_map(|byte| [digit(byte >> 4), digit(byte & 15)]).collect()
+    bytes.iter().flat_map(|byte| hex_digits(*byte)).map(char::from).collect()
+}
+
+fn hex_digits(byte: u8) -> [u8; 2] {
+    [byte >> 4, byte & 15].map(|half| b"0123456789abcdef"[usize::from(half)])
 }

@@ -2,22 +2,14 @@
 
 use std::ffi::OsStr;
 
-use shearcotter::{wipe, Refusal, Shape, Station};
+use shearcotter::{Refusal, Shape, Station};
 
 use crate::arguments::Given;
 use crate::explain::{self, Explained};
 use crate::failure::Failure;
 use crate::status::Status;
+use crate::wiped::Wiped;
 use crate::{files, help, names};
-
-/// The bytes of a key file, wiped at the end.
-struct KeyFile(Vec<u8>);
-
-impl Drop for KeyFile {
-    fn drop(&mut self) {
-        wipe(&mut self.0);
-    }
-}
 
 fn refused(key: &OsStr, explained: Explained) -> Failure {
     Failure::Refused(names::input(key), explained, Status::KeyRefused)
@@ -25,10 +17,10 @@ fn refused(key: &OsStr, explained: Explained) -> Failure {
 
 /// A station that holds the key of a key file.
 pub fn load(key: &OsStr) -> Result<(Station, Shape), Failure> {
-    let file = KeyFile(files::read(key, files::MOST_OF_A_KEY)?);
+    let file = Wiped::from(files::read(key, files::MOST_OF_A_KEY)?);
     let mut station = Station::fresh();
-    let shape = station.load(&file.0).and_then(|()| station.shape().ok_or(Refusal::NoKey));
-    let shape = shape.map_err(|refusal| refused(key, explain::key_file(&file.0, files::MOST_OF_A_KEY, refusal)))?;
+    let shape = station.load(&file).and_then(|()| station.shape().ok_or(Refusal::NoKey));
+    let shape = shape.map_err(|refusal| refused(key, explain::key_file(&file, files::MOST_OF_A_KEY, refusal)))?;
     Ok((station, shape))
 }
 

@@ -1,10 +1,12 @@
-//! The command-line tool: checks keys, publishes, locks patterns, opens capsules, reports on them and reads words.
+//! The command-line tool: checks keys, publishes, locks patterns, opens capsules, derives their session keys, reports on them and
+//! reads words.
 
 #![forbid(unsafe_code)]
 
 mod arguments;
 mod commands;
 mod completions;
+mod deriving;
 mod explain;
 mod failure;
 mod files;
@@ -23,6 +25,7 @@ mod rows;
 mod shapes;
 mod status;
 mod table;
+mod wiped;
 
 use std::env;
 use std::ffi::OsString;

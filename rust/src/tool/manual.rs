@@ -18,6 +18,10 @@ Capsules from a pipe, opened on four threads, as objects:
 
     cat *.capsule | shearcotter open --jobs 4 --format json office.key
 
+The session keys of a partner's capsules, as the standard derives them:
+
+    shearcotter session office.key office.secret capsules
+
 A report on a card, with a record for each of its capsules:
 
     shearcotter report --records card.records office.key card

@@ -20,6 +20,7 @@ use shearcotter::{raw, Counts};
 use crate::failure::Failure;
 use crate::files::{self, Input, Output, STANDARD};
 use crate::progress::Progress;
+use crate::wiped::Wiped;
 
 /// A batch begins as one row, and has more while answering it takes less time than this, so that lines come soon.
 const SHORT: Duration = Duration::from_millis(1);
@@ -60,7 +61,7 @@ impl Rows {
 /// What is said of a row.
 pub struct Answer {
     /// For standard output, as it stands.
-    pub text: Vec<u8>,
+    pub text: Wiped,
     /// For standard error, as it stands, behind the text.
     pub notes: String,
     /// 0, or the refusal's number.
@@ -157,7 +158,7 @@ struct Batch {
     first: u64,
     rows: Vec<u8>,
     /// The answers' texts, one behind the other.
-    text: Vec<u8>,
+    text: Wiped,
     /// The answers' notes, each with the length of the text before it.
     notes: Vec<(usize, String)>,
     /// The answers' numbers.
@@ -170,7 +171,7 @@ impl Batch {
     fn answer(&mut self, length: usize, answer: &impl Fn(u64, &[u8]) -> Answer) {
         for (position, row) in (self.first..).zip(self.rows.chunks(length)) {
             let answer = answer(position, row);
-            self.text.extend_from_slice(&answer.text);
+            self.text.extend(&answer.text);
             self.numbers.push(answer.number);
             if !answer.notes.is_empty() {
                 self.notes.push((self.text.len(), answer.notes));
@@ -181,13 +182,12 @@ impl Batch {
     /// The records are the text, and the numbers.
     fn record(&mut self, records: &impl Fn(&[u8]) -> Result<Vec<u8>, Failure>) -> Result<(), Failure> {
         self.numbers = records(&self.rows)?;
-        self.text.extend_from_slice(&self.numbers);
+        self.text.extend(&self.numbers);
         Ok(())
     }
 
     fn clear(&mut self) {
         self.rows.clear();
-        self.text.clear();
         self.notes.clear();
         self.numbers.clear();
     }
@@ -365,11 +365,12 @@ impl Writer<'_> {
         Ok((counts, end.unwrap_or(Ok(()))))
     }
 
-    /// Writes the batches that no other has to come before; how many.
+    /// Writes the batches that no other has to come before, whose texts are wiped then; how many.
     fn write_ready(&mut self) -> io::Result<usize> {
         let mut count = 0;
-        while let Some(batch) = self.answered.remove(&(self.written + 1)) {
+        while let Some(mut batch) = self.answered.remove(&(self.written + 1)) {
             self.write(&batch)?;
+            batch.text.clear();
             self.written += batch.numbers.len() as u64;
             count += 1;
             let _ = self.spare.send(batch);

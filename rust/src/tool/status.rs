@@ -15,7 +15,7 @@ pub const STATUSES: [(Status, &str); 4] = [
     (Status::Accepted, "everything was accepted"),
     (Status::RowRefused, "some row was refused: a capsule, a word or a pattern"),
     (Status::Failed, "bad usage or a bad shape, or a file failed"),
-    (Status::KeyRefused, "the key was refused: a key file or a public key"),
+    (Status::KeyRefused, "the key was refused: a key file, its secret or a public key"),
 ];
 
 impl Status {

@@ -23,7 +23,7 @@ type Tally = BTreeMap<(&'static str, u8), u64>;
 const STREAMS: u64 = 2;
 
 /// Every call, and the numbers that it has in document 01 or in its request.
-const CALLS: [(&str, &[u8]); 12] = [
+const CALLS: [(&str, &[u8]); 14] = [
     ("add", &[0, 1, 4]),
     ("multiply", &[0, 1, 4]),
     ("invert", &[0, 1, 4, 32]),
@@ -34,21 +34,25 @@ const CALLS: [(&str, &[u8]); 12] = [
     ("publish", &[0, 21, 25, 10, 11, 23]),
     ("open", &[0, 21, 25, 24, 8, 9, 10, 13]),
     ("report", &[0, 21, 25, 24, 31]),
+    ("session", &[0, 21, 25, 24, 8, 9, 33]),
     ("read", &[0, 21, 25, 8, 9, 10, 14]),
     ("drop", &[0, 21]),
+    ("shake256", &[0]),
 ];
 
 fn one_call(random: &mut Random, pool: &Pool) -> (&'static str, u8) {
     match random.below(100) {
-        0..=11 => plain::field(random),
-        12..=13 => plain::shape_at(random),
-        14..=20 => plain::register(random),
-        21..=34 => plain::lock(random, pool),
-        35..=46 => stations::load(random, pool),
-        47..=57 => stations::publish(random, pool),
-        58..=70 => stations::open(random, pool),
-        71..=81 => stations::report(random, pool),
-        82..=94 => stations::read(random, pool),
+        0..=9 => plain::field(random),
+        10..=11 => plain::shape_at(random),
+        12..=17 => plain::register(random),
+        18..=29 => plain::lock(random, pool),
+        30 => plain::shake256(random),
+        31..=41 => stations::load(random, pool),
+        42..=51 => stations::publish(random, pool),
+        52..=62 => stations::open(random, pool),
+        63..=72 => stations::report(random, pool),
+        73..=83 => stations::session(random, pool),
+        84..=95 => stations::read(random, pool),
         _ => stations::drop(random, pool),
     }
 }

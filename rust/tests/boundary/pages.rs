@@ -9,7 +9,7 @@ use shearcotter::raw;
 use crate::compare::near_code_word;
 use crate::independent::held::Held;
 use crate::independent::random::Random;
-use crate::independent::{calls, matrix};
+use crate::independent::{calls, matrix, shake};
 use crate::support::raw_calls;
 
 const PAGE: usize = 4096;
@@ -116,6 +116,24 @@ fn report(random: &mut Random, held: &Held, cut: usize) {
     }
 }
 
+/// A capsule that opens and one that does not, with a secret that fits and one that is shorter.
+fn session(random: &mut Random, held: &Held, cut: usize) {
+    let (key, station) = (&held.key, raw_calls::holding(2, &held.key));
+    let public = held.public().expect("a public key");
+    let locked = matrix::lock(key.m, key.n, key.t, public, &random.pattern(key.n, key.t));
+    for capsule in [locked, random.row(key.capsule_bits())] {
+        let capsule = Walled::new(&capsule[cut..]);
+        for missing in [0, 1] {
+            let secret = Walled::new(&random.row(key.n)[missing..]);
+            let derived = unsafe {
+                raw::shearcotter_session(station, capsule.start(), capsule.length, secret.start(), secret.length)
+            };
+            let expected = calls::session(2, held, capsule.bytes(), secret.bytes());
+            assert_eq!((derived.refused, derived.key), expected);
+        }
+    }
+}
+
 fn lock(random: &mut Random, held: &Held, cut: usize) {
     let key = &held.key;
     let shape = (key.m, key.n as u16, key.t as u16);
@@ -151,7 +169,22 @@ fn nothing_past_the_ends() {
             load_and_publish(&held, cut);
             open_and_read(&mut random, &held, cut);
             report(&mut random, &held, cut);
+            session(&mut random, &held, cut);
             lock(&mut random, &held, cut);
+        }
+    }
+}
+
+#[test]
+fn nothing_past_the_ends_of_what_is_hashed() {
+    let mut random = Random::new(10);
+    let beside = [0, 1, 2, 7, 8, 9, 63, 134, 135, 136, 137, 271, 272, 273, 408, 4095, 4096, 4097];
+    for length in (0..300).chain(beside) {
+        let input = Walled::new(&random.bytes(length));
+        for room in beside {
+            let out = Walled::new(&vec![0; room]);
+            unsafe { raw::shearcotter_shake256(input.start(), input.length, out.start(), out.length) };
+            assert!(out.bytes() == shake::shake256(input.bytes(), room), "{room} bytes of {length}");
         }
     }
 }

@@ -9,6 +9,7 @@ use crate::independent::field::Field;
 use crate::independent::held::Held;
 use crate::independent::random::Random;
 use crate::independent::register::massey;
+use crate::independent::shake;
 
 /// A width of document 01, mostly.
 fn width(random: &mut Random) -> u8 {
@@ -92,6 +93,26 @@ pub fn register(random: &mut Random) -> (&'static str, u8) {
     };
     assert_eq!((answer.length, &answer.c[..]), (length, &c[..]), "{m} {:?}", list.content());
     ("register", number)
+}
+
+/// A length beside a whole number of blocks, or any.
+fn hashed(random: &mut Random) -> usize {
+    match random.below(3) {
+        0 => {
+            let blocks = random.below(5);
+            awkward(random, 136 * blocks)
+        }
+        _ => random.below(700),
+    }
+}
+
+pub fn shake256(random: &mut Random) -> (&'static str, u8) {
+    let (length, room) = (hashed(random), hashed(random));
+    let (input, mut out) = (noise(random, length), noise(random, room));
+    unsafe { raw::shearcotter_shake256(input.as_ptr(), input.len(), out.as_mut_ptr(), out.len()) };
+    out.written(&shake::shake256(input.content(), room));
+    input.same();
+    ("shake256", 0)
 }
 
 /// The key's own shape, mostly, or one number of it changed.

@@ -221,6 +221,27 @@ pub fn report(random: &mut Random, pool: &Pool) -> (&'static str, u8) {
     ("report", reported.refused)
 }
 
+pub fn session(random: &mut Random, pool: &Pool) -> (&'static str, u8) {
+    let case = any(random, pool);
+    let held = fitting(random, pool, &case);
+    let mut row = capsule(random, &held);
+    if random.one_in(4) {
+        row = cut(random, row);
+    }
+    let lent = if random.one_in(8) { random.bytes(held.key.n.div_ceil(8)) } else { random.secret(held.key.n) };
+    let (capsule, secret) = (holding(random, &row), holding(random, &lent));
+    let derived = unsafe {
+        raw::shearcotter_session(case.station, capsule.as_ptr(), capsule.len(), secret.as_ptr(), secret.len())
+    };
+    let (number, key) = expected::session(case.station.state, &case.held, capsule.content(), secret.content());
+    let reply = Reply { station: derived.station, refused: derived.refused, ones: 0 };
+    same(&reply, &Outcome { number, ..Outcome::default() }, &case.station, &case.station);
+    assert_eq!(derived.key, key, "{row:02x?} {lent:02x?} {:?}", case.held.key);
+    capsule.same();
+    secret.same();
+    ("session", derived.refused)
+}
+
 pub fn read(random: &mut Random, pool: &Pool) -> (&'static str, u8) {
     let case = any(random, pool);
     let held = fitting(random, pool, &case);

@@ -7,6 +7,7 @@ use super::field::Field;
 use super::held::Held;
 use super::key::{load_number, shape_number};
 use super::matrix;
+use super::shake::shake256;
 
 /// A number, or 0 with the bytes written from the output's start and the ones among them.
 #[derive(Clone, PartialEq, Eq, Debug, Default)]
@@ -106,6 +107,26 @@ pub fn report(state: u8, held: &Held, capsules: &[u8], records: usize) -> Outcom
 /// How often each value of a byte stands in the records.
 pub fn counts(records: &[u8]) -> [usize; 256] {
     array::from_fn(|value| records.iter().filter(|record| usize::from(**record) == value).count())
+}
+
+/// The number and the session key, zeros where it is refused.
+pub fn session(state: u8, held: &Held, capsule: &[u8], secret: &[u8]) -> (u8, [u8; 32]) {
+    let bad_secret = || secret.len() != held.key.n.div_ceil(8) || bits::filler_set(held.key.n, secret);
+    let number = match held_number(state, held) {
+        0 if state == 1 => 24,
+        0 => match row_number(held, held.key.capsule_bits(), capsule, usize::MAX) {
+            0 => first(&[(bad_secret(), 33)]),
+            other => other,
+        },
+        other => other,
+    };
+    if number != 0 {
+        return (number, [0; 32]);
+    }
+    let opened = held.open(capsule).map(|places| bits::pack(held.key.n, places));
+    let first = [u8::from(opened.is_some())];
+    let input = [&first[..], &opened.unwrap_or_else(|| secret.to_vec()), capsule].concat();
+    (0, shake256(&input, 32).try_into().expect("32 bytes"))
 }
 
 pub fn read(state: u8, held: &Held, word: &[u8], out: usize) -> Outcome {

@@ -1,5 +1,6 @@
 //! A second implementation, written from document 01 alone: the public key by plain elimination of the
 //! defined matrix, reading by Euclid's algorithm on the syndrome of g², and by search over all patterns for m 4.
+//! Of the requests, SHAKE256 on single bits, from FIPS 202.
 
 pub mod bits;
 pub mod calls;
@@ -12,3 +13,4 @@ pub mod poly;
 pub mod random;
 pub mod register;
 pub mod search;
+pub mod shake;

@@ -65,6 +65,17 @@ impl Random {
         row
     }
 
+    /// A secret for patterns of n bits: mostly as it has to be, else of another length or with a filler bit set, if it has any.
+    pub fn secret(&mut self, n: usize) -> Vec<u8> {
+        let mut secret = self.row(n);
+        match self.below(8) {
+            0 if n > 0 => secret = self.other_length(secret),
+            1 if n % 8 > 0 => bits::set(&mut secret, n + self.below(8 - n % 8)),
+            _ => {}
+        }
+        secret
+    }
+
     /// A packed pattern of n bits with the given number of ones.
     pub fn pattern(&mut self, n: usize, ones: usize) -> Vec<u8> {
         let mut places: Vec<usize> = (0..n).collect();

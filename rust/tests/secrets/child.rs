@@ -32,6 +32,9 @@ pub enum Point {
     PatternDropped,
     Refused,
     Reported,
+    Derived,
+    SessionsWiped,
+    SecretWiped,
     Read,
     StationDropped,
     LoadedAgain,
@@ -110,6 +113,20 @@ fn load(station: &mut Station) {
     wipe(&mut key[..]);
 }
 
+/// The session keys of a capsule that opens and of one that does not.
+fn derive(station: &Station, capsule: &[u8]) {
+    let mut secret = file::<436>("secret.bin");
+    assert_eq!(station.session(capsule, &secret[1..]), Err(Refusal::BadSecret));
+    let mut of_pattern = station.session(capsule, &secret[..]);
+    let mut of_secret = station.session(&file::<96>("capsule_reject.bin")[..], &secret[..]);
+    assert!(of_pattern.is_ok() && of_secret.is_ok());
+    pause(Point::Derived);
+    of_pattern.iter_mut().chain(&mut of_secret).for_each(|key| wipe(key));
+    pause(Point::SessionsWiped);
+    wipe(&mut secret[..]);
+    pause(Point::SecretWiped);
+}
+
 fn with_the_crate() {
     let mut station = Station::fresh();
     pause(Point::Empty);
@@ -129,6 +146,7 @@ fn with_the_crate() {
     let report = station.report(&card).expect("a report");
     assert_eq!(report.records(), [0, 13]);
     pause(Point::Reported);
+    derive(&station, &capsule[..]);
     let word: Vec<u8> = capsule.iter().copied().chain(iter::repeat(0)).take(436).collect();
     assert_eq!(station.read(&word).expect("it reads").clone().ones(), 64);
     pause(Point::Read);
@@ -142,7 +160,7 @@ fn with_the_crate() {
     assert_eq!(again.shape(), None);
 }
 
-/// Publishes and opens; the station, the pattern and the workspace are left where they are.
+/// Publishes, opens and derives; the station, the pattern, the secret, the session key and the workspace are left where they are.
 fn with_raw_calls() {
     let (key, capsule) = (file::<7109>("key.bin"), file::<96>("capsule.bin"));
     let shape = Shape::MCELIECE348864;
@@ -153,6 +171,9 @@ fn with_raw_calls() {
     let mut pattern = [0; 436];
     let opened = raw_calls::open(published, &capsule[..], &mut pattern);
     assert_eq!((opened.refused, opened.station.state), (0, raw::PUBLISHED));
+    let secret = file::<436>("secret.bin");
+    let derived = raw_calls::session(opened.station, &capsule[..], &secret[..]);
+    assert_eq!(derived.refused, 0);
     pause(Point::Opened);
-    black_box((&opened, &pattern, &work));
+    black_box((&opened, &pattern, &work, &secret, &derived));
 }

@@ -13,6 +13,8 @@ use crate::support::memory;
 const KEY: &str = "support";
 const G: &str = "g";
 const PATTERN: &str = "pattern";
+const SECRET: &str = "secret";
+const SESSION: &str = "session key";
 
 /// What is found in the child at a point.
 fn found_at(child: &mut Child, point: Point, secrets: &Secrets) -> Found {
@@ -44,6 +46,9 @@ fn no_secret_outlives_its_owner() {
         (Point::PatternDropped, &[KEY, G]),
         (Point::Refused, &[KEY, G]),
         (Point::Reported, &[KEY, G]),
+        (Point::Derived, &[KEY, G, SECRET, SESSION]),
+        (Point::SessionsWiped, &[KEY, G, SECRET]),
+        (Point::SecretWiped, &[KEY, G]),
         (Point::Read, &[KEY, G]),
         (Point::StationDropped, &[]),
         (Point::LoadedAgain, &[KEY, G]),
@@ -54,15 +59,15 @@ fn no_secret_outlives_its_owner() {
     child.end();
 }
 
-/// The raw calls wipe nothing: after them the key and the pattern are found, and numbers worked out from them. Which of these are
-/// still there is the compiler's choice.
+/// The raw calls wipe nothing: after them the key, the pattern and the session key are found, and numbers worked out from them. Which
+/// of these are still there is the compiler's choice.
 #[test]
 fn what_the_calls_leave_is_found() {
     let secrets = Secrets::of_the_vector();
     let mut child = Child::start(Mode::Raw);
     let found = found_at(&mut child, Point::Opened, &secrets);
     child.end();
-    let held = [KEY, G, PATTERN];
+    let held = [KEY, G, PATTERN, SECRET, SESSION];
     assert!(held.iter().all(|name| found.contains_key(name)), "{found:?}");
     assert!(found.keys().any(|name| !held.contains(name)), "{found:?}");
 }

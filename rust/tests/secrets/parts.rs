@@ -1,9 +1,9 @@
-//! What is looked for in memory: the key, the pattern, and numbers that opening works out from them.
+//! What is looked for in memory: the key, the pattern, the secret, session keys, and numbers that opening works out.
 
 use std::collections::{BTreeMap, HashMap};
 
 use super::child::FOLDER;
-use super::{G, KEY, PATTERN};
+use super::{G, KEY, PATTERN, SECRET, SESSION};
 use crate::independent::bits::places;
 use crate::independent::key::Key;
 use crate::independent::poly;
@@ -72,7 +72,7 @@ impl Secrets {
         }
     }
 
-    /// The key and the pattern of the child, and what is worked out from them.
+    /// The child's key, pattern, secret and session keys, and what is worked out from the key and the pattern.
     pub fn of_the_vector() -> Secrets {
         let at = |part: &str| vectors::file(&format!("{FOLDER}/{part}"));
         let key = Key::parse(&at("key.bin")).expect("a key");
@@ -81,6 +81,10 @@ impl Secrets {
         secrets.add_list(KEY, &key.support);
         secrets.add_list(G, &key.g);
         secrets.add_bits(PATTERN, &pattern);
+        secrets.add_bits(SECRET, &at("secret.bin"));
+        for name in ["session.bin", "session_capsule_reject.bin"] {
+            at(name).windows(FIRST).for_each(|part| secrets.add(SESSION, part.to_vec()));
+        }
         secrets.add_worked_out(&key, &places(key.n, &pattern));
         secrets
     }

@@ -5,7 +5,7 @@ use std::hint::black_box;
 use std::os::unix::fs::FileExt;
 use std::ptr;
 
-use shearcotter::{lock, raw, Shape, Station};
+use shearcotter::{lock, raw, shake256, wipe, Shape, Station};
 
 use crate::support::{raw_calls, vectors};
 
@@ -45,9 +45,16 @@ fn calls_leave_zeros_on_the_stack() {
     assert_eq!(left_by(|| drop(station.open(&capsule).expect("it opens"))), 0, "open");
     let card = capsule.repeat(3);
     assert_eq!(left_by(|| drop(station.report(&card).expect("a report"))), 0, "report");
+    let (refused, secret) = (file("capsule_reject.bin"), file("secret.bin"));
+    for capsule in [&capsule, &refused] {
+        let session = || station.session(capsule, &secret).iter_mut().for_each(|key| wipe(key));
+        assert_eq!(left_by(session), 0, "session");
+    }
     assert_eq!(left_by(|| drop(station.read(&pattern).expect("it reads"))), 0, "read");
     assert_eq!(left_by(|| drop(lock(Shape::MCELIECE8192128, &public, &pattern).expect("it locks"))), 0, "lock");
     assert_eq!(left_by(|| station.drop_key().expect("there is a key")), 0, "drop");
+    let mut out = vec![0; 300];
+    assert_eq!(left_by(|| shake256(&pattern, &mut out)), 0, "shake256");
 }
 
 #[test]
@@ -57,4 +64,42 @@ fn raw_calls_leave_more_than_zeros() {
         black_box(raw_calls::load(raw_calls::fresh(), &key));
     });
     assert!(left > key.len(), "{left} bytes");
+}
+
+/// Not inlined and with room of its own, so that what the call leaves lies below what the functions here take.
+#[inline(never)]
+fn deeper(call: impl FnOnce()) {
+    let mut room = [0_u8; OWN];
+    black_box(&mut room);
+    call();
+    black_box(&mut room);
+}
+
+/// The stack as a call has left it.
+#[inline(never)]
+fn stack_after(call: impl FnOnce()) -> Vec<u8> {
+    let memory = File::open("/proc/self/mem").expect("this program's memory");
+    let mut stack = vec![0; raw::STACK];
+    let here = ptr::from_ref(&memory) as usize;
+    mark();
+    deeper(call);
+    memory.read_exact_at(&mut stack, (here - raw::STACK) as u64).expect("the stack");
+    stack
+}
+
+#[test]
+fn no_copy_of_a_session_key_is_left_on_the_stack() {
+    let (key, secret) = (file("key.bin"), file("secret.bin"));
+    let mut station = Station::fresh();
+    station.load(&key).expect("load accepts");
+    station.publish().expect("publish accepts");
+    let of_pattern = ("capsule.bin", "session.bin");
+    for (capsule, expected) in [of_pattern, ("capsule_reject.bin", "session_capsule_reject.bin")] {
+        let (capsule, expected) = (file(capsule), file(expected));
+        let found = |stack: Vec<u8>| stack.windows(16).any(|part| expected.windows(16).any(|known| known == part));
+        let wiped = stack_after(|| station.session(&capsule, &secret).iter_mut().for_each(|key| wipe(key)));
+        assert!(!found(wiped));
+        let held = stack_after(|| assert!(black_box(&station.session(&capsule, &secret)).is_ok()));
+        assert!(found(held));
+    }
 }

@@ -1,6 +1,6 @@
 //! The raw calls on slices, and stations made by hand.
 
-use shearcotter::raw::{self, Key, Reply, Reported, Station, MOST_ERRORS, MOST_PLACES};
+use shearcotter::raw::{self, Derived, Key, Reply, Reported, Station, MOST_ERRORS, MOST_PLACES};
 
 use crate::independent::key;
 
@@ -26,6 +26,10 @@ pub fn read(station: Station, word: &[u8], out: &mut [u8]) -> Reply {
 
 pub fn report(station: Station, capsules: &[u8], records: &mut [u8]) -> Reported {
     unsafe { raw::shearcotter_report(station, capsules.as_ptr(), capsules.len(), records.as_mut_ptr(), records.len()) }
+}
+
+pub fn session(station: Station, capsule: &[u8], secret: &[u8]) -> Derived {
+    unsafe { raw::shearcotter_session(station, capsule.as_ptr(), capsule.len(), secret.as_ptr(), secret.len()) }
 }
 
 pub fn drop(station: Station) -> Reply {

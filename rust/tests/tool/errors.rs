@@ -72,7 +72,10 @@ fn refused_shapes() {
 #[test]
 fn a_failing_standard_input() {
     let (folder, key) = with_k1();
-    for words in [vec!["open", &key], vec!["read", &key, "-"], vec!["report", &key], vec!["check", "-"]] {
+    let secret = folder.write("secret", &[0x15]);
+    let session = [vec!["session", &key, &secret], vec!["session", &key, "-", "/dev/null"]];
+    let others = [vec!["open", &key], vec!["read", &key, "-"], vec!["report", &key], vec!["check", "-"]];
+    for words in session.into_iter().chain(others) {
         let unreadable = File::open(folder.path()).expect("the folder opens");
         let output = tool().args(&words).stdin(unreadable).output().expect("the tool ends");
         assert_eq!((status(&output), text(&output.stdout)), (2, ""), "{words:?}");

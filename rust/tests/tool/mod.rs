@@ -8,6 +8,7 @@ mod names;
 mod outputs;
 mod patterns;
 mod report;
+mod session;
 mod shell;
 mod streams;
 mod terminal;

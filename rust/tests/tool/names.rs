@@ -34,10 +34,14 @@ fn put(folder: &Folder, bytes: &[u8]) {
 fn escaped_in_every_message() {
     let (folder, _) = with_k1();
     folder.write("public", &[3, 1, 2, 0]);
-    let commands: [&[&str]; 15] = [
+    folder.write("secret", &[0x15]);
+    let commands: [&[&str]; 18] = [
         &["check", "@"],
         &["open", "key.bin", "@"],
         &["read", "key.bin", "@"],
+        &["session", "key.bin", "@"],
+        &["session", "key.bin", "secret", "@"],
+        &["session", "key.bin", "secret", "--format=@"],
         &["report", "key.bin", "@"],
         &["report", "key.bin", "/dev/null", "--records", "none@/out"],
         &["publish", "key.bin", "none@/out"],
@@ -63,12 +67,16 @@ fn escaped_in_every_message() {
 fn escaped_where_files_are_refused() {
     let (folder, _) = with_k1();
     folder.write("public", &[3, 1, 2, 0]);
-    put(&folder, &[0x13]);
+    folder.write("secret", &[0x15]);
     let key: &[&str] = &["check", "@"];
     let pattern: &[&str] = &["lock", "4,6,1", "public", "@", "-"];
     let rows: &[&str] = &["open", "key.bin", "@", "--format=raw"];
     let public: &[&str] = &["lock", "4,6,1", "@", "key.bin", "-"];
-    for (words, expected) in iter::zip([key, pattern, rows, public], [3, 1, 1, 3]) {
+    let secret: &[&str] = &["session", "key.bin", "@"];
+    let capsules: &[&str] = &["session", "key.bin", "secret", "@", "--format=raw"];
+    let session = [(secret, 3), (capsules, 1)];
+    for (words, expected) in iter::zip([key, pattern, rows, public], [3, 1, 1, 3]).chain(session) {
+        put(&folder, if words == secret { &[0x40] } else { &[0x13] });
         let error = says(&folder, words, expected);
         assert!(
             error.lines().filter(|line| line.starts_with("shearcotter: ")).all(|line| line.contains(SHOWN)),

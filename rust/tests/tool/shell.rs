@@ -110,6 +110,8 @@ fn commands_and_options() {
     assert_eq!(completed(&["nothing", "-"]), [""; 0]);
     assert_eq!(completed(&["help", "re"]), ["read", "report"]);
     assert_eq!(completed(&["report", "-"]), ["--help", "--jobs", "--quiet", "--records"]);
+    assert_eq!(completed(&["se"]), ["session"]);
+    assert_eq!(completed(&["session", "key", "-"]), ["--explain", "--format", "--help", "--jobs", "--quiet"]);
     assert_eq!(completed(&["completions", ""]), ["bash"]);
     assert_eq!(completed(&["lock", "mceliece6"]), ["mceliece6688128", "mceliece6960119"]);
 }
@@ -123,6 +125,9 @@ fn values_of_options() {
     assert_eq!(completed(&["open", "--format", "=", "j"]), ["json"]);
     assert_eq!(completed(&["open", "--format", "p"]), ["places"]);
     assert_eq!(completed(&["open", "--jobs", ""]), [""; 0]);
+    // A session key has no places.
+    assert_eq!(completed(&["session", "--format", ""]), ["hex", "json", "raw"]);
+    assert_eq!(completed(&["session", "key", "--format", "=", "j"]), ["json"]);
 }
 
 #[test]
@@ -139,6 +144,10 @@ fn files() {
     assert_eq!(files(&["report", "--records", "ot"]), ["other"]);
     assert_eq!(files(&["report", "--records", "=", "ot"]), ["other"]);
     assert_eq!(files(&["report", "--records", "out", "key", "ot"]), ["other"]);
+    for operand in 0..3 {
+        let words = [&["session", "a", "b"][..=operand], &["on"]].concat();
+        assert_eq!(files(&words), ["one key"]);
+    }
     for operand in 2..5 {
         let words = [&["lock", "1", "a", "b"][..operand], &["on"]].concat();
         assert_eq!(files(&words), ["one key"]);

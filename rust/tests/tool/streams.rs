@@ -201,7 +201,9 @@ fn a_full_device_is_named() {
     let file = folder.write("words", &[0x53; 100_000]);
     let report: &[&str] = &["report", &key, &file];
     let records: &[&str] = &["report", "--records=-", &key, &file];
-    for words in [&["read", &key, &file][..], &["publish", &key, "-"], report, records] {
+    let secret = folder.write("secret", &[0x15]);
+    let session: &[&str] = &["session", &key, &secret, &file];
+    for words in [&["read", &key, &file][..], &["publish", &key, "-"], report, records, session] {
         let full = OpenOptions::new().write(true).open("/dev/full").expect("the device");
         let output = tool().args(words).stdout(full).output().expect("the tool ends");
         assert_eq!(status(&output), 2);

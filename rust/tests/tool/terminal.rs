@@ -136,6 +136,25 @@ fn a_report_shows_a_bar_and_takes_it_away() {
 }
 
 #[test]
+fn a_session_shows_a_bar_and_takes_it_away() {
+    let (folder, key, capsules) = long_run();
+    let secret = folder.write("secret", &vectors::file("mceliece8192128/count0/secret.bin"));
+    let run = |words: &[&str]| {
+        let mut command = tool();
+        command.args(["session", "--jobs", "1", &key, &secret, &capsules]).args(words);
+        session(command, Some(File::create(folder.at("out")).expect("an output")))
+    };
+    let shown = run(&[]);
+    let done: Option<Vec<usize>> = shown.bars().iter().map(|bar| done_in(bar)).collect();
+    assert!(done.is_some_and(|done| done.len() > 2 && done.is_sorted()), "{:?}", shown.bars());
+    let said = format!("shearcotter: {capsules}: total {CAPSULES} derived {CAPSULES} refused 0");
+    assert_eq!((shown.status, shown.screen()), (0, vec![said]));
+    assert_eq!(fs::read_to_string(folder.at("out")).expect("lines").lines().count(), CAPSULES);
+    let quiet = run(&["--quiet"]);
+    assert_eq!((quiet.status, quiet.written.as_str()), (0, ""));
+}
+
+#[test]
 fn an_error_is_one_line() {
     let (folder, key, _) = long_run();
     for words in [["check", "missing"], ["open", "missing"]] {

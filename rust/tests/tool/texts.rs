@@ -2,15 +2,15 @@
 
 use super::{accepted, outcome};
 
-const COMMANDS: [&str; 10] =
-    ["check", "publish", "lock", "open", "report", "read", "shapes", "help", "man", "completions"];
+const COMMANDS: [&str; 11] =
+    ["check", "publish", "lock", "open", "session", "report", "read", "shapes", "help", "man", "completions"];
 
 const STATUSES: &str = "
 Exit status:
   0  everything was accepted
   1  some row was refused: a capsule, a word or a pattern
   2  bad usage or a bad shape, or a file failed
-  3  the key was refused: a key file or a public key
+  3  the key was refused: a key file, its secret or a public key
 ";
 
 /// A text that is accepted, within 80 columns.
@@ -68,6 +68,12 @@ fn help_names_operands_options_and_values() {
     }
     assert!(open.contains("places where it is not given"), "{open}");
     assert!(help(&["help", "lock"]).contains("raw where it is not given"));
+    let session = help(&["help", "session"]);
+    for part in ["[OPTION]... KEY SECRET [FILE]", "  SECRET  ", "hex where it is not given", "--jobs N ", "--explain "]
+    {
+        assert!(session.contains(part), "{part}: {session}");
+    }
+    assert!(!session.contains("  places "), "{session}");
     let report = help(&["help", "report"]);
     assert!(report.contains("--records OUT ") && report.contains("--jobs N "), "{report}");
 }

@@ -1,9 +1,9 @@
-//! The bytes of a key file are gone while the key is used.
+//! The bytes of a key file are gone while the key is used, and session keys once they are written.
 
 #![cfg(target_os = "linux")]
 
 use std::io::Write;
-use std::process::Stdio;
+use std::process::{Child, Stdio};
 
 use super::{standard, with_k1};
 use crate::support::memory;
@@ -15,16 +15,20 @@ fn occurrences(process: u32, bytes: &[u8]) -> usize {
     memory::private(process).into_iter().map(count).sum()
 }
 
+/// A run whose allocator keeps what is freed, so that it can be looked at.
+fn start(words: &[&str]) -> Child {
+    let mut command = tool();
+    command.env("MALLOC_MMAP_THRESHOLD_", "33554432").env("MALLOC_TRIM_THRESHOLD_", "33554432");
+    command.args(words).stdin(Stdio::piped()).stdout(Stdio::piped()).stderr(Stdio::null());
+    command.spawn().expect("the tool starts")
+}
+
 #[test]
 fn no_bytes_of_the_key_file_are_left() {
     let (folder, _) = with_k1();
     let (file, word) = (standard("key.bin"), standard("pattern.bin"));
     let key = folder.write("large.key", &file);
-    let mut read = tool();
-    // The allocator keeps what is freed, so that it can be looked at.
-    read.env("MALLOC_MMAP_THRESHOLD_", "33554432").env("MALLOC_TRIM_THRESHOLD_", "33554432");
-    read.args(["read", &key]).stdin(Stdio::piped()).stdout(Stdio::piped());
-    let mut child = read.spawn().expect("the tool starts");
+    let mut child = start(&["read", &key]);
     let mut input = child.stdin.take().expect("its standard input");
     input.write_all(&word).expect("a word");
     let lines = Lines::of(&mut child);
@@ -36,4 +40,31 @@ fn no_bytes_of_the_key_file_are_left() {
     assert!(occurrences(child.id(), &file[3..3 + 64]) > 0);
     drop(input);
     assert!(child.wait().expect("the tool ends").success());
+}
+
+#[test]
+fn no_session_key_is_left_once_it_is_written() {
+    let (folder, _) = with_k1();
+    let (key, secret) = (folder.write("large.key", &standard("key.bin")), standard("secret.bin"));
+    let expected = standard("session.bin");
+    let hex: String = expected.iter().map(|byte| format!("{byte:02x}")).collect();
+    for (format, starts) in [("hex", "1 session "), ("json", "{\"position\":1,")] {
+        let mut child =
+            start(&["session", "--jobs", "2", "--format", format, &key, &folder.write("large.secret", &secret)]);
+        let mut input = child.stdin.take().expect("its standard input");
+        let lines = Lines::of(&mut child);
+        input.write_all(&standard("capsule.bin")).expect("a capsule");
+        let line = lines.next().expect("a line");
+        assert!(line.starts_with(starts) && line.contains(&hex), "{line}");
+        // With the second line written, all that is done behind the first has been done.
+        input.write_all(&standard("capsule_reject.bin")).expect("a capsule");
+        assert!(lines.next().is_some());
+        for part in expected.chunks(16).chain(hex.as_bytes().chunks(16)) {
+            assert_eq!(occurrences(child.id(), part), 0, "{format}");
+        }
+        // The search does find what is there: the secret.
+        assert!(occurrences(child.id(), &secret[..64]) > 0);
+        drop(input);
+        assert!(child.wait().expect("the tool ends").success());
+    }
 }

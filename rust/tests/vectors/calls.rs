@@ -1,4 +1,4 @@
-//! calls.txt: lists of calls on one station, with the ledger at the end; the same with a report behind each call.
+//! calls.txt: lists of calls on one station, with the ledger at the end; the same with a report or a session behind each call.
 
 use shearcotter::raw::{Reply, Station};
 
@@ -6,7 +6,7 @@ use super::expected;
 use crate::independent::held::Held;
 use crate::independent::key::Key;
 use crate::independent::{calls, random::Random};
-use crate::support::raw_calls::{drop, fresh, held, holding, load, open, publish, read, report};
+use crate::support::raw_calls::{drop, fresh, held, holding, load, open, publish, read, report, session};
 use crate::support::{bytes, only_written, vectors::cases, UNTOUCHED};
 
 /// The reply, and the output's bytes.
@@ -105,4 +105,20 @@ fn reports_between_the_calls_change_nothing() {
         reported.station
     });
     assert!([0, 21, 24, 31].iter().all(|number| numbers.contains(number)), "{numbers:?}");
+}
+
+#[test]
+fn sessions_between_the_calls_change_nothing() {
+    let (mut random, mut numbers) = (Random::new(42), vec![]);
+    run_lists(|station| {
+        let key = held(&station);
+        let capsule = if random.one_in(8) { vec![] } else { random.row(key.capsule_bits()) };
+        let secret = random.secret(key.n);
+        let derived = session(station, &capsule, &secret);
+        let expected = calls::session(station.state, &Held::new(key), &capsule, &secret);
+        assert_eq!((derived.refused, derived.key), expected, "{capsule:02x?} {secret:02x?}");
+        numbers.push(derived.refused);
+        derived.station
+    });
+    assert!([0, 21, 24, 8, 33].iter().all(|number| numbers.contains(number)), "{numbers:?}");
 }

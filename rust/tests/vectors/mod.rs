@@ -1,9 +1,11 @@
-//! The customer's vectors for document 01.
+//! The customer's vectors for document 01 and the requests.
 
 mod calls;
 mod fields;
 mod keys;
 mod program;
+mod sessions;
+mod shake;
 mod standard;
 mod words;
 
@@ -11,7 +13,27 @@ use shearcotter::{raw, Pattern, Refusal, Station};
 
 use crate::independent;
 use crate::support::raw_calls::{self, held};
+use crate::support::vectors::file;
 use crate::support::{bytes, UNTOUCHED};
+
+/// The folders of the standard's published keys; those ending in f have keys whose support was moved for a public key.
+const STANDARD: [&str; 10] = [
+    "mceliece348864",
+    "mceliece348864f",
+    "mceliece460896",
+    "mceliece460896f",
+    "mceliece6688128",
+    "mceliece6688128f",
+    "mceliece6960119",
+    "mceliece6960119f",
+    "mceliece8192128",
+    "mceliece8192128f",
+];
+
+/// A file of such a folder, of count 0.
+fn at(name: &str, part: &str) -> Vec<u8> {
+    file(&format!("{name}/count0/{part}"))
+}
 
 /// What a case says: `ok` and its fields, or `refused` and the number.
 fn expected(case: &[String]) -> Result<Vec<&str>, u8> {

@@ -2,15 +2,15 @@
 
 use shearcotter::{lock, Refusal, Shape};
 
-use super::{loaded, same_pattern, same_records};
+use super::{at, loaded, same_pattern, same_records};
 use crate::independent::key::Key;
 use crate::support::bytes;
 use crate::support::raw_calls::holding;
-use crate::support::vectors::{cases, file};
+use crate::support::vectors::cases;
 
 fn published_vector(shape: Shape) {
     let name = shape.name().expect("a name");
-    let at = |part: &str| file(&format!("{name}/count0/{part}"));
+    let at = |part: &str| at(&name, part);
     let (public, capsule, pattern) = (at("public.bin"), at("capsule.bin"), at("pattern.bin"));
     let mut station = loaded(&at("key.bin"));
     assert_eq!(station.shape(), Some(shape));

@@ -11,7 +11,7 @@ use std::fmt;
 use shearcotter::Refusal;
 
 pub use key_file::{key_file, publishing};
-pub use rows::{number, public_key, row, Row};
+pub use rows::{number, public_key, row, secret, Row};
 pub use shapes::{position, shape};
 
 /// A refusal: its number, its condition in words, and what was expected and found, if that says more.

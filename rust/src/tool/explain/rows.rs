@@ -1,4 +1,4 @@
-//! Packed rows: capsules, words and patterns, and public keys, which are rows back to back.
+//! Packed rows: capsules, words and patterns, secrets, and public keys, which are rows back to back.
 
 use shearcotter::{Refusal, Shape};
 
@@ -8,6 +8,8 @@ use super::{bytes_found, counted, Explained};
 #[derive(Clone, Copy)]
 pub enum Row {
     Capsule,
+    /// A capsule whose session key is asked for.
+    SessionCapsule,
     Word,
     Pattern,
 }
@@ -15,7 +17,7 @@ pub enum Row {
 impl Row {
     pub fn name(self) -> &'static str {
         match self {
-            Row::Capsule => "capsule",
+            Row::Capsule | Row::SessionCapsule => "capsule",
             Row::Word => "word",
             Row::Pattern => "pattern",
         }
@@ -23,7 +25,7 @@ impl Row {
 
     pub fn plural(self) -> &'static str {
         match self {
-            Row::Capsule => "capsules",
+            Row::Capsule | Row::SessionCapsule => "capsules",
             Row::Word => "words",
             Row::Pattern => "patterns",
         }
@@ -33,6 +35,7 @@ impl Row {
     pub fn accepted(self) -> &'static str {
         match self {
             Row::Capsule => "opened",
+            Row::SessionCapsule => "derived",
             Row::Word => "read",
             Row::Pattern => "locked",
         }
@@ -40,7 +43,7 @@ impl Row {
 
     fn bits(self, shape: Shape) -> usize {
         match self {
-            Row::Capsule => capsule_bits(shape),
+            Row::Capsule | Row::SessionCapsule => capsule_bits(shape),
             Row::Word | Row::Pattern => usize::from(shape.n()),
         }
     }
@@ -89,6 +92,22 @@ pub fn row(kind: Row, shape: Shape, bytes: &[u8], refusal: Refusal) -> Explained
     Explained::new(refusal, words(kind, refusal), found)
 }
 
+/// A secret, of which at most one byte past its length was read; none of its bits are said.
+pub fn secret(shape: Shape, found: usize, refusal: Refusal) -> Explained {
+    let length = Row::Pattern.length(shape);
+    match refusal {
+        Refusal::BadSecret if found != length => {
+            let found = format!("expected {} for {shape}, {}", counted(length, "byte"), bytes_found(found, length));
+            Explained::new(refusal, "secret of wrong length", found)
+        }
+        Refusal::BadSecret => {
+            let found = format!("expected byte {} up to {:02x} (hexadecimal), found more", length - 1, most(shape.n()));
+            Explained::new(refusal, "secret with filler set", found)
+        }
+        _ => Explained::new(refusal, refusal.condition(), ""),
+    }
+}
+
 /// A public key, of which at most one byte past its length was read.
 pub fn public_key(shape: Shape, bytes: &[u8], refusal: Refusal) -> Explained {
     let length = shape.public_length();
@@ -112,9 +131,14 @@ fn public_filler(shape: Shape, bytes: &[u8]) -> String {
     found.unwrap_or_default()
 }
 
+/// The most that the last byte of a row of so many bits may be.
+fn most(bits: impl Into<usize>) -> u8 {
+    u8::MAX >> ((8 - bits.into() % 8) % 8)
+}
+
 /// The last byte of a row that starts at a byte of its file, where it has a one past the row's bits.
 fn filler(bits: usize, row: &[u8], start: usize) -> Option<String> {
-    let (last, most) = (row.last()?, u8::MAX.checked_shr((8 - bits as u32 % 8) % 8)?);
+    let (last, most) = (row.last()?, most(bits));
     let at = start + row.len() - 1;
     (*last > most).then(|| format!("expected byte {at} up to {most:02x}, found {last:02x} (hexadecimal)"))
 }

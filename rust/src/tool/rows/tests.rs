@@ -33,7 +33,7 @@ fn each_into(
 }
 
 fn line(position: u64, row: &[u8]) -> Answer {
-    Answer { text: format!("{position} {row:?}\n").into_bytes(), notes: String::new(), number: row[0] % 3 }
+    Answer { text: format!("{position} {row:?}\n").into(), notes: String::new(), number: row[0] % 3 }
 }
 
 /// Gives 1 to 7 bytes at a time.
@@ -99,7 +99,7 @@ impl Write for Lengths {
 fn lines_in_order_on_any_number_of_threads() {
     let bytes: Vec<u8> = (0..5000_u32).map(|i| (i * i / 7) as u8).collect();
     let expected: Vec<Answer> = (1..).zip(bytes.chunks(3)).map(|(position, row)| line(position, row)).collect();
-    let text: Vec<u8> = expected.iter().flat_map(|answer| answer.text.clone()).collect();
+    let text: Vec<u8> = expected.iter().flat_map(|answer| answer.text.to_vec()).collect();
     for jobs in [1, 2, 3, 16] {
         let mut out = vec![];
         // Some rows take longer, so that later ones are answered before them.
@@ -144,14 +144,14 @@ fn fewer_workers_where_not_all_start() {
 #[test]
 fn quick_rows_travel_together_and_slow_ones_alone() {
     let mut out = Lengths(vec![]);
-    let quick = |_: u64, _: &[u8]| Answer { text: vec![0], notes: String::new(), number: 0 };
+    let quick = |_: u64, _: &[u8]| Answer { text: vec![0].into(), notes: String::new(), number: 0 };
     each_into(&mut out, rows(io::repeat(7).take(100_000), 1), 2, quick).ok().expect("all is written");
     assert_eq!(out.0.iter().sum::<usize>(), 100_000);
     assert!(out.0.len() < 5_000, "{} writes", out.0.len());
     let mut out = Lengths(vec![]);
     let slow = |_: u64, _: &[u8]| {
         thread::sleep(2 * SHORT);
-        Answer { text: vec![0], notes: String::new(), number: 0 }
+        Answer { text: vec![0].into(), notes: String::new(), number: 0 }
     };
     each_into(&mut out, rows(io::repeat(7).take(40), 1), 2, slow).ok().expect("all is written");
     assert_eq!(out.0, [1; 40]);
@@ -174,7 +174,7 @@ fn notes_stand_behind_their_lines() {
     let streams = Streams { out: &mut page.clone(), name: None, error: &mut page.clone(), on_terminal: false };
     let answer = |position: u64, _: &[u8]| {
         let notes = if position % 3 == 1 { format!("note on {position}\n") } else { String::new() };
-        Answer { text: format!("{position}\n").into_bytes(), notes, number: 0 }
+        Answer { text: format!("{position}\n").into(), notes, number: 0 }
     };
     each_to(streams, rows(io::repeat(7).take(1000), 1), 2, answer).ok().expect("all is written");
     let note = |i: u64| if i % 3 == 1 { format!("{i}\nnote on {i}\n") } else { format!("{i}\n") };
