@@ -31,7 +31,7 @@ pub const STACK_READ: usize = 225 * 1024;
 /// The same for `shearcotter_report`.
 pub const STACK_REPORT: usize = 229 * 1024;
 /// The same for `shearcotter_session`.
-pub const STACK_SESSION: usize = 229 * 1024;
+pub const STACK_SESSION: usize = 243 * 1024;
 /// The same for `shearcotter_drop`.
 pub const STACK_DROP: usize = 49 * 1024;
 /// Bytes of stack that `shearcotter_shake256` takes.
