@@ -291,7 +291,7 @@ shearcotter_reported shearcotter_report(shearcotter_station station, const uint8
 
 /* The session key of the capsule, as Classic McEliece's DECAP derives it: the first 32 bytes of SHAKE256 of the byte 1, the
  * pattern and the capsule; where open refuses with 13, of the byte 0, the secret and the capsule. A sender cannot tell from the key
- * which of the two it is, so that the caller has no 13 to hide. The station stays.
+ * which of the two it is, so that the caller has no 13 to hide; how long the call takes is not the same for both. The station stays.
  * The secret is the standard's s: SHEARCOTTER_PATTERN_BYTES random bytes with clear filler. It stays the caller's, is as secret as
  * the key file, and is the same in every call with that key, so that a capsule that does not open has one key too.
  * Refused: 21, 25, 24, 8, 9, 33: then the key is zeros. 8 and 9 are about bytes that the sender knows. */

@@ -90,7 +90,7 @@ impl Station {
     ///
     /// It is the first 32 bytes of [`shake256`](crate::shake256) of the byte 1, the pattern and the capsule; where
     /// [`open`](Station::open) refuses with 13, of the byte 0, the secret and the capsule. A sender cannot tell from the
-    /// key which of the two it is, so that the caller has no 13 to hide.
+    /// key which of the two it is, so that the caller has no 13 to hide; how long the call takes is not the same for both.
     ///
     /// The secret is the standard's s, [`Shape::pattern_length`] random bytes with clear filler. It is as secret as the key
     /// file, and the same in every call with that key. It and the key that is answered are the caller's to [`wipe`].

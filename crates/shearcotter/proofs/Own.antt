@@ -6,7 +6,7 @@ use Rattle.key.specs.declared.kept.Key.{Key}
 use Rattle.ledger.specs.Publishing.{Publishing}
 use Rattle.ledger.specs.Questions.{Question, report, session-key}
 use Rattle.ledger.specs.Calls.{Call, publish, ask, step}
-use Rattle.station.specs.Replies.{view, refusal, acceptance, moved, replyOf, handed, reportedOf, derivation, derivedOf}
+use Rattle.station.specs.Replies.{view, refusal, acceptance, moved, replyOf, handed, reportedOf, derivedOf}
 use Rattle.station.specs.declared.Station.{Station}
 use Rattle.station.specs.declared.Reply.{Reply}
 use Rattle.station.specs.declared.Reported.{Reported}
@@ -62,7 +62,7 @@ own-reported s capsules records e =
 
 pub own-derived : (s : Station) (capsule secret : List ℕ) {r : Derived} → (let h = handed s (ask (session-key capsule secret)) in
     r ≡ derivedOf h → record { station = s; refused = r .refused; key = r .key } ≡ derivedOf h)
-unfolding derivedOf derivation
+unfolding derivedOf
 own-derived s capsule secret e =
     let h = handed s (ask (session-key capsule secret)) in
     ap (λ (q : Derived). record { station = s; refused = q .refused; key = q .key }) e

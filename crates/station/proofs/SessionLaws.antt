@@ -8,8 +8,9 @@ use Rattle.session.specs.Session.{sessionNumber, sessionBytes}
 use Rattle.ledger.specs.Station.{isEmpty, isUnpublished, heldBy}
 use Rattle.ledger.specs.Questions.{session-key, questionConditions, given, answerSize}
 use Rattle.ledger.specs.Calls.{ask, noAnswer, made}
-use Rattle.station.specs.Replies.{stateOf, view, derivation, handed, derivedOf}
+use Rattle.station.specs.Replies.{stateOf, view, handed, derivedOf}
 use Rattle.station.specs.declared.Station.{Station}
+use Rattle.station.specs.declared.Derived.{Derived}
 use Rattle.station.proofs.ReplyLaws.{lower}
 use Rattle.station.proofs.QuestionLaws.{question-stopped, question-lower, not-published}
 use Rattle.station.proofs.StepView.{question-left}
@@ -17,20 +18,20 @@ use Rattle.station.proofs.StepView.{question-left}
 module _ (s : Station) (capsule secret : List ℕ) where
   -- the reply, part by part
   derived : {n : ℕ} {key : List ℕ} → (let h = handed s (ask (session-key capsule secret)) in
-      n ≡ h .reply .refused → key ≡ h .answer → derivation s n key ≡ derivedOf h)
+      n ≡ h .reply .refused → key ≡ h .answer → _≡_ {A = Derived} (record { station = s; refused = n; key = key }) (derivedOf h))
   unfolding derivedOf
   derived e f = rw (e, f, question-left s (session-key capsule secret))
 
   -- without a key
   pub session-stopped : isEmpty (stateOf (s .state)) ≡ true → {key : List ℕ} → key ≡ noAnswer (ask (session-key capsule secret))
-      → derivation s 21 key ≡ derivedOf (handed s (ask (session-key capsule secret)))
+      → record { station = s; refused = 21; key = key } ≡ derivedOf (handed s (ask (session-key capsule secret)))
   session-stopped h e =
       let t = question-stopped s (session-key capsule secret) h in
       derived (t .0) (e ∙ t .1)
 
   -- with a key: published or not by b
   pub session-lower : isEmpty (stateOf (s .state)) ≡ false → (b : Bool) → b ≡ not (isUnpublished (stateOf (s .state)))
-      → derivation s (sessionNumber (not b) (kept (s .key)) capsule secret) (sessionBytes (not b) (kept (s .key)) capsule secret)
+      → record { station = s; refused = sessionNumber (not b) (kept (s .key)) capsule secret; key = sessionBytes (not b) (kept (s .key)) capsule secret }
       ≡ derivedOf (handed s (ask (session-key capsule secret)))
   unfolding lower questionConditions heldBy view sessionNumber sessionBytes made given noAnswer answerSize
   session-lower keyed b e =

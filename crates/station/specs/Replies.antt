@@ -54,10 +54,6 @@ refusal s n = record { station = s; refused = n; ones = 0 }
 unfoldable pub acceptance : Station → ℕ → Reply
 acceptance s w = record { station = s; refused = 0; ones = w }
 
--- the station as it was, with a session key's answer
-unfoldable pub derivation : Station → ℕ → List ℕ → Derived
-derivation s n key = record { station = s; refused = n; key = key }
-
 unfoldable pub replyOf : ℕ → Station → Station → ℕ → Reply
 replyOf zero s next w = acceptance next w
 replyOf (suc n) s next w = refusal s (suc n)
@@ -82,7 +78,7 @@ reportedOf h = record { station = h .reply .station; refused = h .reply .refused
 
 -- the reply to a session key's call: its answer is the key
 unfoldable pub derivedOf : Handed → Derived
-derivedOf h = derivation (h .reply .station) (h .reply .refused) (h .answer)
+derivedOf h = record { station = h .reply .station; refused = h .reply .refused; key = h .answer }
 
 -- The code's calls as a system: its stations are the structs with their arrays. The demands are about it.
 unfoldable pub outcomeOf : Handed → Outcome Station

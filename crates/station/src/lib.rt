@@ -11,7 +11,7 @@ ghost use Rattle.ledger.specs.Loading.{key-file};
 ghost use Rattle.ledger.specs.Publishing.{systematic};
 ghost use Rattle.ledger.specs.Questions.{open-capsule, read-word, report, session-key};
 ghost use Rattle.ledger.specs.Calls.{load, publish, ask, drop-key};
-ghost use Rattle.station.specs.Replies.{stateOf, answerNumber, freshStation, refusal, acceptance, derivation, handed, reportedOf, derivedOf};
+ghost use Rattle.station.specs.Replies.{stateOf, answerNumber, freshStation, refusal, acceptance, handed, reportedOf, derivedOf};
 
 // One slot: the state and the key, the key of zeros where it is empty. State 0 is no key, 1 a key, any other a published key.
 #[repr(C)]
@@ -112,17 +112,6 @@ impl Station {
             station: self,
             refused: 0,
             ones,
-        }
-    }
-
-    // The station as it is, with a session key's answer.
-    fn derive(self, refused: u8, key: [u8; 32]) -> Derived
-        ensures { λ r. ⌜ r ≡ derivation self refused key ⌝ }
-    {
-        Derived {
-            station: self,
-            refused,
-            key,
         }
     }
 
@@ -279,7 +268,12 @@ impl Station {
     {
         let state = self.state;
         if is_empty(state) {
-            return self.derive(21, [0; 32]);
+            let refused = 21u8;
+            return Derived {
+                station: self,
+                refused,
+                key: [0; 32],
+            };
         }
         let marked = is_published(state);
         let answer = session_key::session(
@@ -293,7 +287,11 @@ impl Station {
             secret,
         );
         let key = answer.key;
-        self.derive(answer.refused, key)
+        Derived {
+            station: self,
+            refused: answer.refused,
+            key,
+        }
     }
 
     // Afterwards the station is a fresh one; 21 on refusal.

@@ -4,7 +4,6 @@ use Rattle.session_key.specs.Answers.{sessionAnswer}
 use Rattle.session_key.specs.declared.SessionKey.{SessionKey}
 use Rattle.ledger.specs.Questions.{answerSize}
 use Rattle.ledger.specs.Calls.{noAnswer}
-use Rattle.station.specs.Replies.{derivation}
 use Rattle.station.proofs.SessionLaws.{session-stopped, session-lower}
 use Rattle.station.proofs.Station.session.Statement.{statement}
 use Rattle.station.proofs.Station.session.Tie as tie
@@ -12,16 +11,11 @@ use Rattle.station.proofs.Station.session.Tie as tie
 is-empty-requires : tie.Need-is-empty-requires
 is-empty-requires c κs = tt
 
-derive-requires : tie.Need-derive-requires
-derive-requires c κs = tt
-
 returns : tie.Need-returns
 unfolding noAnswer answerSize
 returns c =
-    let t = c .before in
-    let a = t .before .before .before .before .args in
-    c .derive .ensures
-    ∙ session-stopped (a .t1) (a .capsule .now) (a .secret .now) (sym (t .before .is-empty .ensures) ∙ t .if1 .taken) refl
+    let a = c .before .before .before .before .args in
+    session-stopped (a .t1) (a .capsule .now) (a .secret .now) (sym (c .before .is-empty .ensures) ∙ c .if1 .taken) refl
 
 is-published-requires : tie.Need-is-published-requires
 is-published-requires c κs = tt
@@ -29,29 +23,16 @@ is-published-requires c κs = tt
 session-requires : tie.Need-session-requires
 session-requires c κs = tt
 
-derive-requires-2 : tie.Need-derive-requires-2
-derive-requires-2 c κs = tt
-
 returns-2 : tie.Need-returns-2
 unfolding sessionAnswer
 returns-2 c =
-    let r = c .before .before in
+    let r = c .before in
     let b = r .before .before .before .before in
     let l = b .before in
     let a = l .before .before .before .before .args in
     let k = sym (l .before .is-empty .ensures) ∙ l .if1 .left in
-    c .derive2 .ensures
-    ∙ ap (λ (x : SessionKey). derivation (a .t1) (x .refused) (x .key)) (r .session .ensures)
+    ap (λ (x : SessionKey). record { station = a .t1; refused = x .refused; key = x .key }) (r .session .ensures)
     ∙ session-lower (a .t1) (a .capsule .now) (a .secret .now) k _ (b .is-published .ensures)
 
 pub session-spec : {M : Type 1} → statement M
-session-spec =
-    tie.close
-    (tie.spec
-    is-empty-requires
-    derive-requires
-    returns
-    is-published-requires
-    session-requires
-    derive-requires-2
-    returns-2)
+session-spec = tie.close (tie.spec is-empty-requires returns is-published-requires session-requires returns-2)
