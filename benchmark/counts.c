@@ -1,5 +1,5 @@
-/* For each key file named: load, open and a read of the word of ones under callgrind, which writes a profile of each call with the
-   title 'CALL SHAPE', and of nothing else. */
+/* For each key file named: load, open, a session key and a read of the word of ones under callgrind, which writes a profile of each
+   call with the title 'CALL SHAPE', and of nothing else. */
 #include <stdio.h>
 #include <string.h>
 #include <valgrind/callgrind.h>
@@ -10,13 +10,14 @@ enum { PLACES = SHEARCOTTER_MOST_PLACES, ERRORS = SHEARCOTTER_MOST_ERRORS, WORD 
 static uint8_t file[SHEARCOTTER_FILE_BYTES(PLACES, ERRORS) + 1], public_key[13 * ERRORS * WORD], work[13 * ERRORS * WORD];
 static uint8_t pattern[WORD], ones[WORD], capsule[WORD], out[WORD];
 static shearcotter_reply reply;
+static shearcotter_derived derived;
 
-#define PROFILE(name, call) \
+#define PROFILE(name, result, call) \
     do { \
         char title[40]; \
         snprintf(title, sizeof title, "%s %d,%d,%d", name, m, n, t); \
         CALLGRIND_START_INSTRUMENTATION; \
-        reply = call; \
+        result = call; \
         CALLGRIND_STOP_INSTRUMENTATION; \
         CALLGRIND_DUMP_STATS_AT(title); \
     } while (0)
@@ -37,13 +38,18 @@ static int profile(size_t size)
     fill(ones, 1, n);
     fill(pattern, n / t, t);
     reply.station = shearcotter_fresh();
-    PROFILE("load", shearcotter_load(reply.station, file, size));
+    PROFILE("load", reply, shearcotter_load(reply.station, file, size));
     reply = shearcotter_publish(reply.station, public_key, sizeof public_key, work, sizeof work);
     shearcotter_lock((uint8_t)m, (uint16_t)n, (uint16_t)t, public_key, SHEARCOTTER_PUBLIC_BYTES(m, n, t), pattern, word_bytes,
                      capsule, WORD);
-    PROFILE("open", shearcotter_open(reply.station, capsule, capsule_bytes, out, WORD));
+    PROFILE("open", reply, shearcotter_open(reply.station, capsule, capsule_bytes, out, WORD));
     int opened = !reply.refused && memcmp(out, pattern, word_bytes) == 0;
-    PROFILE("ones", shearcotter_read(reply.station, ones, word_bytes, out, WORD));
+    PROFILE("session", derived, shearcotter_session(reply.station, capsule, capsule_bytes, pattern, word_bytes));
+    opened = opened && !derived.refused;
+    capsule[0] ^= 1;
+    PROFILE("reject", derived, shearcotter_session(reply.station, capsule, capsule_bytes, pattern, word_bytes));
+    opened = opened && !derived.refused;
+    PROFILE("ones", reply, shearcotter_read(reply.station, ones, word_bytes, out, WORD));
     return opened && reply.refused == SHEARCOTTER_NO_CODE_WORD;
 }
 

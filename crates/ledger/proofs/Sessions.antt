@@ -1,18 +1,18 @@
 -- The session key beside open, and under a public key. Assumes nothing.
 use Prim.Native.Nat.{ℕ, _≤_}
-use mathlib.Core.Path.{_≡_, refl, sym, ap, _∙_, subst}
-use mathlib.Core.Bool.{Bool, true, false, true≢false, cond, not}
+use mathlib.Core.Path.{_≡_, refl, sym, ap, _∙_}
+use mathlib.Core.Bool.{Bool, true, false, cond, not}
 use mathlib.Core.List.{List, [], _∷_, _++_}
 use mathlib.Core.Option.{Option, none, some}
 use native.Mathlib.Omega.{arith}
 use borrow.Author.Tests.{le-ltb, not-false, eqb-true}
-use lib.Dec.{eqb, ltb}
+use lib.Dec.{ltb}
 use lib.ListN.{length, take}
-use Rattle.bits.specs.Bits.{bytesFor, unpack, pack, fillerClear, wellFormed, over}
+use Rattle.bits.specs.Bits.{bytesFor, unpack, pack, wellFormed, over}
 use Rattle.bits.proofs.Pack.{take-over}
 use Rattle.field.specs.Numbers.{firstOf}
 use Rattle.field.proofs.Numbers.{first-clear}
-use Rattle.key.specs.Keys.{Key, keyNumber, unsound}
+use Rattle.key.specs.Keys.{keyNumber, unsound}
 use Rattle.code.specs.PublicKey.{Matrix, publicKey}
 use Rattle.code.specs.Publish.{capsuleBits}
 use Rattle.decoder.specs.Reading.{opening}
@@ -20,12 +20,12 @@ use Rattle.decoder.specs.Calls.{found, isNone, openConditions}
 use Rattle.keccak.specs.Shake.{shake256}
 use Rattle.session.specs.Session.{sessionKey, sessionConditions}
 use Rattle.session.proofs.Keys.{key-opened, key-rejected, opening-row}
-use Rattle.ledger.specs.Station.{Station, isEmpty, isUnpublished, heldBy, Result}
+use Rattle.ledger.specs.Station.{Station, heldBy, Result}
 use Rattle.ledger.specs.Questions.{open-capsule, session-key, questionConditions, gives, given}
 use Rattle.ledger.specs.Calls.{ask, conditionsOf, made, step}
 use Rattle.ledger.specs.Systems.{System}
 use Rattle.ledger.specs.Demands.{Locks}
-use Rattle.ledger.specs.Sessions.{beside, Derives, Shares, SessionKeys}
+use Rattle.ledger.specs.Sessions.{beside, Derives, SessionKeys}
 use Rattle.ledger.proofs.StepLaws.{step-number, step-made}
 use Rattle.ledger.proofs.Patterns.{opening-sound, opening-complete, one-opening}
 use Rattle.ledger.proofs.Simulation.{Simulates, same-number, same-output, same-answer}

@@ -216,6 +216,7 @@ two-bytes =
     }
 
 -- Reports: of document 01's three capsules, and of none; of a capsule with filler set and a short tail; the counts, also on refusal.
+-- A refused session key has 32 zeros.
 unfoldable pub reports : List (Asked × Answer)
 reports =
     (on published-1 (ask (report (0x03 ∷ 0x00 ∷ 0x13 ∷ []) (9 ∷ 9 ∷ 9 ∷ 9 ∷ []))), accepted (0 ∷ 13 ∷ 9 ∷ 9 ∷ []) 0) ∷
@@ -223,6 +224,7 @@ reports =
     (counts published-1 (ask (report [] (9 ∷ []))), numbers 256 (zeros 4)) ∷
     (counts published-1 (ask (report (0x03 ∷ []) [])), numbers 256 (zeros 4)) ∷
     (counts published-1 (ask (open-capsule (0x03 ∷ []) (zeros 1))), numbers 0 (zeros 4)) ∷
+    (counts published-1 (ask (session-key (0x03 ∷ []) [])), numbers 32 (zeros 4)) ∷
     (on two-bytes (ask (report (0x00 ∷ 0x10 ∷ 0x00 ∷ []) (7 ∷ 7 ∷ 7 ∷ []))), accepted (9 ∷ 8 ∷ 7 ∷ []) 0) ∷
     (on two-bytes (ask (report (0x00 ∷ 0x10 ∷ 0x00 ∷ []) (7 ∷ []))), refused 31) ∷
     (counts two-bytes (ask (report (0x00 ∷ 0x10 ∷ 0x00 ∷ []) (zeros 2))), numbers 256 (0 ∷ 1 ∷ 1 ∷ 0 ∷ [])) ∷ []

@@ -14,7 +14,7 @@ use Rattle.bits.proofs.PutBits.{written-row}
 use Rattle.bits.proofs.Pack.{length-unpack, unpack-add, well-formed-past}
 use Rattle.field.specs.Numbers.{firstOf}
 use Rattle.field.specs.declared.Verdict.the-variants as verdicts
-use Rattle.field.proofs.Verdicts.{verdict-accepted}
+use Rattle.field.proofs.Verdicts.{verdict-accepted, verdict-refused}
 use Rattle.key.specs.Keys.{keyNumber}
 use Rattle.key.specs.Kept.{kept}
 use Rattle.key.specs.declared.kept.Key.{Key}
@@ -137,6 +137,11 @@ module _ (k : Key) (capsule : List ℕ) (z : keyNumber (kept k) ≡ 0) (w : well
   pub found-opening : {f : Found} → f ≡ foundOf (decodedNumber (kept k) (unpack (k .n) capsule)) (exactly (k .t) (decoded (kept k) (unpack (k .n) capsule)))
       → f ≡ foundOf 0 (opening (kept k) (unpack (capsuleBits (kept k)) capsule))
   found-opening e = e ∙ ap₂ foundOf (decoded-divides k capsule z) exactly-opening
+
+  -- what decoding divides by is not 0
+  pub opening-not-refused : {f : Found} → f ≡ foundOf (decodedNumber (kept k) (unpack (k .n) capsule)) (exactly (k .t) (decoded (kept k) (unpack (k .n) capsule)))
+      → {x : ℕ} → f .verdict ≡ verdicts.Refused x → ⊥
+  opening-not-refused e h = verdict-refused 0 (found-verdict 0 _ (found-opening e)) h refl
 
   row-opening : (e : List ℕ) → opening (kept k) (unpack (capsuleBits (kept k)) capsule) ≡ some e → Row (k .n) e
   row-opening e h = row-reading k capsule e (exactly-some (k .t) _ e (sym opening-exactly ∙ h) .0)

@@ -10,7 +10,7 @@ use Rattle.field.specs.Verdicts.{verdictOf, numberOf}
 use Rattle.field.specs.declared.Verdict.{Verdict}
 use Rattle.field.specs.declared.Verdict.the-variants.{Refused}
 use Rattle.field.proofs.Numbers.{numbered, first-append}
-use Rattle.field.proofs.Verdicts.{verdict-number, verdict-refused}
+use Rattle.field.proofs.Verdicts.{verdict-number}
 use Rattle.key.specs.Keys.{keyNumber}
 use Rattle.key.specs.Kept.{kept}
 use Rattle.key.specs.declared.kept.Key.{Key}
@@ -20,10 +20,9 @@ use Rattle.decoder.specs.Reading.{exactly, opening}
 use Rattle.decoder.specs.Calls.{isNone}
 use Rattle.decoding.specs.Parts.{decodedNumber, decoded, nothingOf, foundOf}
 use Rattle.decoding.specs.declared.decoding.Found.{Found}
-use Rattle.decoding.proofs.Explained.{found-verdict}
 use Rattle.reading.specs.Answers.{rowChecks}
 use Rattle.reading.proofs.Refusals.{row-clear}
-use Rattle.reading.proofs.Answered.{found-opening}
+use Rattle.reading.proofs.Answered.{found-opening, opening-not-refused}
 use Rattle.records.specs.Records.{capsuleConditions, recordOf}
 
 none-found : (o : Option (List ℕ)) → firstOf ((isNone o, 13) ∷ []) ≡ cond (foundOf 0 o .found) 0 13
@@ -48,9 +47,8 @@ module _ (k : Key) (capsule : List ℕ) where
     opened : f ≡ foundOf 0 (opening (kept k) (unpack (capsuleBits (kept k)) capsule))
     opened = found-opening k capsule z (row-clear (capsuleBits (kept k)) capsule w) ef
 
-    -- what decoding divides by is not 0
     pub record-not-refused : {x : ℕ} → f .verdict ≡ Refused x → ⊥
-    record-not-refused h = verdict-refused 0 (found-verdict 0 _ opened) h refl
+    record-not-refused h = opening-not-refused k capsule z (row-clear (capsuleBits (kept k)) capsule w) ef h
 
     -- 13, or 0
     by-found : recordOf (kept k) capsule ≡ cond (f .found) 0 13

@@ -21,7 +21,7 @@ use Rattle.decoding.specs.declared.decoding.Found.{Found}
 use Rattle.reading.proofs.Answered.{found-opening}
 use Rattle.session.specs.Session.{hashed, keyFor, sessionKey, sessionNumber, sessionBytes}
 use Rattle.session.proofs.Keys.{opening-row}
-use Rattle.session_key.specs.Answers.{foundKey, sessionAnswer}
+use Rattle.session_key.specs.Answers.{foundKey, refusedKey, sessionAnswer}
 use Rattle.session_key.specs.declared.SessionKey.{SessionKey}
 
 -- the key of the secret, or of the pattern
@@ -61,8 +61,8 @@ module _ (unpublished : Bool) (k : Keys.Key) (capsule secret : List ℕ) where
       ap₂ (λ (r : ℕ) (l : List ℕ). record { refused = r; key = l }) q
       (ap (λ (b : Bool). cond b (sessionKey k capsule secret) (replicate 32 0)) (sym e))
 
-  pub answer-refused : {x : ℕ} → x ≡ sessionNumber unpublished k capsule secret → (x ≡ 0 → ⊥)
-      → _≡_ {A = SessionKey} record { refused = x; key = replicate 32 0 } (sessionAnswer unpublished k capsule secret)
+  pub answer-refused : {x : ℕ} → x ≡ sessionNumber unpublished k capsule secret → (x ≡ 0 → ⊥) → refusedKey x ≡ sessionAnswer unpublished k capsule secret
+  unfolding refusedKey
   answer-refused q h = answered false (ne-eqb _ _ (λ z. h (q ∙ z))) q
 
   pub answer-derived : {key : List ℕ} → sessionNumber unpublished k capsule secret ≡ 0 → key ≡ sessionKey k capsule secret

@@ -1,8 +1,8 @@
--- What session answers, and a term of a private function. Assumes nothing.
+-- What session answers, and terms of its private functions. Assumes nothing.
 use Prim.Native.Nat.{ℕ}
 use mathlib.Core.Bool.{Bool, cond}
 use mathlib.Core.List.{List}
-use lib.ListN.{take}
+use lib.ListN.{take, replicate}
 use Rattle.bits.specs.Bits.{bytesFor}
 use Rattle.key.specs.Keys.{Key}
 use Rattle.decoding.specs.declared.decoding.Found.{Found}
@@ -13,6 +13,10 @@ use Rattle.session_key.specs.declared.SessionKey.{SessionKey}
 unfoldable pub sessionAnswer : Bool → Key → List ℕ → List ℕ → SessionKey
 sessionAnswer unpublished k capsule secret =
     record { refused = sessionNumber unpublished k capsule secret; key = sessionBytes unpublished k capsule secret }
+
+-- zeros, with the number
+unfoldable pub refusedKey : ℕ → SessionKey
+refusedKey x = record { refused = x; key = replicate 32 0 }
 
 -- the key by what is found
 unfoldable pub foundKey : ℕ → Found → List ℕ → List ℕ → List ℕ

@@ -14,7 +14,7 @@ ghost use lib.Seq.{paste};
 ghost use Rattle.field.specs.Verdicts.{verdictOf};
 ghost use Rattle.key.specs.Kept.{kept, parts};
 ghost use Rattle.session.specs.Session.{hashed, sessionNumber};
-ghost use Rattle.session_key.specs.Answers.{foundKey, sessionAnswer};
+ghost use Rattle.session_key.specs.Answers.{foundKey, refusedKey, sessionAnswer};
 
 // The number of a refusal, or 0, and the session key; zeros on refusal.
 pub struct SessionKey {
@@ -92,7 +92,19 @@ fn key_found(e: Found, n: u16, capsule: &[u8], secret: &[u8]) -> [u8; 32]
     hash(1, &pattern[..end], capsule)
 }
 
-// The session key of a capsule, with the secret for one that gives 13; 25, 24, 8, 9 or 33 on refusal.
+// No key, with the number.
+fn refuse(number: u8) -> SessionKey
+    ensures { λ r. ⌜ r ≡ refusedKey number ⌝ }
+{
+    let key = [0u8; 32];
+    SessionKey {
+        refused: number,
+        key,
+    }
+}
+
+// The session key of a capsule, with the secret for one that gives 13; 25, 24, 8, 9 or 33 on refusal. No refusal comes from
+// `open_checked` (`opening-not-refused`).
 pub fn session<'a>(
     m: u8,
     n: u16,
@@ -107,13 +119,13 @@ pub fn session<'a>(
 {
     let x = check_session(m, n, t, support, g, published, capsule, secret);
     let Verdict::Accepted = x else {
-        let key = [0u8; 32];
-        return SessionKey {
-            refused: field::number(x),
-            key,
-        };
+        return refuse(field::number(x));
     };
     let e = open_checked(m, n, t, support, g, capsule);
+    let y = e.verdict;
+    let Verdict::Accepted = y else {
+        return refuse(field::number(y));
+    };
     let key = key_found(e, n, capsule, secret);
     SessionKey { refused: 0, key }
 }

@@ -1,14 +1,14 @@
+-- The byte, the row and the capsule stand one behind another. Assumes nothing.
 use mathlib.Core.Path.{sym, ap, _∙_}
+use mathlib.Core.List.{List}
 use Prim.Native.Nat.{ℕ, _+_}
 use native.Mathlib.Omega.{arith}
-use mathlib.Core.List.{List}
-use lib.ListN.{length, take}
+use borrow.Author.Needs.{needs}
+use lib.ListN.{length, take, replicate}
+use lib.Seq.{paste, length-take-le}
 use Rattle.keccak.specs.Shake.{shake256}
 use Rattle.session.specs.Session.{hashed}
 use Rattle.session_key.proofs.Texts.{written}
-use lib.ListN.{replicate}
-use lib.Seq.{paste, length-take-le}
-use borrow.Author.Needs.{needs}
 use Rattle.session_key.proofs.hash.Statement.{statement}
 use Rattle.session_key.proofs.hash.Tie as tie
 
@@ -48,13 +48,16 @@ shake256-requires c κs = search needs
 returns : tie.Need-returns
 unfolding hashed
 returns c =
-    let a = c .before .before .before .before .before .before .before .before .before .before .before .before .args in
+    let s = c .before in
+    let second = s .before .before .before .before in
+    let first = second .before .before .before in
+    let a = first .before .before .before .before .args in
     let row = a .row .now in
     let capsule = a .capsule .now in
     let n : ℕ = 1 + length row in
-    c .before .shake256 .ensures
+    s .shake256 .ensures
     ∙ ap (λ (d : List ℕ). shake256 32 (take (n + length capsule) d))
-    (c .before .before .before .before .before .put2 .ensures ∙ ap (λ (d : List ℕ). paste d n capsule (length capsule)) (c .before .before .before .before .before .before .before .before .put .ensures))
+    (second .put2 .ensures ∙ ap (λ (d : List ℕ). paste d n capsule (length capsule)) (first .put .ensures))
     ∙ ap (shake256 32) (written (a .first) row capsule (replicate 2049 0) (omega arith))
 
 pub hash-spec : {M : Type 1} → statement M
