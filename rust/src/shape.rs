@@ -83,7 +83,7 @@ impl Shape {
         5 + 2 * usize::from(self.n) + 2 * usize::from(self.t)
     }
 
-    /// Bytes of a pattern or word.
+    /// Bytes of a pattern, word or secret.
     pub fn pattern_length(self) -> usize {
         usize::from(self.n).div_ceil(8)
     }

@@ -1,6 +1,6 @@
 //! Session keys beside the second implementation: keys and numbers, for every capsule of width 4 and with secrets of all kinds.
 
-use shearcotter::raw::{self, Station};
+use shearcotter::raw::Station;
 use shearcotter::{shake256, Refusal, Shape};
 
 use crate::compare::small_shapes;
@@ -145,7 +145,7 @@ fn large_shapes() {
     }
 }
 
-/// Something that a call looks at, and whether the number's condition holds for it.
+/// Something that a call looks at, and the numbers whose conditions hold for it, in their order.
 type Kind<T> = (T, Vec<u8>);
 
 /// A station with each of 21, 25 and 24, alone and together, and with none.
@@ -251,5 +251,4 @@ fn opening_stays() {
         refused += usize::from(after.refused == 13);
     }
     assert!(refused > 0 && refused < 256, "{refused}");
-    assert_eq!(raw::SESSION_BYTES, 32);
 }
