@@ -11,6 +11,10 @@ pub mod Sum
 pub mod Euclid
 pub mod Goppa
 pub mod Squarefree
+pub mod Factor
+pub mod Substitute
+pub mod Berlekamp
+pub mod Rank
 pub mod Register
 pub mod Figure1
 pub mod Locator

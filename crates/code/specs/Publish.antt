@@ -6,7 +6,7 @@ use lib.Dec.{eqb, ltb}
 use lib.ListN.{length}
 use Rattle.bits.specs.Bits.{bytesFor, over}
 use Rattle.field.specs.Numbers.{firstOf}
-use Rattle.key.specs.Keys.{Key, unsound}
+use Rattle.key.specs.Keys.{Key, unsound, reducible}
 use Rattle.code.specs.PublicKey.{publicKey, dependent, written}
 
 -- the bits of a capsule
@@ -20,10 +20,11 @@ publicBytes k = capsuleBits k * bytesFor (k .n - capsuleBits k)
 abbrev pub workBytes : Key → ℕ
 workBytes k = capsuleBits k * bytesFor (k .n)
 
--- 25, 10, 11: once they have passed, the workspace's contents are free
+-- 25, 34, 10, 11: once they have passed, the workspace's contents are free
 unfoldable pub publishChecks : Bool → Key → List ℕ → List ℕ → List (Bool × ℕ)
 publishChecks bad k out work =
     (bad, 25) ∷
+    (reducible k, 34) ∷
     (ltb (length out) (publicBytes k), 10) ∷
     (ltb (length work) (workBytes k), 11) ∷ []
 

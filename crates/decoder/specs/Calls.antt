@@ -7,7 +7,7 @@ use lib.Dec.{eqb, ltb}
 use lib.ListN.{length}
 use Rattle.bits.specs.Bits.{bytesFor, unpack, pack, fillerClear, over}
 use Rattle.field.specs.Numbers.{firstOf}
-use Rattle.key.specs.Keys.{Key, unsound}
+use Rattle.key.specs.Keys.{Key, unsound, reducible}
 use Rattle.code.specs.Publish.{capsuleBits}
 use Rattle.decoder.specs.Reading.{reading, opening}
 
@@ -20,10 +20,11 @@ unfoldable pub isNone : Option (List ℕ) → Bool
 isNone none = true
 isNone (some e) = false
 
--- 25, 24, 8, 9, 10, 13
+-- 25, 34, 24, 8, 9, 10, 13
 unfoldable pub openConditions : Bool → Bool → Key → List ℕ → List ℕ → List (Bool × ℕ)
 openConditions bad unpublished k capsule out =
     (bad, 25) ∷
+    (reducible k, 34) ∷
     (unpublished, 24) ∷
     (not (eqb (length capsule) (bytesFor (capsuleBits k))), 8) ∷
     (not (fillerClear (capsuleBits k) capsule), 9) ∷

@@ -17,3 +17,4 @@ pub mod DigitSums
 pub mod Reciprocals
 pub mod Gf
 pub mod Arrays
+pub mod FiniteField

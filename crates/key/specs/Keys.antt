@@ -9,6 +9,7 @@ use Rattle.field.specs.Numbers.{firstOf}
 use Rattle.field.specs.Field.{isWidth, isElement}
 use Rattle.field.specs.Poly.{value}
 use Rattle.poly.specs.Polynomials.{monic, hasSquare}
+use Rattle.factors.specs.Factors.{hasFactor}
 use Rattle.key.specs.Shapes.{inLimits}
 
 -- the shape, the support α_0..α_{n-1} and the coefficients g_0..g_{t-1}
@@ -81,3 +82,7 @@ keyNumber k = firstOf (conditions (not (eqb (length (k .support)) (k .n) && eqb 
 -- 25: not a key that load accepts
 unfoldable pub unsound : Key → Bool
 unsound k = not (eqb (keyNumber k) 0)
+
+-- 34: g has a proper factor
+unfoldable pub reducible : Key → Bool
+reducible k = hasFactor (k .m) (k .g)

@@ -16,7 +16,7 @@ pub data Publishing : Type 0 where
 unfoldable pub publicBuffer : Publishing → List ℕ
 publicBuffer (systematic out work) = out
 
--- 25, 10, 11, 23
+-- 25, 34, 10, 11, 23
 unfoldable pub publishingConditions : Held → Publishing → List (Bool × ℕ)
 publishingConditions h (systematic out work) = publishConditions (h .unsound) (h .key) out work
 
@@ -24,6 +24,6 @@ publishingConditions h (systematic out work) = publishConditions (h .unsound) (h
 unfoldable pub publication : Key → Publishing → List ℕ
 publication k (systematic out work) = over (written (publicKey k)) out
 
--- the free bytes of the workspace, once 25, 10 and 11 have passed
+-- the free bytes of the workspace, once 25, 34, 10 and 11 have passed
 unfoldable pub freedBytes : Key → Publishing → ℕ
 freedBytes k (systematic out work) = freeBytes k out work

@@ -27,7 +27,7 @@ answerBuffer (read-word word out) = out
 answerBuffer (report capsules records) = records
 answerBuffer (session-key capsule secret) = []
 
--- open 25, 24, 8, 9, 10, 13; read 25, 8, 9, 10, 14; report 25, 24, 31; session key 25, 24, 8, 9, 33
+-- open 25, 34, 24, 8, 9, 10, 13; read 25, 8, 9, 10, 14; report 25, 34, 24, 31; session key 25, 34, 24, 8, 9, 33
 unfoldable pub questionConditions : Held → Question → List (Bool × ℕ)
 questionConditions h (open-capsule capsule out) = openConditions (h .unsound) (h .unpublished) (h .key) capsule out
 questionConditions h (read-word word out) = readConditions (h .unsound) (h .key) word out

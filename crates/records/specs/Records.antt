@@ -7,7 +7,7 @@ use lib.Dec.{eqb, ltb}
 use lib.ListN.{length, take, drop, replicate}
 use Rattle.bits.specs.Bits.{from, bytesFor, unpack, fillerClear, over}
 use Rattle.field.specs.Numbers.{firstOf}
-use Rattle.key.specs.Keys.{Key, unsound}
+use Rattle.key.specs.Keys.{Key, unsound, reducible}
 use Rattle.code.specs.Publish.{capsuleBits}
 use Rattle.decoder.specs.Reading.{opening}
 use Rattle.decoder.specs.Calls.{isNone}
@@ -51,10 +51,10 @@ unfoldable pub total : List ℕ → ℕ
 total [] = 0
 total (x ∷ l) = x + total l
 
--- 25, 24, 31 for a record buffer of len bytes
+-- 25, 34, 24, 31 for a record buffer of len bytes
 unfoldable pub reportConditions : Bool → Bool → Key → List ℕ → ℕ → List (Bool × ℕ)
 reportConditions bad unpublished k buffer len =
-    (bad, 25) ∷ (unpublished, 24) ∷ (ltb len (length (capsulesOf k buffer)), 31) ∷ []
+    (bad, 25) ∷ (reducible k, 34) ∷ (unpublished, 24) ∷ (ltb len (length (capsulesOf k buffer)), 31) ∷ []
 
 -- the number for a kept key
 unfoldable pub reportNumber : Bool → Key → List ℕ → List ℕ → ℕ

@@ -7,7 +7,7 @@ use lib.Dec.{eqb}
 use lib.ListN.{length, replicate}
 use Rattle.bits.specs.Bits.{bytesFor, unpack, pack, fillerClear, wellFormed}
 use Rattle.field.specs.Numbers.{firstOf}
-use Rattle.key.specs.Keys.{Key, unsound}
+use Rattle.key.specs.Keys.{Key, unsound, reducible}
 use Rattle.code.specs.Publish.{capsuleBits}
 use Rattle.decoder.specs.Reading.{opening}
 use Rattle.keccak.specs.Shake.{shake256}
@@ -25,10 +25,11 @@ keyFor none capsule secret = hashed 0 secret capsule
 unfoldable pub sessionKey : Key → List ℕ → List ℕ → List ℕ
 sessionKey k capsule secret = keyFor (opening k (unpack (capsuleBits k) capsule)) capsule secret
 
--- 25, 24, 8, 9, 33
+-- 25, 34, 24, 8, 9, 33
 unfoldable pub sessionConditions : Bool → Bool → Key → List ℕ → List ℕ → List (Bool × ℕ)
 sessionConditions bad unpublished k capsule secret =
     (bad, 25) ∷
+    (reducible k, 34) ∷
     (unpublished, 24) ∷
     (not (eqb (length capsule) (bytesFor (capsuleBits k))), 8) ∷
     (not (fillerClear (capsuleBits k) capsule), 9) ∷
