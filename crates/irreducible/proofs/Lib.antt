@@ -1,0 +1,7 @@
+pub mod RowTable
+pub mod Residues
+pub mod Rows
+pub mod Modulo
+pub mod PowerRows
+pub mod Independence
+pub mod Verdict
