@@ -5,3 +5,4 @@ pub mod Modulo
 pub mod PowerRows
 pub mod Independence
 pub mod Verdict
+pub mod Exchange

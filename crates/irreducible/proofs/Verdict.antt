@@ -10,14 +10,24 @@ use Rattle.bits.specs.Bits.{every}
 use Rattle.field.specs.Field.{isWidth, isElement}
 use Rattle.field.proofs.Table.{Width, by-width}
 use Rattle.field.proofs.Gf.{gf}
-use Rattle.field.proofs.Arrays.{poly, every-elements}
-use Rattle.poly.specs.Polynomials.{monic, someBelow}
+use Rattle.field.proofs.Arrays.{Elements, poly, every-elements}
+use Rattle.poly.specs.Polynomials.{monic, someBelow, hasSquare}
 use Rattle.euclid.specs.Euclid.{squareTest}
 use Rattle.euclid.proofs.Answers.{square-in-bounds}
 use Rattle.algebra.proofs.Factor.{Prime}
 use Rattle.factors.specs.Factors.{hasFactor}
-use Rattle.irreducible.specs.Factors.{factorTest}
 use Rattle.factors.proofs.FactorSearch.{hasFactor-prime, prime-hasFactor, square-factor}
+use Rattle.irreducible.specs.Answers.{factorTest}
+
+-- decided by whether g is prime
+pub factor-decided : (m : ℕ) (w : Width m) (g : List ℕ) → Elements m g → (b : Bool) → (b ≡ true → Prime (gf m w) (length g) (poly m (monic g)))
+    → (b ≡ false → ¬ Prime (gf m w) (length g) (poly m (monic g))) → not b ≡ hasFactor m g
+factor-decided m w g E true y n = sym (prime-hasFactor m w g E (y refl))
+factor-decided m w g E false y n = sym (found (hasFactor m g) refl)
+  where
+    found : (b : Bool) → hasFactor m g ≡ b → hasFactor m g ≡ true
+    found true f = f
+    found false f = absurd (n refl (hasFactor-prime m w g E f))
 
 below-none : (k : ℕ) (p : ℕ → Bool) → k ≡ 0 → someBelow k p ≡ false
 unfolding someBelow
@@ -43,21 +53,12 @@ module _ (m : ℕ) (g : List ℕ) where
       factor-in-bounds = rw (w, le-leb (length g) 128 h, e)
 
       -- the constant 1
-      none : length g ≡ 0 → hasFactor m g ≡ false
-      unfolding hasFactor
-      none z = below-none _ _ (omega arith)
-
       pub factor-empty : length g ≡ 0 → factorTest m g ≡ false
-      factor-empty z = factor-in-bounds ∙ none z
+      unfolding hasFactor
+      factor-empty z = factor-in-bounds ∙ below-none _ _ (omega arith)
+
+      pub square-none : squareTest m g ≡ false → hasSquare m g ≡ false
+      square-none s = sym (square-in-bounds m g w h e) ∙ s
 
       pub factor-square : squareTest m g ≡ true → factorTest m g ≡ true
       factor-square s = factor-in-bounds ∙ square-factor m w g (every-elements m g e) (sym (square-in-bounds m g w h e) ∙ s)
-
-      pub factor-decided : (b : Bool) → (b ≡ true → Prime (gf m w) (length g) (poly m (monic g))) → (b ≡ false → ¬ Prime (gf m w) (length g) (poly m (monic g)))
-          → not b ≡ factorTest m g
-      factor-decided true y n = sym (factor-in-bounds ∙ prime-hasFactor m w g (every-elements m g e) (y refl))
-      factor-decided false y n = sym (factor-in-bounds ∙ found (hasFactor m g) refl)
-        where
-          found : (b : Bool) → hasFactor m g ≡ b → hasFactor m g ≡ true
-          found true f = f
-          found false f = absurd (n refl (hasFactor-prime m w g (every-elements m g e) f))

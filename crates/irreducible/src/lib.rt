@@ -1,5 +1,8 @@
 // Whether a monic polynomial over GF(2^m) has a proper factor: Berlekamp's criterion.
 use field::Answer;
+use field::Verdict;
+use key::checks::check;
+use key::kept::Key;
 ghost use mathlib.Core.Path.{_≡_};
 ghost use mathlib.Core.Bool.{true, false};
 ghost use mathlib.Core.Logic.{_⊎_};
@@ -20,7 +23,14 @@ ghost use Rattle.poly.specs.Polynomials.{monic};
 ghost use Rattle.algebra.proofs.Goppa.{Separable};
 ghost use Rattle.algebra.proofs.Factor.{Prime};
 ghost use Rattle.irreducible.specs.Ready.{Powers, Shifted, Pivot, Cleared, Basis};
-ghost use Rattle.irreducible.specs.Factors.{factorTest};
+ghost use Rattle.bits.specs.Bits.{every};
+ghost use Rattle.field.specs.Field.{isElement};
+ghost use Rattle.field.specs.Numbers.{firstOf};
+ghost use Rattle.field.specs.Verdicts.{verdictOf};
+ghost use Rattle.poly.specs.Polynomials.{hasSquare};
+ghost use Rattle.factors.specs.Factors.{hasFactor};
+ghost use Rattle.key.specs.Kept.{kept, parts};
+ghost use Rattle.irreducible.specs.Answers.{factorTest, exchangeChecks};
 ghost use Rattle.irreducible.specs.Residues.{shifted, last, timesX, timesXs};
 
 // v where d's lowest digit is 1, else 0.
@@ -334,6 +344,17 @@ fn independent(m: u8, g: &[u16], rows: &mut [u16]) -> bool
     true
 }
 
+// Whether the monic polynomial with the lower coefficients g, which no square divides, has a proper factor.
+fn splits(m: u8, g: &[u16]) -> bool
+    requires { ⌜ (isWidth m ≡ true) × (0 < length (now g)) × (length (now g) ≤ 128) × (every (isElement m) (now g) ≡ true) × (hasSquare m (now g) ≡ false) ⌝ }
+    ensures { λ r. ⌜ r ≡ hasFactor m (now (g .entry)) ⌝ }
+{
+    let mut rows = [0u16; 16384];
+    powers(m, g, &mut rows);
+    add_unit(g.len(), &mut rows);
+    !independent(m, g, &mut rows)
+}
+
 // Whether the monic polynomial with the lower coefficients g has a factor of degree 1 to one less than its own; false where m is no
 // width, g has over 128 coefficients or one of them is no element.
 pub fn has_factor(m: u8, g: &[u16]) -> bool
@@ -354,8 +375,27 @@ pub fn has_factor(m: u8, g: &[u16]) -> bool
     if euclid::has_square(m, g) {
         return true;
     }
-    let mut rows = [0u16; 16384];
-    powers(m, g, &mut rows);
-    add_unit(g.len(), &mut rows);
-    !independent(m, g, &mut rows)
+    splits(m, g)
+}
+
+// Whether a kept key, lent by its parts, is an exchange key: 25 or 34 on refusal. No square divides g once 25 has passed.
+pub fn check_exchange<'a>(
+    m: u8,
+    n: u16,
+    t: u16,
+    support: &'a [u16; Key::MOST_PLACES],
+    g: &'a [u16; Key::MOST_ERRORS],
+) -> Verdict
+    ensures { λ r. ⌜ r ≡ verdictOf (firstOf (exchangeChecks (kept (parts m n t (now (support .entry)) (now (g .entry)))))) ⌝ }
+{
+    let x = check(m, n, t, support, g);
+    let Verdict::Accepted = x else {
+        return Verdict::Refused(25);
+    };
+    let h = &g[..];
+    let errors = t as usize;
+    if splits(m, &h[..errors]) {
+        return Verdict::Refused(34);
+    }
+    x
 }
