@@ -1,5 +1,5 @@
 -- The numbers of publish by the tests of the code, and its output. Assumes nothing.
-use mathlib.Core.Path.{_≡_, refl}
+use mathlib.Core.Path.{_≡_, refl, sym}
 use mathlib.Core.Bool.{Bool, true, false, not, cond}
 use mathlib.Core.List.{List, [], _∷_}
 use mathlib.Core.Option.{Option, none, some}
@@ -14,9 +14,10 @@ use Rattle.bits.specs.Bits.{bytesFor, over}
 use Rattle.field.specs.Numbers.{firstOf}
 use Rattle.field.proofs.Numbers.{numbered, first-clear, first-append}
 use Rattle.field.proofs.Table.{Width, width-narrow}
-use Rattle.key.specs.Keys.{Key, keyNumber, unsound}
+use Rattle.key.specs.Keys.{Key, keyNumber, unsound, reducible}
 use Rattle.key.proofs.Accepted.{accepted}
 use Rattle.key.proofs.Conditions.{first-take}
+use Rattle.irreducible.specs.Answers.{exchangeChecks}
 use Rattle.code.specs.PublicKey.{Matrix, publicKey, dependent, written}
 use Rattle.code.specs.Publish.{capsuleBits, workBytes, publishChecks, freeBytes, publishConditions, publishNumber, publishOutput}
 use Rattle.publishing.specs.Checks.{sizeChecks}
@@ -42,30 +43,38 @@ sizes k e =
     }
 
 module _ (k : Key) (out work : ℕ) where
-  pub check-key : (keyNumber k ≡ 0 → ⊥) → 25 ≡ firstOf (sizeChecks (unsound k) k out work)
-  unfolding sizeChecks firstOf unsound
-  check-key h = rw (ne-eqb (keyNumber k) 0 h)
+  -- 25, 34
+  pub check-key : (firstOf (exchangeChecks k) ≡ 0 → ⊥) → firstOf (exchangeChecks k) ≡ firstOf (sizeChecks (unsound k) k out work)
+  unfolding exchangeChecks sizeChecks
+  check-key h = first-take 2 (sizeChecks (unsound k) k out work) h
 
-  module _ (good : keyNumber k ≡ 0) where
+  module _ (z : firstOf (exchangeChecks k) ≡ 0) where
+    lengths : List (Bool × ℕ)
+    lengths = (ltb out (k .m * k .t * bytesFor (k .n - k .m * k .t)), 10) ∷ (ltb work (k .m * k .t * bytesFor (k .n)), 11) ∷ []
+
+    passed : firstOf lengths ≡ firstOf (sizeChecks (unsound k) k out work)
+    unfolding exchangeChecks sizeChecks numbered capsuleBits lengths
+    passed = sym (first-append (exchangeChecks k) lengths refl z)
+
     pub check-output : out < k .m * k .t * bytesFor (k .n - k .m * k .t) → 10 ≡ firstOf (sizeChecks (unsound k) k out work)
-    unfolding sizeChecks firstOf unsound capsuleBits
-    check-output h = rw (eq-eqb (keyNumber k) 0 good, lt-ltb out (k .m * k .t * bytesFor (k .n - k .m * k .t)) h)
+    unfolding firstOf lengths
+    check-output h = rw (← passed, lt-ltb out (k .m * k .t * bytesFor (k .n - k .m * k .t)) h)
 
     module _ (fits : k .m * k .t * bytesFor (k .n - k .m * k .t) ≤ out) where
       pub check-work : work < k .m * k .t * bytesFor (k .n) → 11 ≡ firstOf (sizeChecks (unsound k) k out work)
-      unfolding sizeChecks firstOf unsound capsuleBits
+      unfolding firstOf lengths
       check-work h =
           rw (
-            eq-eqb (keyNumber k) 0 good,
+            ← passed,
             le-ltb out (k .m * k .t * bytesFor (k .n - k .m * k .t)) fits,
             lt-ltb work (k .m * k .t * bytesFor (k .n)) h,
           )
 
       pub check-none : k .m * k .t * bytesFor (k .n) ≤ work → 0 ≡ firstOf (sizeChecks (unsound k) k out work)
-      unfolding sizeChecks firstOf unsound capsuleBits
+      unfolding firstOf lengths
       check-none h =
           rw (
-            eq-eqb (keyNumber k) 0 good,
+            ← passed,
             le-ltb out (k .m * k .t * bytesFor (k .n - k .m * k .t)) fits,
             le-ltb work (k .m * k .t * bytesFor (k .n)) h,
           )
@@ -75,17 +84,18 @@ module _ (k : Key) (out work : ℕ) where
       → (keyNumber k ≡ 0) × (k .m * k .t * bytesFor (k .n - k .m * k .t) ≤ out) × (k .m * k .t * bytesFor (k .n) ≤ work)
   unfolding sizeChecks unsound capsuleBits
   checks-clear e =
-      let c1 = first-clear (not (eqb (keyNumber k) 0)) 24 _ e in
-      let c2 = first-clear (ltb out (k .m * k .t * bytesFor (k .n - k .m * k .t))) 9 _ (c1 .1) in
-      let c3 = first-clear (ltb work (k .m * k .t * bytesFor (k .n))) 10 _ (c2 .1) in
-      (eqb-true (keyNumber k) 0 (not-false _ (c1 .0)), ltb-false out _ (c2 .0), ltb-false work _ (c3 .0))
+      let c25 = first-clear (not (eqb (keyNumber k) 0)) 24 _ e in
+      let c34 = first-clear (reducible k) 33 _ (c25 .1) in
+      let c10 = first-clear (ltb out (k .m * k .t * bytesFor (k .n - k .m * k .t))) 9 _ (c34 .1) in
+      let c11 = first-clear (ltb work (k .m * k .t * bytesFor (k .n))) 10 _ (c10 .1) in
+      (eqb-true (keyNumber k) 0 (not-false _ (c25 .0)), ltb-false out _ (c10 .0), ltb-false work _ (c11 .0))
 
 -- the number and the output of publish, where a check holds
 module _ (k : Key) (out work : List ℕ) where
   pub number-refused : (firstOf (sizeChecks (unsound k) k (length out) (length work)) ≡ 0 → ⊥)
       → firstOf (sizeChecks (unsound k) k (length out) (length work)) ≡ publishNumber k out work
   unfolding sizeChecks publishNumber publishConditions publishChecks
-  number-refused h = first-take 3 (publishConditions (unsound k) k out work) h
+  number-refused h = first-take 4 (publishConditions (unsound k) k out work) h
 
   pub output-refused : (publishNumber k out work ≡ 0 → ⊥) → out ≡ publishOutput k out work
   unfolding publishOutput

@@ -16,7 +16,7 @@ ghost use Rattle.code.specs.PublicKey.{publicKey, dependent, written};
 ghost use Rattle.code.specs.Publish.{workBytes, freeBytes, publishNumber, publishOutput};
 ghost use Rattle.publishing.specs.Checks.{sizeChecks};
 
-// Whether the key and the lengths are right: 25, 10 or 11 on refusal.
+// Whether the key and the lengths are right: 25, 34, 10 or 11 on refusal.
 fn check<'a>(
     m: u8,
     n: u16,
@@ -28,8 +28,9 @@ fn check<'a>(
 ) -> Verdict
     ensures { λ r. ⌜ r ≡ (let k = kept (parts m n t (now (support .entry)) (now (g .entry))) in verdictOf (firstOf (sizeChecks (unsound k) k out work))) ⌝ }
 {
-    let Verdict::Accepted = key::checks::check(m, n, t, support, g) else {
-        return Verdict::Refused(25);
+    let x = irreducible::check_exchange(m, n, t, support, g);
+    let Verdict::Accepted = x else {
+        return x;
     };
     let places = n as usize;
     let rows = (m as usize) * (t as usize);
@@ -39,7 +40,7 @@ fn check<'a>(
     if work < rows * bits::bytes_for(places) {
         return Verdict::Refused(11);
     }
-    Verdict::Accepted
+    x
 }
 
 // T from the start of out, made in work; 23 where there is none.

@@ -10,8 +10,9 @@ use Rattle.bits.specs.Bits.{bytesFor, unpack, fillerClear, wellFormed}
 use Rattle.bits.proofs.Pack.{well-formed}
 use Rattle.field.specs.Numbers.{firstOf}
 use Rattle.field.proofs.Numbers.{numbered, first-clear, first-append}
-use Rattle.key.specs.Keys.{Key, keyNumber, unsound}
+use Rattle.key.specs.Keys.{Key, keyNumber, unsound, reducible}
 use Rattle.key.proofs.Conditions.{first-take}
+use Rattle.irreducible.specs.Answers.{exchangeChecks}
 use Rattle.code.specs.Publish.{capsuleBits}
 use Rattle.decoder.specs.Reading.{reading, opening}
 use Rattle.decoder.specs.Calls.{isNone, openConditions, readConditions, openNumber, readNumber}
@@ -94,26 +95,30 @@ module _ (k : Key) where
   unfolding unsound
   sound-key e = eqb-true _ _ (not-false _ e)
 
--- 25, 24
+-- 25, 34, 24
 module _ (unpublished : Bool) (k : Key) where
-  pub key-unsound : (keyNumber k ≡ 0 → ⊥) → 25 ≡ firstOf (keyChecks unpublished k)
-  unfolding keyChecks firstOf
-  key-unsound h = rw (unsound-some k h)
+  pub exchange-refused : (firstOf (exchangeChecks k) ≡ 0 → ⊥) → firstOf (exchangeChecks k) ≡ firstOf (keyChecks unpublished k)
+  unfolding exchangeChecks keyChecks
+  exchange-refused h = first-take 2 (keyChecks unpublished k) h
 
-  module _ (z : keyNumber k ≡ 0) where
+  module _ (z : firstOf (exchangeChecks k) ≡ 0) where
+    exchange-passed : firstOf ((unpublished, 24) ∷ []) ≡ firstOf (keyChecks unpublished k)
+    unfolding exchangeChecks keyChecks numbered
+    exchange-passed = sym (first-append (exchangeChecks k) ((unpublished, 24) ∷ []) refl z)
+
     pub key-unpublished : unpublished ≡ true → 24 ≡ firstOf (keyChecks unpublished k)
-    unfolding keyChecks firstOf
-    key-unpublished p = rw (unsound-none k z, p)
+    unfolding firstOf
+    key-unpublished p = rw (← exchange-passed, p)
 
     pub key-right : unpublished ≡ false → 0 ≡ firstOf (keyChecks unpublished k)
-    unfolding keyChecks firstOf
-    key-right p = rw (unsound-none k z, p)
+    unfolding firstOf
+    key-right p = rw (← exchange-passed, p)
 
   -- with the conditions behind them
   module _ (cs : List (Bool × ℕ)) where
     pub key-refused : (firstOf (keyChecks unpublished k) ≡ 0 → ⊥) → firstOf (keyChecks unpublished k) ≡ firstOf (keyChecks unpublished k ++ cs)
     unfolding keyChecks
-    key-refused h = first-take 2 (keyChecks unpublished k ++ cs) h
+    key-refused h = first-take 3 (keyChecks unpublished k ++ cs) h
 
     pub key-passed : firstOf (keyChecks unpublished k) ≡ 0 → firstOf cs ≡ firstOf (keyChecks unpublished k ++ cs)
     unfolding keyChecks numbered
@@ -123,7 +128,8 @@ module _ (unpublished : Bool) (k : Key) where
     unfolding keyChecks
     key-first e =
         let c25 = first-clear (unsound k) 24 _ e in
-        (sound-key k (c25 .0), first-clear unpublished 23 _ (c25 .1) .1)
+        let c34 = first-clear (reducible k) 33 _ (c25 .1) in
+        (sound-key k (c25 .0), first-clear unpublished 23 _ (c34 .1) .1)
 
   pub key-clear : firstOf (keyChecks unpublished k) ≡ 0 → keyNumber k ≡ 0
   unfolding keyChecks
@@ -158,7 +164,7 @@ module _ (unpublished : Bool) (k : Key) (capsule out : List ℕ) where
   -- the number: that of the checks, or 13
   pub open-refused : {x : ℕ} → x ≡ firstOf (openChecks unpublished k capsule (length out)) → (x ≡ 0 → ⊥) → x ≡ openNumber unpublished k capsule out
   unfolding openNumber openConditions openChecks keyChecks rowChecks bufferChecks
-  open-refused e h = e ∙ first-take 5 (openConditions (unsound k) unpublished k capsule out) (λ z. h (e ∙ z))
+  open-refused e h = e ∙ first-take 6 (openConditions (unsound k) unpublished k capsule out) (λ z. h (e ∙ z))
 
   pub open-number : firstOf (openChecks unpublished k capsule (length out)) ≡ 0
       → openNumber unpublished k capsule out ≡ cond (isNone (opening k (unpack (capsuleBits k) capsule))) 13 0

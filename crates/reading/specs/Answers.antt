@@ -7,7 +7,7 @@ use lib.ListN.{length}
 use Rattle.bits.specs.Bits.{bytesFor, unpack, ones, fillerClear, rowWritten}
 use Rattle.field.specs.declared.Verdict.{Verdict}
 use Rattle.field.specs.declared.Verdict.the-variants as verdicts
-use Rattle.key.specs.Keys.{Key, unsound}
+use Rattle.key.specs.Keys.{Key, unsound, reducible}
 use Rattle.code.specs.Publish.{capsuleBits}
 use Rattle.decoder.specs.Reading.{reading, opening}
 use Rattle.decoder.specs.Calls.{found, openNumber, readNumber}
@@ -40,9 +40,9 @@ bufferChecks k n row len = rowChecks k row ++ ((ltb len (bytesFor n), 10) ∷ []
 unfoldable pub readChecks : Key → List ℕ → ℕ → List (Bool × ℕ)
 readChecks k word len = (unsound k, 25) ∷ bufferChecks (k .n) (k .n) word len
 
--- 25, 24
+-- 25, 34, 24
 unfoldable pub keyChecks : Bool → Key → List (Bool × ℕ)
-keyChecks unpublished k = (unsound k, 25) ∷ (unpublished, 24) ∷ []
+keyChecks unpublished k = (unsound k, 25) ∷ (reducible k, 34) ∷ (unpublished, 24) ∷ []
 
 -- and those of a capsule
 unfoldable pub openChecks : Bool → Key → List ℕ → ℕ → List (Bool × ℕ)

@@ -3,6 +3,7 @@ use decoding::Found;
 use decoding::decode;
 use decoding::nothing;
 use field::Verdict;
+use irreducible::check_exchange;
 use key::checks::check;
 use key::kept::Key;
 ghost use mathlib.Core.Path.{_≡_};
@@ -83,7 +84,7 @@ pub fn check_word<'a>(
     check_buffers(places, places, word, len)
 }
 
-// Whether capsules can be opened under a kept key: 25 or 24 on refusal.
+// Whether capsules can be opened under a kept key: 25, 34 or 24 on refusal.
 pub fn check_published<'a>(
     m: u8,
     n: u16,
@@ -94,9 +95,9 @@ pub fn check_published<'a>(
 ) -> Verdict
     ensures { λ r. ⌜ r ≡ verdictOf (firstOf (keyChecks (not published) (kept (parts m n t (now (support .entry)) (now (g .entry)))))) ⌝ }
 {
-    let x = check(m, n, t, support, g);
+    let x = check_exchange(m, n, t, support, g);
     let Verdict::Accepted = x else {
-        return Verdict::Refused(25);
+        return x;
     };
     if !published {
         return Verdict::Refused(24);
@@ -104,7 +105,7 @@ pub fn check_published<'a>(
     x
 }
 
-// Whether a capsule can be opened: 25, 24, 8, 9 or 10 on refusal.
+// Whether a capsule can be opened: 25, 34, 24, 8, 9 or 10 on refusal.
 fn check_capsule<'a>(
     m: u8,
     n: u16,
@@ -186,7 +187,8 @@ pub fn open_checked<'a>(
     e
 }
 
-// Opening a capsule: its pattern is written from the output's start, and nothing on refusal, with 25, 24, 8, 9, 10 or 13.
+// Opening a capsule: its pattern is written from the output's start, and nothing on refusal, with 25, 34, 24, 8, 9, 10
+// or 13.
 pub fn open<'a>(
     m: u8,
     n: u16,

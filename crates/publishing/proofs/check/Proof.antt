@@ -1,18 +1,19 @@
 -- The tests in order. Assumes nothing.
-use mathlib.Core.Path.{_≡_, ap}
+use mathlib.Core.Path.{_≡_, ap, _∙_}
 use Prim.Native.Nat.{_-_, _*_}
 use native.Mathlib.Omega.{arith}
 use borrow.Author.Needs.{needs}
-use Rattle.field.proofs.Verdicts.{refuses, accepts, verdict-accepted, verdict-refused}
-use Rattle.key.specs.Keys.{keyNumber}
+use Rattle.field.specs.Verdicts.{verdictOf}
+use Rattle.field.proofs.Verdicts.{refuses, verdict-accepted, verdict-refused}
 use Rattle.key.specs.Kept.{kept, parts}
+use Rattle.irreducible.proofs.Exchange.{exchange-clear}
 use Rattle.elimination.proofs.Sizes.{sizes-le}
 use Rattle.publishing.proofs.Checks.{Sizes, sizes, check-key, check-output, check-work, check-none}
 use Rattle.publishing.proofs.check.Statement.{statement}
 use Rattle.publishing.proofs.check.Tie as tie
 
-check-requires : tie.Need-check-requires
-check-requires c κs = tt
+check-exchange-requires : tie.Need-check-exchange-requires
+check-exchange-requires c κs = tt
 
 enum-told : tie.Need-enum-told
 enum-told c = search needs
@@ -21,7 +22,9 @@ enum-told-2 : tie.Need-enum-told-2
 enum-told-2 c = search needs
 
 returns : tie.Need-returns
-returns c = refuses (check-key _ _ _ (verdict-refused _ (c .before .before .check .ensures) (c .enum-told2 .given .1)))
+returns c =
+    let r = c .before .before .check-exchange .ensures in
+    r ∙ ap verdictOf (check-key _ _ _ (verdict-refused _ r (c .enum-told2 .given .1)))
 
 mul-rows : tie.Need-mul-rows
 unfolding kept
@@ -29,9 +32,9 @@ mul-rows c =
     let t = c in
     let a = t .before .before .before .args in
     let k = parts (a .m) (a .n) (a .t) (a .support .now) (a .g .now) in
-    let good : keyNumber (kept k) ≡ 0 = verdict-accepted _ (t .before .before .check .ensures) (t .enum-told .given .1) in
-    let z : Sizes (kept k) = sizes (kept k) good in
-    omega (arith, z .rows, z .columns)
+    let z = verdict-accepted _ (t .before .before .check-exchange .ensures) (t .enum-told .given .1) in
+    let s : Sizes (kept k) = sizes (kept k) (exchange-clear (kept k) z .0) in
+    omega (arith, s .rows, s .columns)
 
 sub-bytes-for : tie.Need-sub-bytes-for
 unfolding kept
@@ -39,9 +42,9 @@ sub-bytes-for c =
     let t = c in
     let a = t .before .before .before .args in
     let k = parts (a .m) (a .n) (a .t) (a .support .now) (a .g .now) in
-    let good : keyNumber (kept k) ≡ 0 = verdict-accepted _ (t .before .before .check .ensures) (t .enum-told .given .1) in
-    let z : Sizes (kept k) = sizes (kept k) good in
-    omega (arith, z .rows)
+    let z = verdict-accepted _ (t .before .before .check-exchange .ensures) (t .enum-told .given .1) in
+    let s : Sizes (kept k) = sizes (kept k) (exchange-clear (kept k) z .0) in
+    omega (arith, s .rows)
 
 bytes-for-requires : tie.Need-bytes-for-requires
 bytes-for-requires c κs = tt
@@ -52,9 +55,9 @@ mul-if1 c =
     let t = c .before in
     let a = t .before .before .before .args in
     let k = parts (a .m) (a .n) (a .t) (a .support .now) (a .g .now) in
-    let good : keyNumber (kept k) ≡ 0 = verdict-accepted _ (t .before .before .check .ensures) (t .enum-told .given .1) in
-    let z : Sizes (kept k) = sizes (kept k) good in
-    let e = sizes-le (k .m * k .t) (k .n - k .m * k .t) (c .bytes-for .result) (omega (arith, z .rows, z .columns)) (omega (arith, z .columns)) (c .bytes-for .ensures) in
+    let z = verdict-accepted _ (t .before .before .check-exchange .ensures) (t .enum-told .given .1) in
+    let s : Sizes (kept k) = sizes (kept k) (exchange-clear (kept k) z .0) in
+    let e = sizes-le (k .m * k .t) (k .n - k .m * k .t) (c .bytes-for .result) (omega (arith, s .rows, s .columns)) (omega (arith, s .columns)) (c .bytes-for .ensures) in
     omega arith
 
 returns-2 : tie.Need-returns-2
@@ -63,9 +66,9 @@ returns-2 c =
     let t = c .before .before in
     let a = t .before .before .before .args in
     let k = parts (a .m) (a .n) (a .t) (a .support .now) (a .g .now) in
-    let good : keyNumber (kept k) ≡ 0 = verdict-accepted _ (t .before .before .check .ensures) (t .enum-told .given .1) in
+    let z = verdict-accepted _ (t .before .before .check-exchange .ensures) (t .enum-told .given .1) in
     let e = ap (_*_ (k .m * k .t)) (c .before .bytes-for .ensures) in
-    refuses (check-output (kept k) _ _ good (omega arith))
+    refuses (check-output (kept k) _ _ z (omega arith))
 
 bytes-for-requires-2 : tie.Need-bytes-for-requires-2
 bytes-for-requires-2 c κs = tt
@@ -76,9 +79,9 @@ mul-if2 c =
     let t = c .before .before .before in
     let a = t .before .before .before .args in
     let k = parts (a .m) (a .n) (a .t) (a .support .now) (a .g .now) in
-    let good : keyNumber (kept k) ≡ 0 = verdict-accepted _ (t .before .before .check .ensures) (t .enum-told .given .1) in
-    let z : Sizes (kept k) = sizes (kept k) good in
-    let e = sizes-le (k .m * k .t) (k .n) (c .bytes-for2 .result) (omega (arith, z .rows, z .columns)) (z .columns) (c .bytes-for2 .ensures) in
+    let z = verdict-accepted _ (t .before .before .check-exchange .ensures) (t .enum-told .given .1) in
+    let s : Sizes (kept k) = sizes (kept k) (exchange-clear (kept k) z .0) in
+    let e = sizes-le (k .m * k .t) (k .n) (c .bytes-for2 .result) (omega (arith, s .rows, s .columns)) (s .columns) (c .bytes-for2 .ensures) in
     omega arith
 
 returns-3 : tie.Need-returns-3
@@ -87,10 +90,10 @@ returns-3 c =
     let t = c .before .before .before .before in
     let a = t .before .before .before .args in
     let k = parts (a .m) (a .n) (a .t) (a .support .now) (a .g .now) in
-    let good : keyNumber (kept k) ≡ 0 = verdict-accepted _ (t .before .before .check .ensures) (t .enum-told .given .1) in
+    let z = verdict-accepted _ (t .before .before .check-exchange .ensures) (t .enum-told .given .1) in
     let e = ap (_*_ (k .m * k .t)) (c .before .before .before .bytes-for .ensures) in
     let f = ap (_*_ (k .m * k .t)) (c .before .bytes-for2 .ensures) in
-    refuses (check-work (kept k) _ _ good (omega arith) (omega arith))
+    refuses (check-work (kept k) _ _ z (omega arith) (omega arith))
 
 returns-4 : tie.Need-returns-4
 unfolding kept
@@ -98,16 +101,17 @@ returns-4 c =
     let t = c .before .before .before .before in
     let a = t .before .before .before .args in
     let k = parts (a .m) (a .n) (a .t) (a .support .now) (a .g .now) in
-    let good : keyNumber (kept k) ≡ 0 = verdict-accepted _ (t .before .before .check .ensures) (t .enum-told .given .1) in
+    let r = t .before .before .check-exchange .ensures in
+    let z = verdict-accepted _ r (t .enum-told .given .1) in
     let e = ap (_*_ (k .m * k .t)) (c .before .before .before .bytes-for .ensures) in
     let f = ap (_*_ (k .m * k .t)) (c .before .bytes-for2 .ensures) in
-    accepts (check-none (kept k) _ _ good (omega arith) (omega arith))
+    r ∙ ap verdictOf (z ∙ check-none (kept k) _ _ z (omega arith) (omega arith))
 
 pub check-spec : {M : Type 1} → statement M
 check-spec =
     tie.close
     (tie.spec
-    check-requires
+    check-exchange-requires
     enum-told
     enum-told-2
     returns
