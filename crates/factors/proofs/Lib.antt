@@ -1,1 +1,2 @@
 pub mod FactorSearch
+pub mod Examples

@@ -243,13 +243,9 @@ remains =
     (frees (run step fresh (load (key-file K1) ∷ [])) (publish (systematic (zeros 4) (zeros 6))), free 4) ∷
     (frees (run step fresh (load (key-file K3) ∷ [])) (publish (systematic (zeros 4) (zeros 4))), free 4) ∷ []
 
--- A key with capsules of two bytes, published.
+-- A key with capsules of two bytes, published: of width 12, with g the unknown itself.
 unfoldable pub two-bytes : Station
-two-bytes =
-    record {
-      state = published;
-      key = record { m = 4; n = 13; t = 3; support = 11 ∷ 14 ∷ 15 ∷ 5 ∷ 1 ∷ 2 ∷ 6 ∷ 13 ∷ 3 ∷ 8 ∷ 4 ∷ 10 ∷ 9 ∷ []; g = 11 ∷ 7 ∷ 7 ∷ [] };
-    }
+two-bytes = record { state = published; key = record { m = 12; n = 13; t = 1; support = from 1 13; g = 0 ∷ [] } }
 
 -- Reports: of document 01's three capsules, and of none; of a capsule with filler set and a short tail; the counts, also on refusal.
 -- A refused session key has 32 zeros.
