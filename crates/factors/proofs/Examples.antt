@@ -9,20 +9,20 @@ use Rattle.field.specs.Field.{isWidth, modulusOf, polyMul, reduced, mulMod, mul
 use Rattle.poly.specs.Polynomials.{sum, same, monic, product, someBelow, someList}
 use Rattle.factors.specs.Factors.{hasFactor}
 
--- the lower coefficients of g, and whether it has a proper factor
-unfoldable pub factored : List (List ℕ × Bool)
-factored =
+-- g by its lower coefficients, and whether it has a proper factor
+unfoldable pub examples : List (List ℕ × Bool)
+examples =
+    -- of degree 0 and 1
     ([], false) ∷
     (0 ∷ [], false) ∷
     (13 ∷ [], false) ∷
+    -- x² + x + 8; (x + 4)·(x + 15); x²
     (8 ∷ 1 ∷ [], false) ∷
     (9 ∷ 11 ∷ [], true) ∷
-    (0 ∷ 0 ∷ [], true) ∷ []
+    (0 ∷ 0 ∷ [], true) ∷
+    -- (x + 15)·(x² + x + 8)
+    (1 ∷ 7 ∷ 14 ∷ [], true) ∷ []
 
-pub factored-hold : map (λ r. hasFactor 4 (r .0)) factored ≡ map (λ r. r .1) factored
-unfolding _⊕_ from isWidth modulusOf polyMul reduced mulMod mul sum same monic product someBelow someList hasFactor factored
-factored-hold = refl
-
-pub cubic-prime : hasFactor 4 (11 ∷ 7 ∷ 7 ∷ []) ≡ false
-unfolding _⊕_ from isWidth modulusOf polyMul reduced mulMod mul sum same monic product someBelow someList hasFactor
-cubic-prime = refl
+pub examples-hold : map (λ r. hasFactor 4 (r .0)) examples ≡ map (λ r. r .1) examples
+unfolding _⊕_ from isWidth modulusOf polyMul reduced mulMod mul sum same monic product someBelow someList hasFactor examples
+examples-hold = refl
