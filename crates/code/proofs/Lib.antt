@@ -7,3 +7,4 @@ pub mod LockLaws
 pub mod Parts
 pub mod Unique
 pub mod Dependence
+pub mod Exchange

@@ -1,1 +1,3 @@
 pub mod FactorSearch
+pub mod Divides
+pub mod Examples

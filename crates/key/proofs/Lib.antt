@@ -5,6 +5,7 @@ pub mod Positions
 pub mod Limits
 pub mod Parse
 pub mod Accepted
+pub mod Reducible
 pub mod Parts
 pub mod Goppa
 pub mod Units

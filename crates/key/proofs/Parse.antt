@@ -1,13 +1,15 @@
--- A key's file gives the key back, and the key of an accepted file is one that load accepts. Assumes nothing.
+-- A key's file gives the key back; the key of an accepted file is one that may be kept, and the file of such a key is accepted.
+-- Assumes nothing.
 use Prim.Native.Nat.{ℕ, suc, _+_, _*_, _/_, _%_, _<_}
 use mathlib.Core.Path.{_≡_, refl, sym, ap, ap₂, _∙_}
 use mathlib.Core.Bool.{Bool, false, not, _&&_}
 use mathlib.Core.List.{List, [], _∷_, _++_, flatMap, append-nil}
 use native.Mathlib.Omega.{arith}
-use lib.ListN.{length, getD}
-use borrow.Author.Tests.{eq-eqb}
+use lib.Dec.{eqb}
+use lib.ListN.{length, getD, length-append}
+use borrow.Author.Tests.{eqb-true, eq-eqb, not-false}
 use Rattle.bits.specs.Bits.{from}
-use Rattle.bits.proofs.Lists.{cons-eq, map-from, length-map-from}
+use Rattle.bits.proofs.Lists.{and-left, and-right, cons-eq, map-from, length-map-from}
 use Rattle.field.specs.Numbers.{firstOf}
 use Rattle.key.specs.Keys.{Key, pair, elements, parse, twoBytes, fileOf, conditions, fileConditions, keyNumber}
 use Rattle.field.proofs.Numbers.{first-clear}
@@ -120,3 +122,29 @@ accepted-key file e =
   where
     k : Key
     k = parse file
+
+-- a key's file has the length that its n and t say
+length-bytes : (xs : List ℕ) → length (flatMap twoBytes xs) ≡ 2 * length xs
+unfolding flatMap twoBytes
+length-bytes [] = refl
+length-bytes (x ∷ xs) = omega (arith, length-bytes xs)
+
+length-file : (k : Key) → length (fileOf k) ≡ 5 + 2 * length (k .support) + 2 * length (k .g)
+unfolding fileOf twoBytes
+length-file k =
+    omega (arith, length-append (flatMap twoBytes (k .support)) (k .t % 256 ∷ k .t / 256 ∷ flatMap twoBytes (k .g)), length-bytes (k .support), length-bytes (k .g))
+
+-- load accepts the file of a key that may be kept
+pub accepted-file : (k : Key) → keyNumber k ≡ 0 → (firstOf (fileConditions (fileOf k)) ≡ 0) × (parse (fileOf k) ≡ k)
+unfolding fileConditions keyNumber
+accepted-file k e =
+    let sizes = not-false _ (right-length _ k e) in
+    let a : length (k .support) ≡ k .n = eqb-true _ _ (and-left (eqb (length (k .support)) (k .n)) _ sizes) in
+    let b : length (k .g) ≡ k .t = eqb-true _ _ (and-right (eqb (length (k .support)) (k .n)) _ sizes) in
+    let back = parse-file k a b in
+    let size : length (fileOf k) ≡ 5 + 2 * k .n + 2 * k .t = omega (arith, length-file k) in (
+      ap (λ (x : Key). firstOf (conditions (not (eqb (length (fileOf k)) (5 + 2 * x .n + 2 * x .t))) x)) back
+          ∙ ap (λ (x : Bool). firstOf (conditions (not x) k)) (eq-eqb _ _ size)
+          ∙ ap (λ (x : Bool). firstOf (conditions x k)) (sym (right-length _ k e)) ∙ e,
+      back,
+    )

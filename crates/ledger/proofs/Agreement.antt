@@ -7,7 +7,7 @@ use mathlib.Core.Option.{Option, some}
 use native.Mathlib.Omega.{arith}
 use lib.Dec.{eqb}
 use Rattle.field.specs.Numbers.{firstOf}
-use Rattle.key.specs.Keys.{Key, keyNumber, unsound}
+use Rattle.key.specs.Keys.{Key, keyNumber, unsound, reducible}
 use Rattle.code.specs.PublicKey.{Matrix, publicKey}
 use Rattle.ledger.specs.Station.{State, loaded, published, Station, fresh, Held, isEmpty, isUnpublished, heldBy}
 use Rattle.ledger.specs.Calls.{Call, load, publish, ask, drop-key, conditionsOf, made, step, run, answered}
@@ -23,12 +23,12 @@ stationOf s k = record { state = s; key = k }
 abbrev pub ledgerOf : Option Key → Bool → Ledger
 ledgerOf k b = record { key = k; mark = b }
 
--- the station holds the ledger's key, one that load accepts, and is published where the ledger has the mark; the public key
--- exists then
+-- the station holds the ledger's key, one that load accepts, and is published where the ledger has the mark; the key is
+-- irreducible then and has a public key
 pub data Agree : Station → Ledger → Type 0 where
   nothing : Agree fresh blank
   held : {k : Key} → keyNumber k ≡ 0 → Agree (stationOf loaded k) (ledgerOf (some k) false)
-  marked : {k : Key} {rows : Matrix} → keyNumber k ≡ 0 → publicKey k ≡ some rows → Agree (stationOf published k) (ledgerOf (some k) true)
+  marked : {k : Key} {rows : Matrix} → keyNumber k ≡ 0 → reducible k ≡ false → publicKey k ≡ some rows → Agree (stationOf published k) (ledgerOf (some k) true)
 
 -- then 25 does not hold, and a call's number is the same by both
 pub sound-held : (s : State) (k : Key) → keyNumber k ≡ 0 → heldBy (stationOf s k) ≡ record { missing = isEmpty s; unsound = false; unpublished = isUnpublished s; key = k }
@@ -42,7 +42,7 @@ agree-number nothing (publish p) = refl
 agree-number nothing (ask q) = refl
 agree-number nothing drop-key = refl
 agree-number (held {k = k} h) c = ap (λ (x : Held). firstOf (conditionsOf x c)) (sound-held loaded k h)
-agree-number (marked {k = k} h p) c = ap (λ (x : Held). firstOf (conditionsOf x c)) (sound-held published k h)
+agree-number (marked {k = k} h r p) c = ap (λ (x : Held). firstOf (conditionsOf x c)) (sound-held published k h)
 
 -- they go on agreeing after an accepted call
 agree-accepted : {s : Station} {l : Ledger} → Agree s l → (c : Call) → ledgerNumber l c ≡ 0 → Agree (made s c .station) (entered l c)
@@ -52,13 +52,13 @@ agree-accepted nothing (publish p) e = absurd (omega arith)
 agree-accepted nothing (ask q) e = nothing
 agree-accepted nothing drop-key e = nothing
 agree-accepted (held h) (load f) e = absurd (omega arith)
-agree-accepted (held h) (publish p) e = marked h (publishing-public _ p e .public)
+agree-accepted (held h) (publish p) e = let q = publishing-public _ p e in marked h (q .irreducible) (q .public)
 agree-accepted (held h) (ask q) e = held h
 agree-accepted (held h) drop-key e = nothing
-agree-accepted (marked h p) (load f) e = absurd (omega arith)
-agree-accepted (marked h p) (publish q) e = marked h p
-agree-accepted (marked h p) (ask q) e = marked h p
-agree-accepted (marked h p) drop-key e = nothing
+agree-accepted (marked h r p) (load f) e = absurd (omega arith)
+agree-accepted (marked h r p) (publish q) e = marked h r p
+agree-accepted (marked h r p) (ask q) e = marked h r p
+agree-accepted (marked h r p) drop-key e = nothing
 
 -- and after any call, and any list of calls
 pub agree-step : {s : Station} {l : Ledger} → Agree s l → (c : Call) → Agree (step s c .station) (ledgerNext l c)
@@ -84,4 +84,4 @@ pub agree-key : {s : Station} {l : Ledger} → Agree s l → keyHeld s ≡ l .ke
 unfolding keyHeld fresh blank
 agree-key nothing = refl
 agree-key (held h) = refl
-agree-key (marked h p) = refl
+agree-key (marked h r p) = refl

@@ -50,7 +50,7 @@ module _ (k : Key) (word : List ℕ) where
       }
 
 module _ (sys : System) (sim : Simulates sys) where
-  reads : (k : Key) (s : sys .Stations) (word out : List ℕ) → keyHeld (sys .view s) ≡ some k → keyNumber k ≡ 0
+  pub reads : (k : Key) (s : sys .Stations) (word out : List ℕ) → keyHeld (sys .view s) ≡ some k → keyNumber k ≡ 0
       → wellFormed (k .n) word ≡ true → bytesFor (k .n) ≤ length out → Decides (Differs k word) 14 out (sys .call s (ask (read-word word out)))
   unfolding at
   reads k s word out h good formed long =

@@ -14,12 +14,13 @@ use Rattle.bits.proofs.Pack.{row-unpack, unpack-pack, take-over, pack-unpack, w
 use Rattle.bits.proofs.Ones.{weight-pack}
 use Rattle.field.specs.Numbers.{firstOf}
 use Rattle.field.proofs.Numbers.{first-clear}
-use Rattle.key.specs.Keys.{Key, keyNumber}
+use Rattle.key.specs.Keys.{Key, keyNumber, reducible}
 use Rattle.key.proofs.Accepted.{Accepted, accepted}
 use Rattle.code.specs.PublicKey.{Matrix, publicKey, dependent, written}
 use Rattle.code.specs.Lock.{locked}
 use Rattle.code.proofs.PublicKey.{row-capsule}
 use Rattle.code.proofs.LockLaws.{public-size, lock-written, lock-accepts}
+use Rattle.code.proofs.Exchange.{exchangeable}
 use Rattle.code.specs.Publish.{capsuleBits, publicBytes, workBytes, publishChecks, publishConditions, freeBytes}
 use Rattle.decoder.specs.Calls.{openConditions}
 use Rattle.ledger.specs.Station.{State, empty, loaded, published, Station, Held, isEmpty, heldBy, Result}
@@ -59,8 +60,7 @@ pub opened : (k : Key) (capsule out : List ℕ) → step (at published k) (ask (
 unfolding at heldBy conditionsOf questionConditions openConditions
 opened k capsule out e =
     let c21 = first-clear _ 20 _ (sym (step-number (at published k) (ask (open-capsule capsule out))) ∙ e) in
-    let c25 = first-clear _ 24 _ (c21 .1) in
-    let c24 = first-clear _ 23 _ (c25 .1) in
+    let c24 = first-clear _ 23 _ (exchangeable _ k _ (c21 .1) .rest) in
     let c8 = first-clear _ 7 _ (c24 .1) in
     let c9 = first-clear _ 8 _ (c8 .1) in
     let c10 = first-clear _ 9 _ (c9 .1) in (
@@ -68,61 +68,29 @@ opened k capsule out e =
       ltb-false _ _ (c10 .0),
     )
 
--- with a key, room and a public key none of publish's conditions holds
-publish-first : (a b c d : Bool) → a ≡ false → b ≡ false → c ≡ false → d ≡ false
-    → firstOf ((a, 21) ∷ (false, 25) ∷ (b, 10) ∷ (c, 11) ∷ (d, 23) ∷ []) ≡ 0
+-- with an irreducible key, room and a public key none of publish's conditions holds
+publish-first : (a b c d e : Bool) → a ≡ false → b ≡ false → c ≡ false → d ≡ false → e ≡ false
+    → firstOf ((a, 21) ∷ (false, 25) ∷ (b, 34) ∷ (c, 10) ∷ (d, 11) ∷ (e, 23) ∷ []) ≡ 0
 unfolding firstOf
-publish-first a b c d p q r s = rw (p, q, r, s)
+publish-first a b c d e p q r s t = rw (p, q, r, s, t)
 
-checks-first : (b c : Bool) → b ≡ false → c ≡ false → firstOf ((false, 25) ∷ (b, 10) ∷ (c, 11) ∷ []) ≡ 0
+checks-first : (b c d : Bool) → b ≡ false → c ≡ false → d ≡ false → firstOf ((false, 25) ∷ (b, 34) ∷ (c, 10) ∷ (d, 11) ∷ []) ≡ 0
 unfolding firstOf
-checks-first b c q r = rw (q, r)
+checks-first b c d q r s = rw (q, r, s)
 
 -- a key with a public key has independent columns
 independent : (k : Key) {rows : Matrix} → publicKey k ≡ some rows → dependent k ≡ false
 unfolding dependent
 independent k p = ap (λ (o : Option Matrix). elim o as (λ x. Bool) [ none ↦ true | some rows ↦ false ]) p
 
+-- a key with a public key
 module _ (k : Key) (rows : Matrix) (good : keyNumber k ≡ 0) (public : publicKey k ≡ some rows) where
-  opens : (capsule out : List ℕ) → wellFormed (capsuleBits k) capsule ≡ true → bytesFor (k .n) ≤ length out
-      → Decides (Locks k rows capsule) 13 out (step (at published k) (ask (open-capsule capsule out)))
-  unfolding at
-  opens = open-decides k good rows public
-
-  publish-accepted : (state : State) (out work : List ℕ) → isEmpty state ≡ false → publicBytes k ≤ length out → workBytes k ≤ length work
-      → publishResult state k out work .number ≡ 0
-  unfolding at conditionsOf publishingConditions publishChecks publishConditions
-  publish-accepted state out work h long room =
-      step-number (at state k) (publish (systematic out work))
-      ∙ ap (λ (x : Held). firstOf (conditionsOf x (publish (systematic out work)))) (sound-held state k good)
-      ∙ publish-first (isEmpty state) (ltb (length out) (publicBytes k)) (ltb (length work) (workBytes k)) (dependent k)
-      h (le-ltb _ _ long) (le-ltb _ _ room) (independent k public)
-
   publish-output : (state : State) (out work : List ℕ) → publishResult state k out work .number ≡ 0
       → publishResult state k out work .output ≡ over (flatMap pack rows) out
   unfolding at made publication written
   publish-output state out work e =
       ap (λ (r : Result). r .output) (step-made (at state k) (publish (systematic out work)) e)
       ∙ ap (λ (o : Option Matrix). over (written o) out) public
-
-  publish-frees : (state : State) (out work : List ℕ) → isEmpty state ≡ false → publicBytes k ≤ length out → workBytes k ≤ length work
-      → publishResult state k out work .free ≡ workBytes k
-  unfolding at made heldBy freedBytes freeBytes publishChecks
-  publish-frees state out work h long room =
-      step-free (at state k) (publish (systematic out work))
-      ∙ ap (λ (b : Bool). cond b 0 (freeBytes k out work)) h
-      ∙ ap (λ (b : Bool). cond (eqb (firstOf (publishChecks b k out work)) 0) (workBytes k) 0) (ap (λ (x : Held). x .unsound) (sound-held state k good))
-      ∙ ap (λ (n : ℕ). cond (eqb n 0) (workBytes k) 0)
-      (checks-first (ltb (length out) (publicBytes k)) (ltb (length work) (workBytes k)) (le-ltb _ _ long) (le-ltb _ _ room))
-
-  publishes : (state : State) (out work : List ℕ) → isEmpty state ≡ false → publicBytes k ≤ length out → workBytes k ≤ length work
-      → publishResult state k out work ≡ record { station = at published k; number = 0; output = over (flatMap pack rows) out; count = 0; answer = []; free = workBytes k }
-  unfolding at made
-  publishes state out work h long room =
-      let zero = publish-accepted state out work h long room in
-      let w = step-made (at state k) (publish (systematic out work)) zero in
-      outcome (ap (λ (r : Result). r .station) w) zero (publish-output state out work zero) (ap (λ (r : Result). r .count) w) (ap (λ (r : Result). r .answer) w)
-      (publish-frees state out work h long room)
 
   -- the public key begins what publish wrote
   public-begins : (state : State) (out work : List ℕ) → publishResult state k out work .number ≡ 0
@@ -143,6 +111,41 @@ module _ (k : Key) (rows : Matrix) (good : keyNumber k ≡ 0) (public : publicKe
   unfolding capsuleBits
   locks pattern buffer formed count room = lock-accepts k rows good public pattern buffer formed count room
 
+-- where it is irreducible too, publish accepts and open decides
+module _ (k : Key) (rows : Matrix) (good : keyNumber k ≡ 0) (irreducible : reducible k ≡ false) (public : publicKey k ≡ some rows) where
+  opens : (capsule out : List ℕ) → wellFormed (capsuleBits k) capsule ≡ true → bytesFor (k .n) ≤ length out
+      → Decides (Locks k rows capsule) 13 out (step (at published k) (ask (open-capsule capsule out)))
+  unfolding at
+  opens = open-decides k good irreducible rows public
+
+  publish-accepted : (state : State) (out work : List ℕ) → isEmpty state ≡ false → publicBytes k ≤ length out → workBytes k ≤ length work
+      → publishResult state k out work .number ≡ 0
+  unfolding at conditionsOf publishingConditions publishChecks publishConditions
+  publish-accepted state out work h long room =
+      step-number (at state k) (publish (systematic out work))
+      ∙ ap (λ (x : Held). firstOf (conditionsOf x (publish (systematic out work)))) (sound-held state k good)
+      ∙ publish-first (isEmpty state) (reducible k) (ltb (length out) (publicBytes k)) (ltb (length work) (workBytes k)) (dependent k)
+      h irreducible (le-ltb _ _ long) (le-ltb _ _ room) (independent k public)
+
+  publish-frees : (state : State) (out work : List ℕ) → isEmpty state ≡ false → publicBytes k ≤ length out → workBytes k ≤ length work
+      → publishResult state k out work .free ≡ workBytes k
+  unfolding at made heldBy freedBytes freeBytes publishChecks
+  publish-frees state out work h long room =
+      step-free (at state k) (publish (systematic out work))
+      ∙ ap (λ (b : Bool). cond b 0 (freeBytes k out work)) h
+      ∙ ap (λ (b : Bool). cond (eqb (firstOf (publishChecks b k out work)) 0) (workBytes k) 0) (ap (λ (x : Held). x .unsound) (sound-held state k good))
+      ∙ ap (λ (n : ℕ). cond (eqb n 0) (workBytes k) 0)
+      (checks-first (reducible k) (ltb (length out) (publicBytes k)) (ltb (length work) (workBytes k)) irreducible (le-ltb _ _ long) (le-ltb _ _ room))
+
+  publishes : (state : State) (out work : List ℕ) → isEmpty state ≡ false → publicBytes k ≤ length out → workBytes k ≤ length work
+      → publishResult state k out work ≡ record { station = at published k; number = 0; output = over (flatMap pack rows) out; count = 0; answer = []; free = workBytes k }
+  unfolding at made
+  publishes state out work h long room =
+      let zero = publish-accepted state out work h long room in
+      let w = step-made (at state k) (publish (systematic out work)) zero in
+      outcome (ap (λ (r : Result). r .station) w) zero (publish-output k rows good public state out work zero) (ap (λ (r : Result). r .count) w) (ap (λ (r : Result). r .answer) w)
+      (publish-frees state out work h long room)
+
   locked-opened : (pattern out : List ℕ) → Bytes pattern → wellFormed (k .n) pattern ≡ true → weight (k .n) pattern ≡ k .t
       → bytesFor (k .n) ≤ length out
       → openResult k (capsuleOf k rows pattern) out ≡ record { station = at published k; number = 0; output = over pattern out; count = k .t; answer = []; free = 0 }
@@ -150,7 +153,7 @@ module _ (k : Key) (rows : Matrix) (good : keyNumber k ≡ 0) (public : publicKe
   locked-opened pattern out bytes formed count long =
       let e : List ℕ = unpack (k .n) pattern in
       let r : Row (k .n) e = row-unpack (k .n) pattern in
-      let s : Row (capsuleBits k) (locked rows e) = capsule-row r in
+      let s : Row (capsuleBits k) (locked rows e) = capsule-row k rows good public r in
       let capsule : List ℕ = pack (locked rows e) in
       let locks : Locks k rows capsule e = record { row = r; weight = count; same = sym (unpack-pack s) } in
       let d = opens capsule out (well-formed-pack s) long in
@@ -181,7 +184,7 @@ module _ (k : Key) (rows : Matrix) (good : keyNumber k ≡ 0) (public : publicKe
       let f = finds capsule out zero in
       let r : Row (k .n) (f .e) = f .locks .row in
       ap (λ (b : List ℕ). lockAnswer k rows b buffer) (f .wrote)
-      ∙ locks (pack (f .e)) buffer (well-formed-pack r) (weight-pack r ∙ f .locks .weight) room
+      ∙ locks k rows good public (pack (f .e)) buffer (well-formed-pack r) (weight-pack r ∙ f .locks .weight) room
 
   opened-locked : (capsule out : List ℕ) → Bytes capsule → openResult k capsule out .number ≡ 0
       → capsuleOf k rows (patternIn k capsule out) ≡ capsule
@@ -195,16 +198,16 @@ module _ (k : Key) (rows : Matrix) (good : keyNumber k ≡ 0) (public : publicKe
 
 pub demand-2 : Demand2 definitions
 unfolding at
-demand-2 k rows good public =
+demand-2 k rows good irreducible public =
     record {
       publishes = λ s out work h long room. at-held (λ (x : Station). step x (publish (systematic out work)) ≡ record { station = record { state = published; key = x .key }; number = 0; output = over (flatMap pack rows) out; count = 0; answer = []; free = workBytes k }) s k h
-          (λ state e. publishes k rows good public state out work e long room);
+          (λ state e. publishes k rows good irreducible public state out work e long room);
       marks = λ s h. at-held (λ (x : Station). at published (x .key) ≡ at published k) s k h (λ state e. refl);
       public = λ s out work h. at-held (λ (x : Station). step x (publish (systematic out work)) .number ≡ 0 → take (publicBytes k) (step x (publish (systematic out work)) .output) ≡ flatMap pack rows) s k h
           (λ state e. public-begins k rows good public state out work);
       locks = locks k rows good public;
       locked-opened = λ s pattern out p bytes formed count long.
-          rw p (locked-opened k rows good public pattern out bytes formed count long);
-      opened-locks = λ s capsule out buffer p. rw p (opened-locks k rows good public capsule out buffer);
-      opened-locked = λ s capsule out p bytes. rw p (opened-locked k rows good public capsule out bytes);
+          rw p (locked-opened k rows good irreducible public pattern out bytes formed count long);
+      opened-locks = λ s capsule out buffer p. rw p (opened-locks k rows good irreducible public capsule out buffer);
+      opened-locked = λ s capsule out p bytes. rw p (opened-locked k rows good irreducible public capsule out bytes);
     }

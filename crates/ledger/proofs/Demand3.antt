@@ -11,7 +11,7 @@ use borrow.Author.Tests.{eq-eqb, le-ltb}
 use Rattle.bits.specs.Bits.{bytesFor, unpack, fillerClear, wellFormed}
 use Rattle.bits.proofs.Pack.{well-formed-length, well-formed-clear}
 use Rattle.field.specs.Numbers.{firstOf}
-use Rattle.key.specs.Keys.{Key, keyNumber}
+use Rattle.key.specs.Keys.{Key, keyNumber, reducible}
 use Rattle.code.specs.PublicKey.{Matrix, publicKey}
 use Rattle.decoder.specs.Reading.{reading, opening}
 use Rattle.code.specs.Publish.{capsuleBits}
@@ -61,10 +61,10 @@ read-first : (z a b c d : Bool) → z ≡ false → a ≡ true → b ≡ true �
 unfolding firstOf
 read-first z a b c d o p q r = rw (o, p, q, r)
 
-open-first : (a b c d : Bool) → a ≡ true → b ≡ true → c ≡ false
-    → firstOf ((false, 21) ∷ (false, 25) ∷ (false, 24) ∷ (not a, 8) ∷ (not b, 9) ∷ (c, 10) ∷ (d, 13) ∷ []) ≡ cond d 13 0
+open-first : (z a b c d : Bool) → z ≡ false → a ≡ true → b ≡ true → c ≡ false
+    → firstOf ((false, 21) ∷ (false, 25) ∷ (z, 34) ∷ (false, 24) ∷ (not a, 8) ∷ (not b, 9) ∷ (c, 10) ∷ (d, 13) ∷ []) ≡ cond d 13 0
 unfolding firstOf
-open-first a b c d p q r = rw (p, q, r)
+open-first z a b c d o p q r = rw (o, p, q, r)
 
 -- demand 3's words on reading a word, and on opening
 abbrev Reads : Station → Key → List ℕ → List ℕ → Type 0
@@ -75,7 +75,7 @@ Opens s k rows capsule out =
     wellFormed (capsuleBits k) capsule ≡ true → bytesFor (k .n) ≤ length out → Decides (Locks k rows capsule) 13 out (step s (ask (open-capsule capsule out)))
 
 abbrev OpensAll : Station → Key → Type 0
-OpensAll s k = (rows : Matrix) × (publicKey k ≡ some rows) × ((capsule out : List ℕ) → Opens s k rows capsule out)
+OpensAll s k = (reducible k ≡ false) × (rows : Matrix) × (publicKey k ≡ some rows) × ((capsule out : List ℕ) → Opens s k rows capsule out)
 
 module _ (k : Key) (good : keyNumber k ≡ 0) where
   pub read-decides : (st : State) → isEmpty st ≡ false → (word out : List ℕ) → Reads (stationOf st k) k word out
@@ -87,30 +87,30 @@ module _ (k : Key) (good : keyNumber k ≡ 0) where
       ∙ read-first _ (eqb (length word) (bytesFor (k .n))) (fillerClear (k .n) word) (ltb (length out) (bytesFor (k .n))) _
       h (eq-eqb _ _ (well-formed-length (k .n) word w)) (well-formed-clear (k .n) word w) (le-ltb _ _ long))
 
-  pub open-decides : (rows : Matrix) → publicKey k ≡ some rows → (capsule out : List ℕ) → Opens (stationOf published k) k rows capsule out
+  pub open-decides : reducible k ≡ false → (rows : Matrix) → publicKey k ≡ some rows → (capsule out : List ℕ) → Opens (stationOf published k) k rows capsule out
   unfolding conditionsOf questionConditions openConditions given isEmpty isUnpublished
-  open-decides rows public capsule out w long =
+  open-decides irreducible rows public capsule out w long =
       let s : List ℕ = unpack (capsuleBits k) capsule in
       found-decides (Locks k rows capsule) (opening k s) (opening-sound k good rows public capsule) (opening-complete k good rows public capsule)
       (one-opening k good rows public capsule) 12 (stationOf published k) (open-capsule capsule out) out refl
       (ap (λ (x : Held). firstOf (conditionsOf x (ask (open-capsule capsule out)))) (sound-held published k good)
-      ∙ open-first (eqb (length capsule) (bytesFor (capsuleBits k))) (fillerClear (capsuleBits k) capsule) (ltb (length out) (bytesFor (k .n))) _
-      (eq-eqb _ _ (well-formed-length (capsuleBits k) capsule w)) (well-formed-clear (capsuleBits k) capsule w) (le-ltb _ _ long))
+      ∙ open-first (reducible k) (eqb (length capsule) (bytesFor (capsuleBits k))) (fillerClear (capsuleBits k) capsule) (ltb (length out) (bytesFor (k .n))) _
+      irreducible (eq-eqb _ _ (well-formed-length (capsuleBits k) capsule w)) (well-formed-clear (capsuleBits k) capsule w) (le-ltb _ _ long))
 
 reading-after : {s : Station} {l : Ledger} → Agree s l → (k : Key) (word out : List ℕ) → l .key ≡ some k → Reads s k word out
 unfolding blank isEmpty
 reading-after nothing k word out e = differ (cc)
 reading-after (held {k = j} h) k word out e =
     let q : j ≡ k = cc in subst (λ (x : Key). Reads (stationOf loaded j) x word out) q (read-decides j h loaded refl word out)
-reading-after (marked {k = j} h p) k word out e =
+reading-after (marked {k = j} h r p) k word out e =
     let q : j ≡ k = cc in subst (λ (x : Key). Reads (stationOf published j) x word out) q (read-decides j h published refl word out)
 
 opening-after : {s : Station} {l : Ledger} → Agree s l → (k : Key) → l .key ≡ some k → l .mark ≡ true → OpensAll s k
 unfolding blank
 opening-after nothing k e m = differ (cc)
 opening-after (held h) k e m = differ (cc)
-opening-after (marked {k = j} {rows = rows} h p) k e m =
-    let q : j ≡ k = cc in subst (λ (x : Key). OpensAll (stationOf published j) x) q (rows, p, open-decides j h rows p)
+opening-after (marked {k = j} {rows = rows} h r p) k e m =
+    let q : j ≡ k = cc in subst (λ (x : Key). OpensAll (stationOf published j) x) q (r, rows, p, open-decides j h r rows p)
 
 pub after-every-list : AfterEveryList definitions
 after-every-list calls =

@@ -10,10 +10,11 @@ use lib.Dec.{eqb}
 use borrow.Author.Tests.{eqb-true}
 use Rattle.field.specs.Numbers.{firstOf}
 use Rattle.field.proofs.Numbers.{numbered, first-clear, first-append}
-use Rattle.key.specs.Keys.{Key, conditions, fileConditions, keyNumber, unsound}
+use Rattle.key.specs.Keys.{Key, conditions, fileConditions, keyNumber, unsound, reducible}
 use Rattle.key.proofs.Parse.{accepted-key}
 use Rattle.code.specs.PublicKey.{Matrix, publicKey, dependent}
 use Rattle.code.specs.Publish.{workBytes, publishChecks, publishConditions, freeBytes}
+use Rattle.code.proofs.Exchange.{exchangeable}
 use Rattle.decoder.specs.Calls.{openConditions, readConditions}
 use Rattle.records.specs.Records.{reportConditions}
 use Rattle.session.specs.Session.{sessionConditions}
@@ -47,15 +48,16 @@ public-rows k h = go (publicKey k) refl h
 
 pub record Public (h : Held) : Type 0 where
   pub sound : h .unsound ≡ false
+  pub irreducible : reducible (h .key) ≡ false
   pub rows : Matrix
   pub public : publicKey (h .key) ≡ some rows
 
 pub publishing-public : (h : Held) (p : Publishing) → firstOf (publishingConditions h p) ≡ 0 → Public h
 unfolding publishingConditions publishChecks publishConditions
 publishing-public h (systematic out work) e =
-    let c25 = first-clear _ 24 _ e in
-    let p = public-rows (h .key) (first-clear _ 22 _ (first-clear _ 10 _ (first-clear _ 9 _ (c25 .1) .1) .1) .0) in
-    record { sound = c25 .0; rows = p .0; public = p .1 }
+    let x = exchangeable (h .unsound) (h .key) _ e in
+    let p = public-rows (h .key) (first-clear _ 22 _ (first-clear _ 10 _ (first-clear _ 9 _ (x .rest) .1) .1) .0) in
+    record { sound = x .sound; irreducible = x .irreducible; rows = p .0; public = p .1 }
 
 -- questions
 pub question-numbered : (h : Held) (q : Question) → numbered (questionConditions h q) ≡ true

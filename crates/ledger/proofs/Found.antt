@@ -9,7 +9,7 @@ use borrow.Author.Tests.{not-false, eqb-true, ltb-false}
 use Rattle.bits.specs.Bits.{bytesFor, wellFormed}
 use Rattle.bits.proofs.Pack.{well-formed}
 use Rattle.field.proofs.Numbers.{first-clear}
-use Rattle.key.specs.Keys.{Key, keyNumber, unsound}
+use Rattle.key.specs.Keys.{Key, keyNumber, unsound, reducible}
 use Rattle.code.specs.PublicKey.{Matrix, publicKey}
 use Rattle.decoder.specs.Calls.{readConditions}
 use Rattle.ledger.specs.Station.{State, empty, loaded, published, Station, isEmpty, heldBy}
@@ -31,10 +31,11 @@ pub holds-key : (s : Station) → isEmpty (s .state) ≡ false → keyHeld s ≡
 unfolding at
 holds-key s h = holds (s .state) (s .key) h
 
--- publish: the key has a public key
+-- publish: the key is irreducible and has a public key
 pub record Publishes (s : Station) : Type 0 where
   pub held : keyHeld s ≡ some (s .key)
   pub good : keyNumber (s .key) ≡ 0
+  pub irreducible : reducible (s .key) ≡ false
   pub rows : Matrix
   pub public : publicKey (s .key) ≡ some rows
 
@@ -43,7 +44,7 @@ unfolding heldBy conditionsOf unsound
 publish-found s p e =
     let c21 = first-clear _ 20 _ (sym (step-number s (publish p)) ∙ e) in
     let q = publishing-public (heldBy s) p (c21 .1) in
-    record { held = holds-key s (c21 .0); good = eqb-true _ _ (not-false _ (q .sound)); rows = q .rows; public = q .public }
+    record { held = holds-key s (c21 .0); good = eqb-true _ _ (not-false _ (q .sound)); irreducible = q .irreducible; rows = q .rows; public = q .public }
 
 -- read
 pub record Reads (s : Station) (word out : List ℕ) : Type 0 where

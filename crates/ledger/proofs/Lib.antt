@@ -15,3 +15,4 @@ pub mod Loads
 pub mod OwnWords
 pub mod Reports
 pub mod Sessions
+pub mod Exchange

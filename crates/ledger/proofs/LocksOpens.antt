@@ -1,13 +1,14 @@
 -- Under the bytes that publish wrote, the calls lock and open undo each other. Assumes nothing.
 use Prim.Native.Nat.{ℕ}
 use mathlib.Core.Path.{_≡_, sym, ap, _∙_}
+use mathlib.Core.Bool.{false}
 use mathlib.Core.List.{List, flatMap}
 use mathlib.Core.Option.{some}
 use lib.ListN.{take}
 use Rattle.bits.specs.Bits.{bytesFor, pack, over}
 use Rattle.bits.proofs.Padded.{over-first}
 use Rattle.bits.proofs.Pack.{row-unpack, take-over, well-formed-length}
-use Rattle.key.specs.Keys.{Key, keyNumber}
+use Rattle.key.specs.Keys.{Key, keyNumber, reducible}
 use Rattle.code.specs.PublicKey.{Matrix, publicKey}
 use Rattle.code.specs.Publish.{capsuleBits}
 use Rattle.code.proofs.LockLaws.{lock-written, output-written, pattern-formed}
@@ -31,10 +32,10 @@ wrote k rows good public pattern buffer e =
     ∙ sym l
 
 module _ (sys : System) (sim : Simulates sys) where
-  undo : (k : Key) (rows : Matrix) → keyNumber k ≡ 0 → publicKey k ≡ some rows → (s : sys .Stations) → sys .view s ≡ at published k
+  undo : (k : Key) (rows : Matrix) → keyNumber k ≡ 0 → reducible k ≡ false → publicKey k ≡ some rows → (s : sys .Stations) → sys .view s ≡ at published k
       → Undo sys k (flatMap pack rows) s
-  undo k rows good public s v =
-      let d : RoundTrips sys k rows = demands sys sim .demand-2 k rows good public in
+  undo k rows good irreducible public s v =
+      let d : RoundTrips sys k rows = demands sys sim .demand-2 k rows good irreducible public in
       record {
         lock-open = λ pattern buffer out bytes e long.
             let f = pattern-formed (k .m) (k .n) (k .t) (flatMap pack rows) pattern buffer e in
@@ -55,5 +56,5 @@ module _ (sys : System) (sim : Simulates sys) where
   locks-and-opens p out work e =
       let f : Publishes (sys .view p) = publish-found (sys .view p) (systematic out work) (sym (same-number sys sim p (publish (systematic out work))) ∙ e) in
       let k : Key = sys .view p .key in
-      let w = demands sys sim .demand-2 k (f .rows) (f .good) (f .public) .public p out work (f .held) e in
-      (ap (sys .view) (sim .marks p (systematic out work) e) ∙ sim .marked p, λ s v. rw w (undo k (f .rows) (f .good) (f .public) s v))
+      let w = demands sys sim .demand-2 k (f .rows) (f .good) (f .irreducible) (f .public) .public p out work (f .held) e in
+      (ap (sys .view) (sim .marks p (systematic out work) e) ∙ sim .marked p, λ s v. rw w (undo k (f .rows) (f .good) (f .irreducible) (f .public) s v))

@@ -13,9 +13,10 @@ use Rattle.bits.proofs.Padded.{over-first, over-rest, over-at}
 use Rattle.bits.proofs.Pack.{well-formed, well-formed-length, well-formed-clear}
 use Rattle.field.specs.Numbers.{firstOf}
 use Rattle.field.proofs.Numbers.{first-clear}
-use Rattle.key.specs.Keys.{Key, keyNumber, unsound}
+use Rattle.key.specs.Keys.{Key, keyNumber, unsound, reducible}
 use Rattle.code.specs.PublicKey.{Matrix, publicKey}
 use Rattle.code.specs.Publish.{capsuleBits}
+use Rattle.code.proofs.Exchange.{exchangeable}
 use Rattle.decoder.specs.Reading.{opening}
 use Rattle.decoder.specs.Calls.{isNone, openConditions}
 use Rattle.records.specs.Records.{capsulesOf, capsuleConditions, recordOf, recordsOf, countsOf, total, reportConditions}
@@ -61,6 +62,7 @@ record Accepts (s : Station) (capsules records : List ℕ) : Type 0 where
   held : isEmpty (s .state) ≡ false
   sound : unsound (s .key) ≡ false
   good : keyNumber (s .key) ≡ 0
+  irreducible : reducible (s .key) ≡ false
   marked : isUnpublished (s .state) ≡ false
   room : length (capsulesOf (s .key) capsules) ≤ length records
   output : step s (ask (report capsules records)) .output ≡ over (recordsOf (s .key) capsules) records
@@ -70,14 +72,15 @@ report-accepts : (s : Station) (capsules records : List ℕ) → step s (ask (re
 unfolding heldBy conditionsOf questionConditions reportConditions made given unsound
 report-accepts s capsules records e =
     let c21 = first-clear _ 20 _ (sym (step-number s (ask (report capsules records))) ∙ e) in
-    let c25 = first-clear _ 24 _ (c21 .1) in
-    let c24 = first-clear _ 23 _ (c25 .1) in
+    let x = exchangeable _ (s .key) _ (c21 .1) in
+    let c24 = first-clear _ 23 _ (x .rest) in
     let c31 = first-clear _ 30 _ (c24 .1) in
     let m = step-made s (ask (report capsules records)) e in
     record {
       held = c21 .0;
-      sound = c25 .0;
-      good = eqb-true _ _ (not-false _ (c25 .0));
+      sound = x .sound;
+      good = eqb-true _ _ (not-false _ (x .sound));
+      irreducible = x .irreducible;
       marked = c24 .0;
       room = ltb-false _ _ (c31 .0);
       output = ap (λ (r : Result). r .output) m;
@@ -85,16 +88,16 @@ report-accepts s capsules records e =
     }
 
 -- with room for the pattern, open answers the record
-record-first : (a b c : Bool) (k : Key) (capsule out : List ℕ) → a ≡ false → b ≡ false → c ≡ false → bytesFor (k .n) ≤ length out
+record-first : (a b c : Bool) (k : Key) (capsule out : List ℕ) → a ≡ false → b ≡ false → c ≡ false → reducible k ≡ false → bytesFor (k .n) ≤ length out
     → firstOf ((a, 21) ∷ openConditions b c k capsule out) ≡ recordOf k capsule
 unfolding firstOf
-record-first a b c k capsule out p q r long = rw (p, q, r) (record-open k capsule out long)
+record-first a b c k capsule out p q r i long = rw (p, q, r) (record-open k capsule i out long)
 
 open-records : (s : Station) (capsules records capsule out : List ℕ) → Accepts s capsules records → bytesFor (s .key .n) ≤ length out
     → step s (ask (open-capsule capsule out)) .number ≡ recordOf (s .key) capsule
 unfolding heldBy conditionsOf questionConditions
 open-records s capsules records capsule out a long =
-    step-number s (ask (open-capsule capsule out)) ∙ record-first _ _ _ (s .key) capsule out (a .held) (a .sound) (a .marked) long
+    step-number s (ask (open-capsule capsule out)) ∙ record-first _ _ _ (s .key) capsule out (a .held) (a .sound) (a .marked) (a .irreducible) long
 
 module _ (sys : System) (sim : Simulates sys) where
   pub import-report : ImportReport sys

@@ -31,16 +31,17 @@ use Rattle.ledger.proofs.Patterns.{opening-sound, opening-complete, one
 use Rattle.ledger.proofs.Simulation.{Simulates, same-number, same-output, same-answer}
 
 -- the two lists of conditions: f that the output is short, o that there is no pattern, w that the secret is right
-listed : (a b c d e f o w : Bool) → f ≡ false
-    → firstOf ((a, 21) ∷ (b, 25) ∷ (c, 24) ∷ (d, 8) ∷ (e, 9) ∷ (not w, 33) ∷ [])
-    ≡ beside w (firstOf ((a, 21) ∷ (b, 25) ∷ (c, 24) ∷ (d, 8) ∷ (e, 9) ∷ (f, 10) ∷ (o, 13) ∷ []))
+listed : (a b r c d e f o w : Bool) → f ≡ false
+    → firstOf ((a, 21) ∷ (b, 25) ∷ (r, 34) ∷ (c, 24) ∷ (d, 8) ∷ (e, 9) ∷ (not w, 33) ∷ [])
+    ≡ beside w (firstOf ((a, 21) ∷ (b, 25) ∷ (r, 34) ∷ (c, 24) ∷ (d, 8) ∷ (e, 9) ∷ (f, 10) ∷ (o, 13) ∷ []))
 unfolding firstOf beside
-listed true b c d e f o w h = refl
-listed false true c d e f o w h = refl
-listed false false true d e f o w h = refl
-listed false false false true e f o w h = refl
-listed false false false false true f o w h = refl
-listed false false false false false f o w h = rw h (last o w)
+listed true b r c d e f o w h = refl
+listed false true r c d e f o w h = refl
+listed false false true c d e f o w h = refl
+listed false false false true d e f o w h = refl
+listed false false false false true e f o w h = refl
+listed false false false false false true f o w h = refl
+listed false false false false false false f o w h = rw h (last o w)
   where
     last : (o w : Bool) → cond (not w) 33 0 ≡ beside w (cond o 13 0)
     last true true = refl
@@ -49,15 +50,16 @@ listed false false false false false f o w h = rw h (last o w)
     last false false = refl
 
 -- where session's are clear, open's number is by the pattern alone
-clear : (a b c d e f o w : Bool) → f ≡ false → firstOf ((a, 21) ∷ (b, 25) ∷ (c, 24) ∷ (d, 8) ∷ (e, 9) ∷ (not w, 33) ∷ []) ≡ 0
-    → firstOf ((a, 21) ∷ (b, 25) ∷ (c, 24) ∷ (d, 8) ∷ (e, 9) ∷ (f, 10) ∷ (o, 13) ∷ []) ≡ cond o 13 0
+clear : (a b r c d e f o w : Bool) → f ≡ false → firstOf ((a, 21) ∷ (b, 25) ∷ (r, 34) ∷ (c, 24) ∷ (d, 8) ∷ (e, 9) ∷ (not w, 33) ∷ []) ≡ 0
+    → firstOf ((a, 21) ∷ (b, 25) ∷ (r, 34) ∷ (c, 24) ∷ (d, 8) ∷ (e, 9) ∷ (f, 10) ∷ (o, 13) ∷ []) ≡ cond o 13 0
 unfolding firstOf
-clear true b c d e f o w h z = absurd (omega arith)
-clear false true c d e f o w h z = absurd (omega arith)
-clear false false true d e f o w h z = absurd (omega arith)
-clear false false false true e f o w h z = absurd (omega arith)
-clear false false false false true f o w h z = absurd (omega arith)
-clear false false false false false f o w h z = rw h refl
+clear true b r c d e f o w h z = absurd (omega arith)
+clear false true r c d e f o w h z = absurd (omega arith)
+clear false false true c d e f o w h z = absurd (omega arith)
+clear false false false true d e f o w h z = absurd (omega arith)
+clear false false false false true e f o w h z = absurd (omega arith)
+clear false false false false false true f o w h z = absurd (omega arith)
+clear false false false false false false f o w h z = rw h refl
 
 -- an accepted call of the definitions: the key, and its sound station
 module _ (s : Station) (capsule secret : List ℕ) (z : step s (ask (session-key capsule secret)) .number ≡ 0) where
@@ -96,7 +98,7 @@ module _ (s : Station) (capsule secret out : List ℕ) (room : bytesFor (s .key 
   unfolding heldBy conditionsOf questionConditions sessionConditions openConditions
   session-number =
       step-number s (ask (session-key capsule secret))
-      ∙ listed _ _ _ _ _ _ (isNone (opening (s .key) (unpack (capsuleBits (s .key)) capsule))) (wellFormed (s .key .n) secret) long
+      ∙ listed _ _ _ _ _ _ _ (isNone (opening (s .key) (unpack (capsuleBits (s .key)) capsule))) (wellFormed (s .key .n) secret) long
       ∙ ap (beside (wellFormed (s .key .n) secret)) (sym (step-number s (ask (open-capsule capsule out))))
 
   -- by what opening gives
@@ -105,7 +107,7 @@ module _ (s : Station) (capsule secret out : List ℕ) (room : bytesFor (s .key 
     unfolding heldBy conditionsOf questionConditions sessionConditions openConditions
     open-number =
         step-number s (ask (open-capsule capsule out))
-        ∙ clear _ _ _ _ _ _ (isNone (opening (s .key) (unpack (capsuleBits (s .key)) capsule))) (wellFormed (s .key .n) secret) long
+        ∙ clear _ _ _ _ _ _ _ (isNone (opening (s .key) (unpack (capsuleBits (s .key)) capsule))) (wellFormed (s .key .n) secret) long
         (sym (step-number s (ask (session-key capsule secret))) ∙ z)
         ∙ ap (λ (p : Option (List ℕ)). cond (isNone p) 13 0) h
 

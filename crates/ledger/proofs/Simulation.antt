@@ -120,8 +120,8 @@ module _ (sys : System) (sim : Simulates sys) where
       }
 
   demand-2 : Demand2 sys
-  demand-2 k rows good public =
-      let d : RoundTrips definitions k rows = Definitions2.demand-2 k rows good public in
+  demand-2 k rows good irreducible public =
+      let d : RoundTrips definitions k rows = Definitions2.demand-2 k rows good irreducible public in
       record {
         publishes = λ s out work h long room.
             let e = d .publishes (sys .view s) out work h long room in
@@ -150,7 +150,7 @@ module _ (sys : System) (sim : Simulates sys) where
       record {
         key = a .key;
         numbers = same-answered (sys .fresh) calls ∙ ap (λ (t : Station). answered step t calls) (sim .fresh) ∙ a .numbers;
-        opening = λ k e m. let o = a .opening k e m in (o .0, o .1, λ capsule out w long. decides s (ask (open-capsule capsule out)) _ _ out (o .2 capsule out w long));
+        opening = λ k e m. let o = a .opening k e m in (o .0, o .1, o .2, λ capsule out w long. decides s (ask (open-capsule capsule out)) _ _ out (o .3 capsule out w long));
         reading = λ k word out e w long. decides s (ask (read-word word out)) _ _ out (a .reading k word out e w long);
       }
 

@@ -12,8 +12,9 @@ use Rattle.field.specs.Numbers.{firstOf}
 use Rattle.field.specs.Field.{isWidth, isElement, modulusOf, polyMul, reduced, mulMod, mul, power, lastBelow, inv}
 use Rattle.field.specs.Poly.{value}
 use Rattle.poly.specs.Polynomials.{sum, same, monic, product, someBelow, someList, hasSquare}
+use Rattle.factors.specs.Factors.{hasFactor}
 use Rattle.key.specs.Shapes.{inLimits}
-use Rattle.key.specs.Keys.{Key, pair, elements, parse, twoBytes, fileOf, distinct, goppaAt, conditions, fileConditions, keyNumber, unsound}
+use Rattle.key.specs.Keys.{Key, pair, elements, parse, twoBytes, fileOf, distinct, goppaAt, conditions, fileConditions, keyNumber, unsound, reducible}
 use Rattle.key.specs.Bench.{K1, K2, K1-with, K3}
 use Rattle.code.specs.Code.{entry, inCode, parityRow, parityRows}
 use Rattle.code.specs.PublicKey.{withRow, findPivot, clear, withPivot, columns, echelon, publicKey, dependent, written}
@@ -124,7 +125,18 @@ running =
 unfoldable pub bad : State → Station
 bad s = record { state = s; key = parse (K1-with (1 ∷ 14 ∷ 9 ∷ 13 ∷ 15 ∷ 15 ∷ [])) }
 
--- which of two numbers comes first, in document 01's order of the calls
+-- a key file that load accepts, with g = (x + 4)·(x + 15)
+unfoldable pub factored-file : List ℕ
+factored-file = file 9 2 (12 ∷ 3 ∷ 8 ∷ 9 ∷ 1 ∷ 14 ∷ 6 ∷ 0 ∷ 13 ∷ []) (9 ∷ 11 ∷ [])
+
+-- a station with its key, and one with a key of the same g that load does not accept: the last element stands twice
+unfoldable pub factored : State → Station
+factored s = record { state = s; key = parse factored-file }
+
+unfoldable pub bad-factored : State → Station
+bad-factored s = record { state = s; key = parse (file 9 2 (12 ∷ 3 ∷ 8 ∷ 9 ∷ 1 ∷ 14 ∷ 6 ∷ 0 ∷ 0 ∷ []) (9 ∷ 11 ∷ [])) }
+
+-- which of two numbers comes first, in the documents' order of the calls; load and read have no 34
 unfoldable pub orders : List (Asked × Answer)
 orders =
     -- load 22, 1, 2, 3, 4, 5, 6, 7
@@ -139,17 +151,27 @@ orders =
     (after [] (load (key-file (file 6 1 (1 ∷ from 1 5) (16 ∷ [])))), refused 4) ∷
     (after [] (load (key-file (file 9 2 (2 ∷ from 2 8) (1 ∷ 0 ∷ [])))), refused 5) ∷
     (after [] (load (key-file (file 9 2 (from 0 9) (1 ∷ 0 ∷ [])))), refused 6) ∷
-    -- publish 21, 25, 10, 11, 23
+    (after [] (load (key-file factored-file)), accepted [] 0) ∷
+    -- publish 21, 25, 34, 10, 11, 23
     (after [] (publish (systematic [] [])), refused 21) ∷
     (on (bad empty) (publish (systematic (zeros 4) (zeros 4))), refused 21) ∷
     (on (bad loaded) (publish (systematic [] [])), refused 25) ∷
     (on (bad loaded) (publish (systematic (zeros 4) (zeros 4))), refused 25) ∷
+    (on (factored empty) (publish (systematic [] [])), refused 21) ∷
+    (on (bad-factored loaded) (publish (systematic [] [])), refused 25) ∷
+    (after (load (key-file factored-file) ∷ []) (publish (systematic [] [])), refused 34) ∷
+    (after (load (key-file factored-file) ∷ []) (publish (systematic (zeros 8) (zeros 16))), refused 34) ∷
+    (on (factored published) (publish (systematic (zeros 8) [])), refused 34) ∷
     (after (load (key-file K3) ∷ []) (publish (systematic (zeros 3) (zeros 3))), refused 10) ∷
     (after (load (key-file K3) ∷ []) (publish (systematic (zeros 4) (zeros 3))), refused 11) ∷
-    -- open 21, 25, 24, 8, 9, 10, 13
+    -- open 21, 25, 34, 24, 8, 9, 10, 13
     (after [] (ask (open-capsule [] [])), refused 21) ∷
     (on (bad loaded) (ask (open-capsule [] [])), refused 25) ∷
     (on (bad published) (ask (open-capsule (0x13 ∷ []) [])), refused 25) ∷
+    (on (bad-factored published) (ask (open-capsule [] [])), refused 25) ∷
+    (after (load (key-file factored-file) ∷ []) (ask (open-capsule [] [])), refused 34) ∷
+    (on (factored published) (ask (open-capsule [] [])), refused 34) ∷
+    (on (factored published) (ask (open-capsule (0x00 ∷ []) (zeros 2))), refused 34) ∷
     (after (load (key-file K1) ∷ []) (ask (open-capsule [] [])), refused 24) ∷
     (after published-K1 (ask (open-capsule (0x13 ∷ 0x00 ∷ []) [])), refused 8) ∷
     (after published-K1 (ask (open-capsule (0x13 ∷ []) [])), refused 9) ∷
@@ -157,20 +179,32 @@ orders =
     -- read 21, 25, 8, 9, 10, 14
     (after [] (ask (read-word [] [])), refused 21) ∷
     (on (bad loaded) (ask (read-word (0xFF ∷ []) [])), refused 25) ∷
+    (on (bad-factored loaded) (ask (read-word [] [])), refused 25) ∷
+    (after (load (key-file factored-file) ∷ []) (ask (read-word [] [])), refused 8) ∷
+    (on (factored published) (ask (read-word (0x81 ∷ 0x00 ∷ []) (zeros 2))), accepted (0x81 ∷ 0x00 ∷ []) 2) ∷
     (after (load (key-file K1) ∷ []) (ask (read-word (0xFF ∷ 0x00 ∷ []) [])), refused 8) ∷
     (after (load (key-file K1) ∷ []) (ask (read-word (0xFF ∷ []) [])), refused 9) ∷
     (after (load (key-file K1) ∷ []) (ask (read-word (0x06 ∷ []) [])), refused 10) ∷
-    -- report 21, 25, 24, 31
+    -- report 21, 25, 34, 24, 31
     (after [] (ask (report (0x03 ∷ []) [])), refused 21) ∷
     (on (bad loaded) (ask (report (0x03 ∷ []) [])), refused 25) ∷
+    (on (bad-factored published) (ask (report [] [])), refused 25) ∷
+    (after (load (key-file factored-file) ∷ []) (ask (report (0x03 ∷ []) [])), refused 34) ∷
+    (on (factored published) (ask (report (0x03 ∷ []) [])), refused 34) ∷
+    (on (factored published) (ask (report [] [])), refused 34) ∷
     (after (load (key-file K1) ∷ []) (ask (report (0x03 ∷ []) [])), refused 24) ∷
     (after published-K1 (ask (report (0x03 ∷ []) [])), refused 31) ∷
     (after published-K1 (ask (report (0x03 ∷ 0x00 ∷ 0x13 ∷ []) (9 ∷ 9 ∷ []))), refused 31) ∷
     (after published-K1 (ask (report [] [])), accepted [] 0) ∷
-    -- session key 21, 25, 24, 8, 9, 33
+    -- session key 21, 25, 34, 24, 8, 9, 33
     (after [] (ask (session-key [] [])), refused 21) ∷
     (on (bad loaded) (ask (session-key [] [])), refused 25) ∷
     (on (bad published) (ask (session-key (0x13 ∷ []) [])), refused 25) ∷
+    (on (bad-factored published) (ask (session-key [] [])), refused 25) ∷
+    (after (load (key-file factored-file) ∷ []) (ask (session-key [] [])), refused 34) ∷
+    (on (factored published) (ask (session-key [] [])), refused 34) ∷
+    (on (factored published) (ask (session-key (0x00 ∷ []) (zeros 1))), refused 34) ∷
+    (on (factored published) (ask (session-key (0x00 ∷ []) (zeros 2))), refused 34) ∷
     (after (load (key-file K1) ∷ []) (ask (session-key [] [])), refused 24) ∷
     (after published-K1 (ask (session-key (0x13 ∷ 0x00 ∷ []) [])), refused 8) ∷
     (after published-K1 (ask (session-key (0x13 ∷ []) [])), refused 9) ∷
@@ -181,6 +215,7 @@ orders =
     -- drop 21
     (after [] drop-key, refused 21) ∷
     (on (bad published) drop-key, accepted [] 0) ∷
+    (on (factored loaded) drop-key, accepted [] 0) ∷
     -- lock 1, 3, 8, 9, 12, 10
     (lock-shape 5 0 0 [] [] [], refused 1) ∷
     (lock-shape 4 4 1 [] [] [], refused 3) ∷
@@ -202,18 +237,15 @@ remains =
     (after (published-K1 ++ (drop-key ∷ load (key-file K1) ∷ [])) (ask (open-capsule (0x03 ∷ []) (zeros 1))), refused 24) ∷
     (frees fresh (publish (systematic (zeros 4) (zeros 4))), free 0) ∷
     (frees (bad loaded) (publish (systematic (zeros 4) (zeros 4))), free 0) ∷
+    (frees (factored loaded) (publish (systematic (zeros 8) (zeros 16))), free 0) ∷
     (frees (run step fresh (load (key-file K1) ∷ [])) (publish (systematic (zeros 3) (zeros 4))), free 0) ∷
     (frees (run step fresh (load (key-file K1) ∷ [])) (publish (systematic (zeros 4) (zeros 3))), free 0) ∷
     (frees (run step fresh (load (key-file K1) ∷ [])) (publish (systematic (zeros 4) (zeros 6))), free 4) ∷
     (frees (run step fresh (load (key-file K3) ∷ [])) (publish (systematic (zeros 4) (zeros 4))), free 4) ∷ []
 
--- A key with capsules of two bytes, published.
+-- A key with capsules of two bytes, published: of width 12, with g the unknown itself.
 unfoldable pub two-bytes : Station
-two-bytes =
-    record {
-      state = published;
-      key = record { m = 4; n = 13; t = 3; support = 11 ∷ 14 ∷ 15 ∷ 5 ∷ 1 ∷ 2 ∷ 6 ∷ 13 ∷ 3 ∷ 8 ∷ 4 ∷ 10 ∷ 9 ∷ []; g = 11 ∷ 7 ∷ 7 ∷ [] };
-    }
+two-bytes = record { state = published; key = record { m = 12; n = 13; t = 1; support = from 1 13; g = 0 ∷ [] } }
 
 -- Reports: of document 01's three capsules, and of none; of a capsule with filler set and a short tail; the counts, also on refusal.
 -- A refused session key has 32 zeros.
@@ -229,7 +261,7 @@ reports =
     (on two-bytes (ask (report (0x00 ∷ 0x10 ∷ 0x00 ∷ []) (7 ∷ []))), refused 31) ∷
     (counts two-bytes (ask (report (0x00 ∷ 0x10 ∷ 0x00 ∷ []) (zeros 2))), numbers 256 (0 ∷ 1 ∷ 1 ∷ 0 ∷ [])) ∷ []
 
--- A list of calls with each call's answer; its first key has the element 0.
+-- A list of calls with each call's answer; the first key that is published has the element 0.
 unfoldable pub answers : Station → List Call → List Answer
 answers s [] = []
 answers s (c ∷ cs) = answerOf (step s c) ∷ answers (step s c .station) cs
@@ -240,6 +272,13 @@ story =
     (drop-key, refused 21) ∷
     (ask (read-word [] (zeros 2)), refused 21) ∷
     (ask (open-capsule (0x35 ∷ []) (zeros 2)), refused 21) ∷
+    (load (key-file factored-file), accepted [] 0) ∷
+    (publish (systematic (zeros 8) (zeros 16)), refused 34) ∷
+    (ask (open-capsule (0x35 ∷ []) (zeros 2)), refused 34) ∷
+    (ask (read-word (0x81 ∷ 0x00 ∷ []) (zeros 2)), accepted (0x81 ∷ 0x00 ∷ []) 2) ∷
+    (ask (report (0x35 ∷ []) (zeros 1)), refused 34) ∷
+    (ask (session-key (0x35 ∷ []) (zeros 2)), refused 34) ∷
+    (drop-key, accepted [] 0) ∷
     (load (key-file (file 6 1 (7 ∷ 2 ∷ 1 ∷ 11 ∷ 4 ∷ 0 ∷ []) (13 ∷ []))), accepted [] 0) ∷
     (publish (systematic (zeros 3) (zeros 3)), refused 10) ∷
     (publish (systematic (zeros 4) (zeros 3)), refused 11) ∷
@@ -268,12 +307,12 @@ calls = map (λ r. r .0) story
 abbrev pub Story : Type 0
 Story =
     (answers fresh calls ≡ map (λ r. r .1) story) ×
-    (expected blank calls ≡ 21 ∷ 21 ∷ 21 ∷ 21 ∷ 0 ∷ 10 ∷ 11 ∷ 0 ∷ 0 ∷ 10 ∷ 0 ∷ 14 ∷ 0 ∷ 13 ∷ 31 ∷ 0 ∷ 33 ∷ 0 ∷ 0 ∷ 0 ∷ 24 ∷ 24 ∷ 24 ∷ 0 ∷ []) ×
+    (expected blank calls ≡ 21 ∷ 21 ∷ 21 ∷ 21 ∷ 0 ∷ 34 ∷ 34 ∷ 0 ∷ 34 ∷ 34 ∷ 0 ∷ 0 ∷ 10 ∷ 11 ∷ 0 ∷ 0 ∷ 10 ∷ 0 ∷ 14 ∷ 0 ∷ 13 ∷ 31 ∷ 0 ∷ 33 ∷ 0 ∷ 0 ∷ 0 ∷ 24 ∷ 24 ∷ 24 ∷ 0 ∷ []) ×
     (ledgerAfter blank calls ≡ record { key = some (parse K1); mark = true })
 
 -- one computation for all tables
 tables-hold : Holds rows × Holds running × Holds orders × Holds remains × Holds reports × Story
-unfolding _⊕_ from every bytesFor bitAt unpack number pack ones weight fillerClear wellFormed eachWith xorRow dot firstOf isWidth isElement modulusOf polyMul reduced mulMod mul power lastBelow inv value sum same monic product someBelow someList hasSquare inLimits pair elements parse twoBytes fileOf distinct goppaAt conditions fileConditions keyNumber K1 K2 K1-with K3 entry inCode parityRow parityRows withRow findPivot clear withPivot columns echelon publicKey dependent written locked rowOf rowsOf lockNumber lock orElse firstRow corrects reading filled exactly opening unsound emptyKey fresh isEmpty isUnpublished heldBy capsuleBits found isNone publishChecks publishConditions freeBytes openConditions readConditions cut capsulesOf capsuleConditions recordOf recordsOf occurrences countsOf reportConditions sessionConditions loadingConditions loadedKey publicBuffer publishingConditions publication freedBytes answerBuffer questionConditions gives given answerSize over conditionsOf outputOf noAnswer made unless step run blank heldIn ledgerNumber entered fed ledgerAfter expected answerBy answerOf lockAnswer countsIn answer zeros file published-K1 published-1 rows running bad orders remains two-bytes reports answers story calls flatMap zipWith
+unfolding _⊕_ from every bytesFor bitAt unpack number pack ones weight fillerClear wellFormed eachWith xorRow dot firstOf isWidth isElement modulusOf polyMul reduced mulMod mul power lastBelow inv value sum same monic product someBelow someList hasSquare hasFactor inLimits pair elements parse twoBytes fileOf distinct goppaAt conditions fileConditions keyNumber reducible K1 K2 K1-with K3 entry inCode parityRow parityRows withRow findPivot clear withPivot columns echelon publicKey dependent written locked rowOf rowsOf lockNumber lock orElse firstRow corrects reading filled exactly opening unsound emptyKey fresh isEmpty isUnpublished heldBy capsuleBits found isNone publishChecks publishConditions freeBytes openConditions readConditions cut capsulesOf capsuleConditions recordOf recordsOf occurrences countsOf reportConditions sessionConditions loadingConditions loadedKey publicBuffer publishingConditions publication freedBytes answerBuffer questionConditions gives given answerSize over conditionsOf outputOf noAnswer made unless step run blank heldIn ledgerNumber entered fed ledgerAfter expected answerBy answerOf lockAnswer countsIn answer zeros file published-K1 published-1 rows running factored-file factored bad-factored bad orders remains two-bytes reports answers story calls flatMap zipWith
 tables-hold = (refl, refl, refl, refl, refl, (refl, refl, refl))
 
 pub rows-hold : Holds rows

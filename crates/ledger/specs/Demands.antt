@@ -3,13 +3,13 @@
 use Prim.Native.Nat.{ℕ, suc, _≤_}
 use mathlib.Core.Path.{_≡_}
 use mathlib.Core.Logic.{_↔_, _⊎_}
-use mathlib.Core.Bool.{true}
+use mathlib.Core.Bool.{true, false}
 use mathlib.Core.List.{List, [], flatMap}
 use mathlib.Core.Option.{Option, none, some}
 use lib.ListN.{length, take}
 use Rattle.bits.specs.Bits.{Bytes, Row, bytesFor, unpack, pack, ones, weight, wellFormed, xorRow, over}
 use Rattle.field.specs.Numbers.{First, Clear}
-use Rattle.key.specs.Keys.{Key, keyNumber}
+use Rattle.key.specs.Keys.{Key, keyNumber, reducible}
 use Rattle.code.specs.Code.{inCode}
 use Rattle.code.specs.PublicKey.{Matrix, publicKey}
 use Rattle.code.specs.Lock.{locked, lockNumber, lock}
@@ -75,7 +75,7 @@ module _ (sys : System) where
   abbrev pub patternOf : Key → sys .Stations → List ℕ → List ℕ → List ℕ
   patternOf k s capsule out = take (bytesFor (k .n)) (sys .call s (ask (open-capsule capsule out)) .output)
 
-  -- Demand 2, for stations with an accepted key and its public key T: publish with room writes T, loaded or published, and marks
+  -- Demand 2, for stations with an exchange key and its public key T: publish with room writes T, loaded or published, and marks
   -- the station; where it is published, lock then open gives the pattern back, and open then lock the capsule, byte for byte.
   pub record RoundTrips (k : Key) (rows : Matrix) : Type 0 where
     pub publishes : (s : sys .Stations) (out work : List ℕ) → keyHeld (sys .view s) ≡ some k → publicBytes k ≤ length out → workBytes k ≤ length work
@@ -98,15 +98,16 @@ module _ (sys : System) where
         → Bytes capsule → sys .call s (ask (open-capsule capsule out)) .number ≡ 0
         → capsuleOf k rows (patternOf k s capsule out) ≡ capsule
 
-  -- for every key that load accepts and that has a public key
+  -- for every key that load accepts, whose g has no proper factor and that has a public key
   abbrev pub Demand2 : Type 0
-  Demand2 = (k : Key) (rows : Matrix) → keyNumber k ≡ 0 → publicKey k ≡ some rows → RoundTrips k rows
+  Demand2 = (k : Key) (rows : Matrix) → keyNumber k ≡ 0 → reducible k ≡ false → publicKey k ≡ some rows → RoundTrips k rows
 
-  -- Demand 3, after one list of calls: the key, each call's number, and any open or read made next.
+  -- Demand 3, after one list of calls: the key, each call's number, and any open or read made next. A published key's g has no
+  -- proper factor.
   pub record After (calls : List Call) (s : sys .Stations) (l : Ledger) : Type 0 where
     pub key : keyHeld (sys .view s) ≡ l .key
     pub numbers : answered (sys .call) (sys .fresh) calls ≡ expected blank calls
-    pub opening : (k : Key) → l .key ≡ some k → l .mark ≡ true → (rows : Matrix) × (publicKey k ≡ some rows) × ((capsule out : List ℕ)
+    pub opening : (k : Key) → l .key ≡ some k → l .mark ≡ true → (reducible k ≡ false) × (rows : Matrix) × (publicKey k ≡ some rows) × ((capsule out : List ℕ)
         → wellFormed (capsuleBits k) capsule ≡ true → bytesFor (k .n) ≤ length out
         → Decides (Locks k rows capsule) 13 out (sys .call s (ask (open-capsule capsule out))))
     pub reading : (k : Key) (word out : List ℕ) → l .key ≡ some k

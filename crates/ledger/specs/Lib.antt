@@ -9,3 +9,4 @@ pub mod Demands
 pub mod OwnWords
 pub mod Reports
 pub mod Sessions
+pub mod Exchange

@@ -29,7 +29,7 @@ module _ (sys : System) where
   openOf s capsule out = sys .call s (ask (open-capsule capsule out))
 
   pub record Derives (s : sys .Stations) (capsule secret out : List ℕ) : Type 0 where
-    -- 21, 25, 24, 8 and 9 as open has them, then 33
+    -- 21, 25, 34, 24, 8 and 9 as open has them, then 33
     pub number : sessionOf s capsule secret .number ≡ beside (wellFormed (sys .view s .key .n) secret) (openOf s capsule out .number)
     -- a capsule that opens: of the byte 1, the pattern that open writes and the capsule
     pub opened : sessionOf s capsule secret .number ≡ 0 → openOf s capsule out .number ≡ 0

@@ -11,7 +11,7 @@ use lib.ListN.{length, getD, take, drop, length-map}
 use Rattle.bits.specs.Bits.{Bytes, bytesFor, unpack, fillerClear}
 use Rattle.field.specs.Numbers.{firstOf}
 use Rattle.field.proofs.Table.{width-pos}
-use Rattle.key.specs.Keys.{Key, keyNumber}
+use Rattle.key.specs.Keys.{Key, keyNumber, reducible}
 use Rattle.key.proofs.Accepted.{Accepted, accepted}
 use Rattle.code.specs.Publish.{capsuleBits}
 use Rattle.decoder.specs.Reading.{opening}
@@ -51,10 +51,10 @@ module _ (k : Key) (capsule : List ℕ) where
       go (inr (inr (inl e))) = omega arith
       go (inr (inr (inr e))) = omega arith
 
-  -- what opening answers for it under an accepted key that is published, with room for the pattern
-  pub record-open : (out : List ℕ) → bytesFor (k .n) ≤ length out → firstOf (openConditions false false k capsule out) ≡ recordOf k capsule
+  -- what opening answers for it under an irreducible key that is accepted and published, with room for the pattern
+  pub record-open : reducible k ≡ false → (out : List ℕ) → bytesFor (k .n) ≤ length out → firstOf (openConditions false false k capsule out) ≡ recordOf k capsule
   unfolding recordOf capsuleConditions openConditions firstOf
-  record-open out h = rw (le-ltb (length out) (bytesFor (k .n)) h)
+  record-open r out h = rw (r, le-ltb (length out) (bytesFor (k .n)) h)
 
   -- 8 for another length, as that of a short tail
   pub record-length : (length capsule ≡ bytesFor (capsuleBits k) → ⊥) → recordOf k capsule ≡ 8

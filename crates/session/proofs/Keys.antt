@@ -10,8 +10,9 @@ use Rattle.bits.specs.Bits.{Row, unpack, pack, wellFormed}
 use Rattle.bits.proofs.Pack.{well-formed}
 use Rattle.field.specs.Numbers.{firstOf}
 use Rattle.field.proofs.Numbers.{first-clear}
-use Rattle.key.specs.Keys.{Key}
+use Rattle.key.specs.Keys.{Key, reducible}
 use Rattle.code.specs.Publish.{capsuleBits}
+use Rattle.code.proofs.Exchange.{exchangeable}
 use Rattle.decoder.specs.Reading.{reading, filled, opening}
 use Rattle.decoder.specs.Calls.{openConditions}
 use Rattle.decoder.proofs.Sanity.{reading-sound}
@@ -39,15 +40,16 @@ pub opening-row : (k : Key) (s e : List ℕ) → opening k s ≡ some e → Row 
 unfolding opening
 opening-row k s e h = reading-sound k (filled (k .n) s) e (exactly-some (k .t) (reading k (filled (k .n) s)) e h .0) .bits
 
--- 25, 24, 8, 9 as open has them
+-- 25, 34, 24, 8, 9 as open has them
 pub conditions-alike : (bad unpublished : Bool) (k : Key) (capsule secret out : List ℕ)
-    → take 4 (sessionConditions bad unpublished k capsule secret) ≡ take 4 (openConditions bad unpublished k capsule out)
+    → take 5 (sessionConditions bad unpublished k capsule secret) ≡ take 5 (openConditions bad unpublished k capsule out)
 unfolding sessionConditions openConditions
 conditions-alike bad unpublished k capsule secret out = refl
 
 -- where no condition holds
 pub record Derivable (bad unpublished : Bool) (k : Key) (capsule secret : List ℕ) : Type 0 where
   pub sound : bad ≡ false
+  pub irreducible : reducible k ≡ false
   pub published : unpublished ≡ false
   pub capsule-right : wellFormed (capsuleBits k) capsule ≡ true
   pub secret-right : wellFormed (k .n) secret ≡ true
@@ -56,13 +58,14 @@ pub derivable : (bad unpublished : Bool) (k : Key) (capsule secret : List ℕ) �
     → Derivable bad unpublished k capsule secret
 unfolding sessionConditions
 derivable bad unpublished k capsule secret e =
-    let c25 = first-clear _ 24 _ e in
-    let c24 = first-clear _ 23 _ (c25 .1) in
+    let x = exchangeable bad k _ e in
+    let c24 = first-clear _ 23 _ (x .rest) in
     let c8 = first-clear _ 7 _ (c24 .1) in
     let c9 = first-clear _ 8 _ (c8 .1) in
     let c33 = first-clear _ 32 _ (c9 .1) in
     record {
-      sound = c25 .0;
+      sound = x .sound;
+      irreducible = x .irreducible;
       published = c24 .0;
       capsule-right = well-formed (capsuleBits k) capsule (eqb-true _ _ (not-false _ (c8 .0))) (not-false _ (c9 .0));
       secret-right = not-false _ (c33 .0);
