@@ -4,7 +4,7 @@ use mathlib.Core.Path.{_≡_, refl, sym, ap, _∙_}
 use mathlib.Core.Logic.{_↔_}
 use mathlib.Core.Bool.{Bool, true, false}
 use mathlib.Core.List.{List}
-use Prim.Native.Nat.{ℕ, zero, suc, _+_, _-_, _^_, _≤_, _<_}
+use Prim.Native.Nat.{ℕ, suc, _-_, _≤_, _<_}
 use native.Mathlib.Omega.{arith}
 use lib.Pow.{pow-pos}
 use lib.ListN.{length, getD}
@@ -12,7 +12,7 @@ use Rattle.algebra.proofs.Factor.{div}
 use Rattle.field.proofs.Table.{Width}
 use Rattle.field.proofs.Gf.{gf, val-inj, val-zero}
 use Rattle.field.proofs.Arrays.{Elements, every-elements, elements-every, poly, poly-below}
-use Rattle.poly.specs.Polynomials.{monic, product, someBelow}
+use Rattle.poly.specs.Polynomials.{monic, someBelow}
 use Rattle.poly.proofs.Laws.{same-eq, length-product}
 use Rattle.poly.proofs.Product.{length-monic, monic-lead, monic-elements, product-poly}
 use Rattle.poly.proofs.SquareSearch.{some-below, some-list}

@@ -9,12 +9,10 @@ use native.Mathlib.Omega.{arith}
 use lib.Pow.{pow-pos}
 use lib.ListN.{length}
 use Rattle.algebra.proofs.Ring.{ring}
-use Rattle.algebra.proofs.Series as S
-use Rattle.algebra.proofs.Series.{Series, Operations, operations, C-at}
-use Rattle.algebra.proofs.Poly.{Below, Poly, Monic, poly-mul, poly-C, monic-mul}
+use Rattle.algebra.proofs.Series.{Series, Operations, operations}
+use Rattle.algebra.proofs.Poly.{Poly, Monic, poly-mul, poly-C, monic-mul}
 use Rattle.algebra.proofs.Euclid.{Degree, monic-scaled, scaled-back}
 use Rattle.algebra.proofs.Goppa.{Separable}
-use Rattle.algebra.proofs.Squarefree.{Square}
 use Rattle.field.proofs.Table.{Width}
 use Rattle.field.proofs.Gf.{Elem, inverse, gf, laws, one-not-zero}
 use Rattle.field.proofs.Arrays.{Elements, poly, array, length-array, array-elements, poly-below, poly-inj}
@@ -22,7 +20,7 @@ use Rattle.poly.specs.Polynomials.{same, monic, product, someList, hasSquare}
 use Rattle.poly.proofs.Laws.{same-eq, eq-same, length-product}
 use Rattle.poly.proofs.Product.{length-monic, monic-elements, product-elements, poly-monic, monic-poly, product-poly}
 use Rattle.poly.proofs.SquareSearch.{some-below, below-some, some-list, list-some, monic-quotient, hasSquare-square, hasSquare-separable}
-use Rattle.algebra.proofs.Factor.{Div, div, Prime}
+use Rattle.algebra.proofs.Factor.{div, Prime}
 use Rattle.factors.specs.Factors.{hasFactor}
 
 module _ (m : ℕ) (W : Width m) (g : List ℕ) (E : Elements m g) where

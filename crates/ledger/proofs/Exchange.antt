@@ -7,7 +7,6 @@ use mathlib.Core.Option.{none, some}
 use native.Mathlib.Nat.{mul-pos}
 use native.Mathlib.Omega.{arith}
 use lib.Dec.{eqb, ltb}
-use lib.ListN.{length}
 use borrow.Author.Tests.{eqb-false, lt-ltb, not-true}
 use Rattle.bits.proofs.Lists.{and-left, and-right}
 use Rattle.field.specs.Numbers.{firstOf}
@@ -26,8 +25,8 @@ use Rattle.ledger.specs.Station.{State, empty, loaded, published, Statio
 use Rattle.ledger.specs.Loading.{key-file, loadingConditions, loadedKey}
 use Rattle.ledger.specs.Publishing.{systematic, publicBuffer, publishingConditions}
 use Rattle.ledger.specs.Questions.{open-capsule, read-word, report, session-key, questionConditions}
-use Rattle.ledger.specs.Calls.{Call, load, publish, ask, drop-key, conditionsOf, outputOf, noAnswer, step, run}
-use Rattle.ledger.specs.Ledger.{Ledger, blank, ledgerAfter}
+use Rattle.ledger.specs.Calls.{Call, load, publish, ask, drop-key, conditionsOf, outputOf, noAnswer, step}
+use Rattle.ledger.specs.Ledger.{Ledger, blank}
 use Rattle.ledger.specs.Systems.{System, definitions}
 use Rattle.ledger.specs.Demands.{at, keyHeld}
 use Rattle.ledger.specs.Exchange.{opens, exchanges, ExchangeKeys}
