@@ -17,7 +17,7 @@ use Rattle.reading.specs.Answers.{keyChecks}
 use Rattle.reading.proofs.Refusals.{key-refused, key-passed, key-first}
 use Rattle.records.specs.Records.{capsulesOf, reportConditions}
 
--- 31 behind 25 and 24
+-- 31 behind 25, 34 and 24
 module _ (unpublished : Bool) (k : Key) (capsules : List ℕ) (len : ℕ) where
   pub report-refused : (firstOf (keyChecks unpublished k) ≡ 0 → ⊥) → firstOf (keyChecks unpublished k) ≡ firstOf (reportConditions (unsound k) unpublished k capsules len)
   unfolding reportConditions keyChecks

@@ -37,7 +37,7 @@ pub fn capsule_count(len: usize, c: usize) -> usize
     len / c + 1
 }
 
-// Whether a buffer of capsules can be reported in len bytes: 25, 24 or 31 on refusal.
+// Whether a buffer of capsules can be reported in len bytes: 25, 34, 24 or 31 on refusal.
 fn check_report<'a>(
     m: u8,
     n: u16,
@@ -146,7 +146,7 @@ fn count(records: &[u8]) -> [usize; 256]
 }
 
 // The report of a buffer of capsules: a record for each from the record buffer's start on, and the counts of the byte values in
-// them. Nothing is written on refusal, with 25, 24 or 31.
+// them. Nothing is written on refusal, with 25, 34, 24 or 31.
 pub fn report<'a>(
     m: u8,
     n: u16,

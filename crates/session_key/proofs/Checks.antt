@@ -40,7 +40,7 @@ module _ (unpublished : Bool) (k : Key) (capsule secret : List ℕ) where
   buffer-checks : List (Bool × ℕ)
   buffer-checks = rowChecks (capsuleBits k) capsule ++ secret-check
 
-  -- 25, 24
+  -- 25, 34, 24
   pub key-number : (firstOf (keyChecks unpublished k) ≡ 0 → ⊥) → firstOf (keyChecks unpublished k) ≡ sessionNumber unpublished k capsule secret
   unfolding sessionNumber sessionConditions keyChecks rowChecks buffer-checks secret-check
   key-number h = key-refused unpublished k buffer-checks h

@@ -22,7 +22,7 @@ pub struct SessionKey {
     pub key: [u8; 32],
 }
 
-// Whether a session key can be derived: 25, 24, 8, 9 or 33 on refusal.
+// Whether a session key can be derived: 25, 34, 24, 8, 9 or 33 on refusal.
 fn check_session<'a>(
     m: u8,
     n: u16,
@@ -103,7 +103,7 @@ fn refuse(number: u8) -> SessionKey
     }
 }
 
-// The session key of a capsule, with the secret for one that gives 13; 25, 24, 8, 9 or 33 on refusal. No refusal comes from
+// The session key of a capsule, with the secret for one that gives 13; 25, 34, 24, 8, 9 or 33 on refusal. No refusal comes from
 // `open_checked` (`opening-not-refused`).
 pub fn session<'a>(
     m: u8,

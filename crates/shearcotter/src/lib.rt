@@ -115,8 +115,8 @@ pub extern "C" fn shearcotter_load(own: Station, file: &[u8]) -> Reply
     loaded
 }
 
-// T is written from the output's start, made in the first m·t × ceil(n/8) bytes of work; 21, 25, 10, 11 or 23 on refusal. All
-// other bytes of work keep their contents, and these too under 21, 25, 10 and 11.
+// T is written from the output's start, made in the first m·t × ceil(n/8) bytes of work; 21, 25, 34, 10, 11 or 23 on refusal.
+// All other bytes of work keep their contents, and these too under 21, 25, 34, 10 and 11.
 #[no_mangle]
 pub extern "C" fn shearcotter_publish(own: Station, out: &mut [u8], work: &mut [u8]) -> Reply
     ensures reply { λ r. ⌜ r ≡ handed own (publish (systematic (now (out .entry)) (now (work .entry)))) .reply ⌝ }
@@ -135,7 +135,7 @@ pub extern "C" fn shearcotter_publish(own: Station, out: &mut [u8], work: &mut [
     }
 }
 
-// The pattern of a capsule is written from the output's start; 21, 25, 24, 8, 9, 10 or 13 on refusal.
+// The pattern of a capsule is written from the output's start; 21, 25, 34, 24, 8, 9, 10 or 13 on refusal.
 #[no_mangle]
 pub extern "C" fn shearcotter_open(own: Station, capsule: &[u8], out: &mut [u8]) -> Reply
     ensures reply { λ r. ⌜ r ≡ handed own (ask (open-capsule (now (capsule .entry)) (now (out .entry)))) .reply ⌝ }
@@ -163,8 +163,8 @@ pub extern "C" fn shearcotter_read(own: Station, word: &[u8], out: &mut [u8]) ->
     }
 }
 
-// The record of each capsule is written from the record buffer's start, and the records are counted by their value; 21, 25, 24 or
-// 31 on refusal.
+// The record of each capsule is written from the record buffer's start, and the records are counted by their value; 21, 25, 34, 24
+// or 31 on refusal.
 #[no_mangle]
 pub extern "C" fn shearcotter_report(own: Station, capsules: &[u8], records: &mut [u8]) -> Reported
     ensures reply { λ r. ⌜ r ≡ reportedOf (handed own (ask (report (now (capsules .entry)) (now (records .entry))))) ⌝ }
@@ -179,7 +179,7 @@ pub extern "C" fn shearcotter_report(own: Station, capsules: &[u8], records: &mu
     }
 }
 
-// The session key of a capsule, with the secret for one that open refuses with 13; 21, 25, 24, 8, 9 or 33 on refusal.
+// The session key of a capsule, with the secret for one that open refuses with 13; 21, 25, 34, 24, 8, 9 or 33 on refusal.
 #[no_mangle]
 pub extern "C" fn shearcotter_session(own: Station, capsule: &[u8], secret: &[u8]) -> Derived
     ensures { λ r. ⌜ r ≡ derivedOf (handed own (ask (session-key (now (capsule .entry)) (now (secret .entry))))) ⌝ }

@@ -14,7 +14,7 @@ use Rattle.key.proofs.Filled.{kept-keep}
 use Rattle.ledger.specs.Station.{empty, loaded, published, Result}
 use Rattle.ledger.specs.Station as Definition
 use Rattle.ledger.specs.Calls.{step, run}
-use Rattle.ledger.proofs.Table.{Asked, after, on, frees, counts, lock-shape, locks, times, Answer, free, answerOf, countsIn, rows, running, orders, bad, published-1, two-bytes, reports}
+use Rattle.ledger.proofs.Table.{Asked, after, on, frees, counts, lock-shape, locks, times, Answer, free, answerOf, countsIn, rows, running, orders, bad, file, factored-file, factored, bad-factored, published-1, two-bytes, reports}
 use Rattle.ledger.proofs.Table as Definitions
 use Rattle.ledger.proofs.Simulation.{seen, run-fresh}
 use Rattle.station.specs.Replies.{stateOf, byteOf, view, freshStation, handed, outcomeOf, code}
@@ -99,7 +99,7 @@ unfolding allFit fits running
 running-holds = same-answers running refl ∙ Definitions.running-holds
 
 pub orders-hold : Holds orders
-unfolding allFit fits sized orders bad parse elements pair from K1-with fileOf twoBytes flatMap
+unfolding allFit fits sized orders bad file factored-file factored bad-factored parse elements pair from K1-with fileOf twoBytes flatMap
 orders-hold = same-answers orders refl ∙ Definitions.orders-hold
 
 pub reports-hold : Holds reports

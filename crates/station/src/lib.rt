@@ -146,8 +146,8 @@ impl Station {
         }
     }
 
-    // T is written from the output's start, made in the first m·t × ceil(n/8) bytes of work; 21, 25, 10, 11 or 23 on refusal. All
-    // other bytes of work keep their contents, and these too under 21, 25, 10 and 11.
+    // T is written from the output's start, made in the first m·t × ceil(n/8) bytes of work; 21, 25, 34, 10, 11 or 23 on refusal.
+    // All other bytes of work keep their contents, and these too under 21, 25, 34, 10 and 11.
     pub fn publish(self, out: &mut [u8], work: &mut [u8]) -> Reply
         ensures reply { λ r. ⌜ r ≡ handed self (publish (systematic (now (out .entry)) (now (work .entry)))) .reply ⌝ }
         ensures output { λ _. ⌜ now (out .exit) ≡ handed self (publish (systematic (now (out .entry)) (now (work .entry)))) .output ⌝ }
@@ -180,7 +180,7 @@ impl Station {
         }
     }
 
-    // The pattern of a capsule is written from the output's start; 21, 25, 24, 8, 9, 10 or 13 on refusal.
+    // The pattern of a capsule is written from the output's start; 21, 25, 34, 24, 8, 9, 10 or 13 on refusal.
     pub fn open(self, capsule: &[u8], out: &mut [u8]) -> Reply
         ensures reply { λ r. ⌜ r ≡ handed self (ask (open-capsule (now (capsule .entry)) (now (out .entry)))) .reply ⌝ }
         ensures output { λ _. ⌜ now (out .exit) ≡ handed self (ask (open-capsule (now (capsule .entry)) (now (out .entry)))) .output ⌝ }
@@ -230,7 +230,7 @@ impl Station {
     }
 
     // The record of each capsule is written from the record buffer's start: 0 where it is opened, else its refusal's number, and
-    // the records are counted by their value; 21, 25, 24 or 31 on refusal.
+    // the records are counted by their value; 21, 25, 34, 24 or 31 on refusal.
     pub fn report(self, capsules: &[u8], records: &mut [u8]) -> Reported
         ensures reply { λ r. ⌜ r ≡ reportedOf (handed self (ask (report (now (capsules .entry)) (now (records .entry))))) ⌝ }
         ensures output { λ _. ⌜ now (records .exit) ≡ handed self (ask (report (now (capsules .entry)) (now (records .entry)))) .output ⌝ }
@@ -262,7 +262,7 @@ impl Station {
         }
     }
 
-    // The session key of a capsule, with the secret for one that open refuses with 13; 21, 25, 24, 8, 9 or 33 on refusal.
+    // The session key of a capsule, with the secret for one that open refuses with 13; 21, 25, 34, 24, 8, 9 or 33 on refusal.
     pub fn session(self, capsule: &[u8], secret: &[u8]) -> Derived
         ensures { λ r. ⌜ r ≡ derivedOf (handed self (ask (session-key (now (capsule .entry)) (now (secret .entry))))) ⌝ }
     {
