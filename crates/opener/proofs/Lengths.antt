@@ -15,6 +15,7 @@ use Rattle.field.specs.Numbers.{firstOf}
 use Rattle.field.proofs.Numbers.{first-clear}
 use Rattle.key.specs.Keys.{Key}
 use Rattle.code.specs.Publish.{capsuleBits, publicBytes, workBytes}
+use Rattle.code.proofs.Exchange.{exchangeable}
 use Rattle.decoder.specs.Reading.{reading, exactly, opening}
 use Rattle.decoder.specs.Calls.{found, isNone, openConditions}
 use Rattle.decoder.proofs.Sanity.{Corrects, reading-sound}
@@ -56,19 +57,20 @@ found-some k w (some e) h i =
     record { bits = c .bits; few = c .few }
 
 module _ (s : Station) (capsule out : List ℕ) where
-  -- open's numbers are at most 25
-  open-number : step s (ask (open-capsule capsule out)) .number < 26
+  -- open's numbers are at most 34
+  open-number : step s (ask (open-capsule capsule out)) .number < 35
   unfolding Numbered conditionsOf questionConditions openConditions
   open-number =
       rw (step-number s (ask (open-capsule capsule out)))
-      (first-below 26 (conditionsOf (heldBy s) (ask (open-capsule capsule out)))
-      (omega arith, (omega arith, (omega arith, (omega arith, (omega arith, (omega arith, (omega arith, omega arith))))))))
+      (first-below 35 (conditionsOf (heldBy s) (ask (open-capsule capsule out)))
+      (omega arith, (omega arith, (omega arith, (omega arith, (omega arith, (omega arith, (omega arith, (omega arith, omega arith)))))))))
 
   open-some : step s (ask (open-capsule capsule out)) .number ≡ 0 → isNone (opening (s .key) (unpack (capsuleBits (s .key)) capsule)) ≡ false
   unfolding conditionsOf questionConditions openConditions heldBy
   open-some h =
       let z = sym (step-number s (ask (open-capsule capsule out))) ∙ h in
-      let a = first-clear _ 23 _ (first-clear _ 24 _ (first-clear _ 20 _ z .1) .1) .1 in
+      let x = exchangeable _ _ _ (first-clear _ 20 _ z .1) in
+      let a = first-clear _ 23 _ (x .rest) .1 in
       first-clear _ 12 _ (first-clear _ 9 _ (first-clear _ 8 _ (first-clear _ 7 _ a .1) .1) .1) .0
 
   open-pattern : step s (ask (open-capsule capsule out)) .number ≡ 0
@@ -92,7 +94,7 @@ places-few (on {e = e} r) i h =
 
 -- b is t, or 2: ` refused 13` is as long as ` open` with two places
 module _ (s : Station) (f : Four (s .key)) (b : ℕ) (h : s .key .t ≤ b) (two : 2 ≤ b) where
-  answer-few : (n : ℕ) (e : List ℕ) → n < 26 → (n ≡ 0 → Pattern (s .key) e) → length (answer n e) ≤ 5 + 3 * b
+  answer-few : (n : ℕ) (e : List ℕ) → n < 35 → (n ≡ 0 → Pattern (s .key) e) → length (answer n e) ≤ 5 + 3 * b
   unfolding answer opens refuses
   answer-few zero e l p =
       let q = p refl in

@@ -8,7 +8,7 @@ use borrow.Author.Tests.{ne-eqb, le-ltb}
 use lib.ListN.{length, getD, replicate, length-map, length-replicate}
 use Rattle.bits.specs.Bits.{bytesFor}
 use Rattle.field.specs.Numbers.{firstOf}
-use Rattle.key.specs.Keys.{Key, unsound}
+use Rattle.key.specs.Keys.{Key, unsound, reducible}
 use Rattle.decoder.specs.Calls.{openConditions}
 use Rattle.records.specs.Records.{cut, capsulesOf, recordsOf, occurrences, reportConditions}
 use Rattle.records.proofs.Counts.{occurrences-most, counts-at}
@@ -67,18 +67,19 @@ unlessNumber : ℕ → ℕ → ℕ
 unlessNumber zero a = a
 unlessNumber (suc n) a = 0
 
--- where 21, 25 or 24 refuses a report it refuses each capsule; else a capsule's number is its record
+-- where 21, 25, 34 or 24 refuses a report it refuses each capsule; else a capsule's number is its record
 module _ (k : Key) (input records : List ℕ) (wide : bytesFor (k .n) ≤ length room) (long : length (capsulesOf k input) ≤ length records) where
-  first-opened : (missing bad unpublished : Bool)
+  first-opened : (missing bad split unpublished : Bool) → reducible k ≡ split
       → occurrences 0 (map (λ c. firstOf ((missing, 21) ∷ openConditions bad unpublished k c room)) (capsulesOf k input))
       ≡ unlessNumber (firstOf ((missing, 21) ∷ reportConditions bad unpublished k input (length records))) (occurrences 0 (recordsOf k input))
   unfolding unlessNumber openConditions reportConditions recordsOf firstOf
-  first-opened true b u = none-zero _ (λ c e. omega arith) (capsulesOf k input)
-  first-opened false true u = none-zero _ (λ c e. omega arith) (capsulesOf k input)
-  first-opened false false true = none-zero _ (λ c e. omega arith) (capsulesOf k input)
-  first-opened false false false =
-      ap (λ (f : List ℕ → ℕ). occurrences 0 (map f (capsulesOf k input))) (fun-ext (λ c. record-open k c room wide))
-      ∙ sym (ap (λ (b : Bool). unlessNumber (cond b 31 0) (occurrences 0 (recordsOf k input))) (le-ltb (length records) (length (capsulesOf k input)) long))
+  first-opened true b r u e = none-zero _ (λ c z. omega arith) (capsulesOf k input)
+  first-opened false true r u e = none-zero _ (λ c z. omega arith) (capsulesOf k input)
+  first-opened false false true u e = rw e (none-zero _ (λ c z. omega arith) (capsulesOf k input))
+  first-opened false false false true e = rw e (none-zero _ (λ c z. omega arith) (capsulesOf k input))
+  first-opened false false false false e =
+      ap (λ (f : List ℕ → ℕ). occurrences 0 (map f (capsulesOf k input))) (fun-ext (λ c. record-open k c e room wide))
+      ∙ rw e (sym (ap (λ (b : Bool). unlessNumber (cond b 31 0) (occurrences 0 (recordsOf k input))) (le-ltb (length records) (length (capsulesOf k input)) long)))
 
 module _ (s : Station) (input records : List ℕ) where
   -- the first of a report's counts
@@ -97,7 +98,7 @@ module _ (s : Station) (input records : List ℕ) where
   unfolding numbers heldBy conditionsOf questionConditions
   opened-report wide long =
       ap (λ (f : List ℕ → ℕ). occurrences 0 (map f (capsulesOf (s .key) input))) (fun-ext (λ c. step-number s (ask (open-capsule c room))))
-      ∙ first-opened (s .key) input records wide long (isEmpty (s .state)) (unsound (s .key)) (isUnpublished (s .state))
+      ∙ first-opened (s .key) input records wide long (isEmpty (s .state)) (unsound (s .key)) (reducible (s .key)) (isUnpublished (s .state)) refl
       ∙ sym (count-first _ refl)
 
 -- the report of the call, with a record for each byte
