@@ -36,7 +36,7 @@ fn two_ways_at_width_4() {
     }
     let mut random = Random::new(341);
     for t in [5, 6] {
-        let g: Vec<Poly> = (0..300).map(|round| numbered(4, t, random.below(1 << (4 * t)) | round % 2)).collect();
+        let g: Vec<Poly> = (0..300).map(|_| numbered(4, t, random.below(1 << (4 * t)))).collect();
         let split = g.iter().filter(|g| has_factor(f, g)).count();
         assert!(split > 100 && split < 300, "{split} of degree {t}");
     }
