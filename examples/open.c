@@ -1,5 +1,6 @@
-/* A key is loaded and published, a pattern locked, capsules opened and reported on: the bench key K1 of docs/FORMATS.md.
- * Prints a line for each row; exits with 1 where an answer is not the expected one. Secrets are wiped at the end. */
+/* A key is loaded and published, a pattern locked, capsules opened and reported on: the bench key K1 of docs/FORMATS.md. Then K1
+ * and another key are asked whether they are exchange keys. Prints a line for each row; exits with 1 where an answer is not the
+ * expected one. Secrets are wiped at the end. */
 #include <stdio.h>
 #include <string.h>
 
@@ -13,6 +14,10 @@ static const uint8_t k1[SHEARCOTTER_FILE_BYTES(N, T)] = {0x04, 0x06, 0x00, 0x01,
 static const uint8_t t_rows[SHEARCOTTER_PUBLIC_BYTES(M, N, T)] = {0x03, 0x01, 0x02, 0x00};
 static const uint8_t pattern[SHEARCOTTER_PATTERN_BYTES(N)] = {0x10};
 static const uint8_t locked[SHEARCOTTER_CAPSULE_BYTES(M, T)] = {0x03};
+/* g = x^2 + x is x times x + 1. */
+static const uint8_t split[SHEARCOTTER_FILE_BYTES(9, 2)] = {0x04, 0x09, 0x00, 0x02, 0x00, 0x03, 0x00, 0x04, 0x00,
+                                                            0x05, 0x00, 0x06, 0x00, 0x07, 0x00, 0x08, 0x00, 0x09,
+                                                            0x00, 0x0A, 0x00, 0x02, 0x00, 0x00, 0x00, 0x01, 0x00};
 
 static int differences = 0;
 
@@ -66,6 +71,15 @@ static void report_row(const char *name, shearcotter_station station, size_t roo
     end(number == SHEARCOTTER_ACCEPTED ? opened == 1 && refused == 2 : opened + refused == 0 && records[1] == 0);
 }
 
+/* Publishes a key into no room: refused with 10 for an exchange key, and with 34 where only words are read with it. */
+static void exchange_row(const char *name, const uint8_t *file, size_t length, uint8_t number)
+{
+    uint8_t none[2];
+    shearcotter_reply reply = shearcotter_load(shearcotter_fresh(), file, length);
+    reply = shearcotter_publish(reply.station, none, 0, none + 1, 0);
+    row(name, reply.refused, file, 0, number, file);
+}
+
 /* All calls on the station: what it holds and what the calls leave lies below main's frame. */
 static WIPE_APART void use_key(void)
 {
@@ -93,6 +107,9 @@ static WIPE_APART void use_key(void)
 
     reply = shearcotter_drop(reply.station);
     row("drop", reply.refused, k1, 0, SHEARCOTTER_ACCEPTED, k1);
+
+    exchange_row("exchange key", k1, sizeof k1, SHEARCOTTER_SHORT_OUTPUT);
+    exchange_row("reading-only key", split, sizeof split, SHEARCOTTER_REDUCIBLE_KEY);
 }
 
 int main(void)

@@ -98,7 +98,9 @@ enum shearcotter_state {
     /* of the field */                                                                                 \
     X(SHEARCOTTER_INVERSE_OF_ZERO, 32, "inverse of 0")                                                 \
     /* of a session key */                                                                             \
-    X(SHEARCOTTER_BAD_SECRET, 33, "secret of wrong length or with filler set")
+    X(SHEARCOTTER_BAD_SECRET, 33, "secret of wrong length or with filler set")                         \
+    /* of a key that words are read with, and nothing else */                                          \
+    X(SHEARCOTTER_REDUCIBLE_KEY, 34, "g has a proper factor")
 
 /* What `refused` says. */
 #define SHEARCOTTER_NUMBER(name, number, words) name = number,
@@ -268,16 +270,18 @@ uint8_t shearcotter_lock(uint8_t m, uint16_t n, uint16_t t, const uint8_t *publi
 shearcotter_station shearcotter_fresh(void);
 
 /* Keeps the key of a key file: m in a byte, n in two, low byte first, n elements of two, t in two, g_0 to g_(t-1) of two.
- * Afterwards loaded. Refused: 22, 1, 2, 3, 4, 5, 6, 7. */
+ * Afterwards loaded. A g with a proper factor is kept too: words are read with it, and 34 refuses all else.
+ * Refused: 22, 1, 2, 3, 4, 5, 6, 7. */
 shearcotter_reply shearcotter_load(shearcotter_station station, const uint8_t *file, size_t file_length);
 
 /* Writes the public key, row after row, worked out in the first SHEARCOTTER_WORK_BYTES of `work`: their contents are free once 21,
- * 25, 10, 11 are passed; every other byte of it stays. Afterwards published. Refused: 21, 25, 10, 11, 23. */
+ * 25, 34, 10, 11 are passed; every other byte of it stays. Afterwards published. Refused: 21, 25, 34, 10, 11, 23.
+ * With both lengths 0 it only asks whether a loaded key is an exchange key, one whose g is irreducible: 34 says no and 10 yes. */
 shearcotter_reply shearcotter_publish(shearcotter_station station, uint8_t *out, size_t out_length, uint8_t *work,
                                       size_t work_length);
 
 /* Writes the pattern with exactly t ones that locks to the capsule, and counts its ones. The station stays.
- * Refused: 21, 25, 24, 8, 9, 10, 13. A sender must not learn of 13: docs/FORMATS.md, 'Classic McEliece's objects'. */
+ * Refused: 21, 25, 34, 24, 8, 9, 10, 13. A sender must not learn of 13: docs/FORMATS.md, 'Classic McEliece's objects'. */
 shearcotter_reply shearcotter_open(shearcotter_station station, const uint8_t *capsule, size_t capsule_length, uint8_t *out,
                                    size_t out_length);
 
@@ -285,7 +289,7 @@ shearcotter_reply shearcotter_open(shearcotter_station station, const uint8_t *c
  * The record is 0 where open gives a pattern, else the number that open refuses the capsule with: 8, 9 or 13. A short tail is the
  * last capsule, its record 8; an empty buffer has none. SHEARCOTTER_CAPSULES says how many there are: the length divided by a
  * capsule's, rounded up. No pattern is written, and the kept key is checked once. The station stays.
- * Refused: 21, 25, 24, 31: then no record is written and the counts are 0. A sender must not learn of a 13 here either. */
+ * Refused: 21, 25, 34, 24, 31: then no record is written and the counts are 0. A sender must not learn of a 13 here either. */
 shearcotter_reported shearcotter_report(shearcotter_station station, const uint8_t *capsules, size_t capsules_length,
                                         uint8_t *records, size_t records_length);
 
@@ -294,7 +298,7 @@ shearcotter_reported shearcotter_report(shearcotter_station station, const uint8
  * which of the two it is, so that the caller has no 13 to hide; how long the call takes is not the same for both. The station stays.
  * The secret is the standard's s: SHEARCOTTER_PATTERN_BYTES random bytes with clear filler. It stays the caller's, is as secret as
  * the key file, and is the same in every call with that key, so that a capsule that does not open has one key too.
- * Refused: 21, 25, 24, 8, 9, 33: then the key is zeros. 8 and 9 are about bytes that the sender knows. */
+ * Refused: 21, 25, 34, 24, 8, 9, 33: then the key is zeros. 8 and 9 are about bytes that the sender knows. */
 shearcotter_derived shearcotter_session(shearcotter_station station, const uint8_t *capsule, size_t capsule_length,
                                         const uint8_t *secret, size_t secret_length);
 

@@ -120,6 +120,19 @@ pub(crate) fn publish(station: &mut raw::Station, out: &mut [u8], work: &mut [u8
     })
 }
 
+/// By publishing into no room: 34 stands before 10, and neither changes anything.
+pub(crate) fn is_exchange_key(station: &raw::Station) -> Result<bool, Refusal> {
+    let answer = secretly::<{ raw::STACK_PUBLISH + COPIES }, _>(|| {
+        let (mut out, mut work) = ([0; 0], [0; 0]);
+        Refusal::check(unsafe { raw::shearcotter_publish(*station, out.as_mut_ptr(), 0, work.as_mut_ptr(), 0) }.refused)
+    });
+    match answer {
+        Ok(()) | Err(Refusal::ShortOutput) => Ok(true),
+        Err(Refusal::ReducibleKey) => Ok(false),
+        Err(refusal) => Err(refusal),
+    }
+}
+
 /// The station that the call hands back is the caller's own.
 pub(crate) fn open(station: &raw::Station, capsule: &[u8], out: &mut [u8]) -> Result<u16, Refusal> {
     secretly::<{ raw::STACK_OPEN + COPIES }, _>(|| {

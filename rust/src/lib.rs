@@ -4,6 +4,8 @@
 //! public key, [`open`](Station::open) capsules, derive their [`session`](Station::session) keys, [`report`](Station::report)
 //! on them and [`read`](Station::read) words. [`lock`](lock()) makes a capsule from a public key, and [`shake256`](shake256())
 //! is the function that session keys are derived by. A call that is refused answers a [`Refusal`] and changes nothing.
+//! Words are read with every key; all else asks for an exchange key, one with an irreducible g:
+//! [`is_exchange_key`](Station::is_exchange_key).
 //!
 //! ```
 //! use shearcotter::{lock, Shape, Station};

@@ -68,6 +68,7 @@ refusals! {
     ShortRecords 31 "record buffer shorter than the number of capsules",
     InverseOfZero 32 "inverse of 0",
     BadSecret 33 "secret of wrong length or with filler set",
+    ReducibleKey 34 "g has a proper factor",
 }
 
 impl Refusal {

@@ -32,11 +32,40 @@ impl Station {
 
     /// Takes the key of a key file: refused with the first that applies of 22, 1, 2, 3, 4, 5, 6, 7. The file's bytes
     /// are the caller's to [`wipe`].
+    ///
+    /// A key whose g has a proper factor is taken, for [`read`](Station::read) alone: see
+    /// [`is_exchange_key`](Station::is_exchange_key).
     pub fn load(&mut self, file: &[u8]) -> Result<(), Refusal> {
         calls::load(&mut self.raw, file)
     }
 
-    /// The public key T; afterwards published. Refused with 21 or 23.
+    /// Whether the kept key is an exchange key: one whose g is irreducible, as the standard has it, so that partners'
+    /// programs work with it. Refused with 21.
+    ///
+    /// With any other key [`publish`](Station::publish), [`open`](Station::open), [`report`](Station::report) and
+    /// [`session`](Station::session) refuse with 34, and [`read`](Station::read) works. An exchange key may still have
+    /// no public key (23).
+    ///
+    /// ```
+    /// use shearcotter::{Refusal, Station};
+    ///
+    /// // g = x is irreducible.
+    /// let mut station = Station::fresh();
+    /// station.load(&[4, 6, 0, 1, 0, 9, 0, 13, 0, 15, 0, 14, 0, 11, 0, 1, 0, 0, 0])?;
+    /// assert!(station.is_exchange_key()?);
+    /// // g = x^2 + x is x times x + 1.
+    /// let mut station = Station::fresh();
+    /// station.load(&[4, 9, 0, 2, 0, 3, 0, 4, 0, 5, 0, 6, 0, 7, 0, 8, 0, 9, 0, 10, 0, 2, 0, 0, 0, 1, 0])?;
+    /// assert!(!station.is_exchange_key()?);
+    /// assert_eq!(station.publish(), Err(Refusal::ReducibleKey));
+    /// assert_eq!(station.read(&[0x11, 0x00])?.places().collect::<Vec<_>>(), [0, 4]);
+    /// # Ok::<(), Refusal>(())
+    /// ```
+    pub fn is_exchange_key(&self) -> Result<bool, Refusal> {
+        calls::is_exchange_key(&self.raw)
+    }
+
+    /// The public key T; afterwards published. Refused with the first that applies of 21, 34, 23.
     pub fn publish(&mut self) -> Result<Vec<u8>, Refusal> {
         let shape = self.shape().ok_or(Refusal::NoKey)?;
         let mut public = vec![0; shape.public_length()];
@@ -46,14 +75,14 @@ impl Station {
         answer.map(|()| public)
     }
 
-    /// Writes T from the start of `out`: refused with the first that applies of 21, 10, 11, 23. What the
-    /// first [`Shape::workspace_length`] bytes of the workspace hold afterwards is free once 21, 10 and 11
+    /// Writes T from the start of `out`: refused with the first that applies of 21, 34, 10, 11, 23. What the
+    /// first [`Shape::workspace_length`] bytes of the workspace hold afterwards is free once 21, 34, 10 and 11
     /// are passed; every other byte of it stays. They are worked out from the key: the caller's to [`wipe`].
     pub fn publish_into(&mut self, out: &mut [u8], workspace: &mut [u8]) -> Result<(), Refusal> {
         calls::publish(&mut self.raw, out, workspace)
     }
 
-    /// The pattern of a capsule: refused with the first that applies of 21, 24, 8, 9, 13.
+    /// The pattern of a capsule: refused with the first that applies of 21, 34, 24, 8, 9, 13.
     pub fn open(&self, capsule: &[u8]) -> Result<Pattern, Refusal> {
         let mut out = self.pattern_buffer();
         let ones = self.open_into(capsule, &mut out)?;
@@ -61,13 +90,13 @@ impl Station {
     }
 
     /// Writes the pattern from the start of `out` and gives its number of ones: refused with the first that applies
-    /// of 21, 24, 8, 9, 10, 13.
+    /// of 21, 34, 24, 8, 9, 10, 13.
     pub fn open_into(&self, capsule: &[u8], out: &mut [u8]) -> Result<u16, Refusal> {
         calls::open(&self.raw, capsule, out)
     }
 
     /// A record for each of the capsules that stand back to back, and how often each number stands in the records:
-    /// refused with 21 or 24.
+    /// refused with the first that applies of 21, 34, 24.
     ///
     /// A record is 0 where [`open`](Station::open) gives a pattern, else the number with which it refuses the capsule.
     /// A short tail is the last capsule, refused with 8. The kept key is checked once for all, so that this takes less
@@ -80,13 +109,13 @@ impl Station {
     }
 
     /// Writes the records from the start of `records` and gives the counts: refused with the first that applies of 21,
-    /// 24, 31. [`Shape::capsules_in`] says how many records there are.
+    /// 34, 24, 31. [`Shape::capsules_in`] says how many records there are.
     pub fn report_into(&self, capsules: &[u8], records: &mut [u8]) -> Result<Counts, Refusal> {
         calls::report(&self.raw, capsules, records)
     }
 
     /// The session key of a capsule, as Classic McEliece's decapsulation derives it: refused with the first that applies
-    /// of 21, 24, 8, 9, 33.
+    /// of 21, 34, 24, 8, 9, 33.
     ///
     /// It is the first 32 bytes of [`shake256`](crate::shake256) of the byte 1, the pattern and the capsule; where
     /// [`open`](Station::open) refuses with 13, of the byte 0, the secret and the capsule. A sender cannot tell from the

@@ -2,6 +2,7 @@
 
 use shearcotter::{field, lock, register, Pattern, Refusal, Shape, Station};
 
+use crate::independent::drawn::has_reading_keys;
 use crate::independent::field::Field;
 use crate::independent::held::Held;
 use crate::independent::random::Random;
@@ -35,10 +36,25 @@ fn shape(held: &Held) -> Shape {
 
 /// Publishes on both sides; whether the key has a public key.
 fn same_public_key(station: &mut Station, held: &Held) -> bool {
+    assert_eq!(station.is_exchange_key(), Ok(!held.has_factor()), "{:?}", held.key);
+    let expected = calls::publish(1, held, usize::MAX, usize::MAX);
     let public = station.publish();
-    assert_eq!(public.as_deref().ok(), held.public(), "{:?}", held.key);
-    assert_eq!(public.is_err(), public == Err(Refusal::DependentColumns));
-    public.is_ok()
+    assert_eq!(public.as_ref().map_or_else(|refusal| refusal.number(), |_| 0), expected.number, "{:?}", held.key);
+    assert!(public.unwrap_or_default() == expected.written, "{:?}", held.key);
+    assert_eq!(station.is_published(), expected.number == 0);
+    station.is_published()
+}
+
+/// Opening, a report and a session key on a station that publish refused: 34 or 24, whatever they are lent.
+fn opens_nothing(random: &mut Random, station: &Station, held: &Held) {
+    let number = if held.has_factor() { 34 } else { 24 };
+    let length = held.key.capsule_bits().div_ceil(8);
+    for length in [0, length, length + 1] {
+        let (capsule, secret) = (random.bytes(length), random.secret(held.key.n));
+        assert_eq!(answer(station.open(&capsule)).number, number, "{:?}", held.key);
+        assert_eq!(station.report(&capsule).map_err(Refusal::number), Err(number), "{:?}", held.key);
+        assert_eq!(station.session(&capsule, &secret).map_err(Refusal::number), Err(number), "{:?}", held.key);
+    }
 }
 
 fn same_reading(station: &Station, held: &Held, word: &[u8]) {
@@ -112,7 +128,7 @@ fn compare_small(random: &mut Random, held: &Held) {
         same_reading(&station, held, &word);
     }
     if !same_public_key(&mut station, held) {
-        return;
+        return opens_nothing(random, &station, held);
     }
     for number in some(random, rank) {
         same_opening(random, &station, held, &packed(rank, number));
@@ -128,10 +144,14 @@ fn every_shape_of_width_4() {
     let mut random = Random::new(4);
     for (m, n, t) in small_shapes() {
         for _ in 0..2 {
-            let key = random.key(m, n, t);
+            let key = random.exchange_key(m, n, t);
             compare_small(&mut random, &Held::new(key));
             let held = random.published(m, n, t);
             compare_small(&mut random, &held);
+            if has_reading_keys((m, n, t)) {
+                let key = random.reading_key(m, n, t);
+                compare_small(&mut random, &Held::new(key));
+            }
         }
     }
 }
@@ -147,7 +167,7 @@ fn compare_large(random: &mut Random, held: &Held, rounds: usize) {
     }
     same_reading(&station, held, &random.row(n));
     if !published {
-        return;
+        return opens_nothing(random, &station, held);
     }
     for round in 0..rounds {
         let mut capsule = same_locking(held, &random.pattern(n, t));
@@ -189,7 +209,7 @@ fn the_standard_shapes() {
     for (m, n, t) in STANDARD {
         let held = random.published(m, n, t);
         compare_large(&mut random, &held, 21);
-        let key = random.key(m, n, t);
+        let key = random.reading_key(m, n, t);
         compare_large(&mut random, &Held::new(key), 7);
     }
 }
@@ -199,8 +219,13 @@ fn shapes_between() {
     let mut random = Random::new(13);
     let at_the_limits = [(12, 13, 1), (13, 14, 1), (12, 4096, 1), (13, 8192, 1), (12, 1537, 128), (13, 1665, 128)];
     for (m, n, t) in at_the_limits {
-        let key = random.key(m, n.min((1 << m) - 1), t);
+        let n = if t == 1 { n.min((1 << m) - 1) } else { n };
+        let key = random.exchange_key(m, n, t);
         compare_large(&mut random, &Held::new(key), 7);
+        if has_reading_keys((m, n, t)) {
+            let key = random.reading_key(m, n, t);
+            compare_large(&mut random, &Held::new(key), 7);
+        }
     }
     for _ in 0..30 {
         let m = *random.pick(&[12, 13]);

@@ -6,13 +6,13 @@ use std::mem::size_of;
 
 use shearcotter::{field, lock_into, raw, register, shake256, wipe, Counts, Pattern, Refusal, Shape, Station};
 
-use crate::bench_keys::{K1, K3};
+use crate::bench_keys::{K1, K3, SPLIT};
 use crate::support::bytes;
 
 #[test]
 fn refusals_have_their_numbers_and_words() {
     let numbers: Vec<u8> = Refusal::ALL.iter().map(|refusal| refusal.number()).collect();
-    let expected: Vec<u8> = (1..=14).chain(21..=25).chain(31..=33).collect();
+    let expected: Vec<u8> = (1..=14).chain(21..=25).chain(31..=34).collect();
     assert_eq!(numbers, expected);
     for number in 0..=255 {
         let refusal = Refusal::from_number(number);
@@ -138,6 +138,7 @@ fn lent_buffers() {
 fn states() {
     let mut station = Station::default();
     assert_eq!((station.shape(), station.is_published()), (None, false));
+    assert_eq!(station.is_exchange_key(), Err(Refusal::NoKey));
     assert_eq!(station.publish(), Err(Refusal::NoKey));
     assert_eq!(station.open(&[3]), Err(Refusal::NoKey));
     assert_eq!(station.report(&[3]), Err(Refusal::NoKey));
@@ -156,6 +157,52 @@ fn states() {
     assert_eq!(station.drop_key(), Ok(()));
     assert_eq!((station.shape(), station.is_published()), (None, false));
     station.load(&K1).expect("load accepts again");
+}
+
+/// g = x·(x + 1): the key is loaded and read with, and refused with 34 by all else, whatever is lent.
+#[test]
+fn a_key_that_only_reads() {
+    let mut station = Station::fresh();
+    station.load(&SPLIT).expect("load accepts");
+    assert_eq!((station.shape(), station.is_exchange_key()), (Shape::new(4, 9, 2).ok(), Ok(false)));
+    assert_eq!(station.publish(), Err(Refusal::ReducibleKey));
+    for length in [0, 8, 100] {
+        let (mut out, mut work) = (vec![7; length], vec![7; length]);
+        assert_eq!(station.publish_into(&mut out, &mut work), Err(Refusal::ReducibleKey));
+        assert!(out.iter().chain(&work).all(|byte| *byte == 7));
+    }
+    assert!(!station.is_published());
+    for capsule in [&[][..], &[0x03], &[0x03, 0x00]] {
+        let (mut out, mut records) = ([7; 2], [7; 2]);
+        assert_eq!(station.open(capsule), Err(Refusal::ReducibleKey));
+        assert_eq!(station.open_into(capsule, &mut out[..capsule.len()]), Err(Refusal::ReducibleKey));
+        assert_eq!(station.report(capsule), Err(Refusal::ReducibleKey));
+        assert_eq!(station.report_into(capsule, &mut records), Err(Refusal::ReducibleKey));
+        assert_eq!(station.session(capsule, &[0; 2]), Err(Refusal::ReducibleKey));
+        assert_eq!(station.session(capsule, &[]), Err(Refusal::ReducibleKey));
+        assert_eq!((out, records), ([7; 2], [7; 2]));
+    }
+    let read = station.read(&[0x11, 0x00]).expect("it reads");
+    assert_eq!((read.bytes(), read.ones()), (&[0x11, 0x00][..], 2));
+    assert_eq!(station.drop_key(), Ok(()));
+    assert_eq!(station.is_exchange_key(), Err(Refusal::NoKey));
+    assert_eq!(Refusal::ReducibleKey.to_string(), "refused 34: g has a proper factor");
+}
+
+/// Asking changes nothing: the same station publishes and opens afterwards, and is asked again.
+#[test]
+fn an_exchange_key() {
+    let mut station = Station::fresh();
+    station.load(&K1).expect("load accepts");
+    assert_eq!((station.is_exchange_key(), station.is_published()), (Ok(true), false));
+    assert_eq!(station.publish(), Ok(vec![3, 1, 2, 0]));
+    assert_eq!((station.is_exchange_key(), station.is_published()), (Ok(true), true));
+    assert_eq!(station.open(&[3]).map(Pattern::into_bytes), Ok(vec![0x10]));
+    // Irreducible, and without a public key.
+    let mut dependent = Station::fresh();
+    dependent.load(&K3).expect("load accepts");
+    assert_eq!(dependent.is_exchange_key(), Ok(true));
+    assert_eq!(dependent.publish(), Err(Refusal::DependentColumns));
 }
 
 #[test]

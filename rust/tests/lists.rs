@@ -133,8 +133,8 @@ impl<'a> List<'a> {
 fn answers_and_stations_of_random_lists() {
     let mut random = Random::new(21);
     let mut keys: Vec<Held> = [(6, 1), (12, 2), (14, 3)].map(|(n, t)| random.published(4, n, t)).into();
-    let key = random.key(4, 16, 3);
-    keys.push(Held::new(key));
+    let others = [random.exchange_key(4, 16, 3), random.reading_key(4, 14, 2), random.reading_key(4, 15, 3)];
+    keys.extend(others.map(Held::new));
     let mut met = BTreeMap::new();
     for _ in 0..200 {
         let mut list = List::new(&keys);
@@ -142,9 +142,15 @@ fn answers_and_stations_of_random_lists() {
             *met.entry(list.call(&mut random)).or_insert(0) += 1;
         }
     }
-    let report = [0, 21, 24, 31].map(|number| ("report", number));
-    let session = [0, 21, 24, 8, 9, 33].map(|number| ("session", number));
-    for (call, number) in report.into_iter().chain(session) {
-        assert!(met.contains_key(&(call, number)), "{call} never answered {number}: {met:?}");
+    let numbers: [(&str, &[u8]); 5] = [
+        ("publish", &[0, 21, 34]),
+        ("open", &[0, 21, 34, 24, 13]),
+        ("report", &[0, 21, 34, 24, 31]),
+        ("session", &[0, 21, 34, 24, 8, 9, 33]),
+        ("read", &[0, 21]),
+    ];
+    for (call, numbers) in numbers {
+        let missing = numbers.iter().find(|number| !met.contains_key(&(call, **number)));
+        assert_eq!(missing, None, "{call} never answered it: {met:?}");
     }
 }

@@ -3,6 +3,7 @@
 mod bench_keys;
 mod boundary;
 mod compare;
+mod exchange;
 mod header;
 mod independent;
 mod library;

@@ -4,6 +4,7 @@ use shearcotter::raw::Station;
 use shearcotter::Refusal;
 
 use crate::compare::small_shapes;
+use crate::independent::drawn::{doubled, has_reading_keys};
 use crate::independent::held::Held;
 use crate::independent::random::Random;
 use crate::independent::{calls, matrix};
@@ -51,9 +52,13 @@ fn every_capsule_of_width_4() {
         let total = count(&held, capsules.len());
         assert_eq!(same_report(&published(&held), &held, &capsules, total), 0);
         assert_eq!(same_report(&published(&held), &held, &capsules, total - 1), 31);
-        // A key without a public key, on a station made by hand.
-        let held = Held::new(random.key(m, n, t));
+        // A key that may have no public key, on a station made by hand; and one whose g has a proper factor.
+        let held = Held::new(random.exchange_key(m, n, t));
         assert_eq!(same_report(&published(&held), &held, &capsules, total), 0);
+        if has_reading_keys((m, n, t)) {
+            let held = Held::new(random.reading_key(m, n, t));
+            assert_eq!(same_report(&published(&held), &held, &capsules, total), 34);
+        }
     }
 }
 
@@ -135,15 +140,14 @@ fn standard_shapes() {
     }
 }
 
-/// 21, then 25, then 24, then 31: each where the later ones hold too.
+/// 21, then 25, then 34, then 24, then 31: each where the later ones hold too.
 #[test]
 fn numbers_in_their_order() {
     let mut random = Random::new(35);
-    for (m, n, t) in [(4, 6, 1), (4, 14, 3), (12, 100, 5), (13, 8192, 128)] {
+    for (m, n, t) in [(4, 9, 2), (4, 14, 3), (12, 100, 5), (13, 8192, 128)] {
         let held = random.published(m, n, t);
-        let mut twice = held.key.clone();
-        twice.support[1] = twice.support[0];
-        let unsound = Held::new(twice);
+        let split = Held::new(random.reading_key(m, n, t));
+        let (unsound, both) = (doubled(&held.key), doubled(&split.key));
         let capsules = some_capsules(&mut random, &held, 2);
         let total = count(&held, capsules.len());
         for (length, room) in
@@ -152,13 +156,18 @@ fn numbers_in_their_order() {
             let capsules = &capsules[..length];
             assert_eq!(same_report(&holding(0, &held.key), &held, capsules, room), 21);
             assert_eq!(same_report(&holding(0, &unsound.key), &unsound, capsules, room), 21);
+            assert_eq!(same_report(&holding(0, &both.key), &both, capsules, room), 21);
+            assert_eq!(same_report(&holding(0, &split.key), &split, capsules, room), 21);
+            for state in [1, 2, 3, 255] {
+                assert_eq!(same_report(&holding(state, &unsound.key), &unsound, capsules, room), 25);
+                assert_eq!(same_report(&holding(state, &both.key), &both, capsules, room), 25);
+                assert_eq!(same_report(&holding(state, &split.key), &split, capsules, room), 34);
+            }
             assert_eq!(same_report(&holding(1, &held.key), &held, capsules, room), 24);
             let short = room < count(&held, length);
             for state in [2, 3, 255] {
                 assert_eq!(same_report(&holding(state, &held.key), &held, capsules, room), if short { 31 } else { 0 });
-                assert_eq!(same_report(&holding(state, &unsound.key), &unsound, capsules, room), 25);
             }
-            assert_eq!(same_report(&holding(1, &unsound.key), &unsound, capsules, room), 25);
         }
     }
 }

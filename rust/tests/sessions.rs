@@ -4,7 +4,9 @@ use shearcotter::raw::Station;
 use shearcotter::{shake256, Refusal, Shape};
 
 use crate::compare::small_shapes;
+use crate::independent::drawn::{doubled, has_reading_keys};
 use crate::independent::held::Held;
+use crate::independent::key::Key;
 use crate::independent::random::Random;
 use crate::independent::{bits, calls, matrix};
 use crate::support::raw_calls::{self, holding};
@@ -46,10 +48,17 @@ fn every_capsule_of_width_4() {
         for other in (0..8).filter(|other| *other != length) {
             assert_eq!(same_session(&station, &held, &random.bytes(other), &secret), (8, [0; 32]));
         }
-        // A key without a public key, on a station made by hand.
-        let held = Held::new(random.key(m, n, t));
+        // A key that may have no public key, on a station made by hand; and one whose g has a proper factor.
+        let held = Held::new(random.exchange_key(m, n, t));
         for capsule in all(1) {
             same_session(&published(&held), &held, &capsule, &random.secret(n));
+        }
+        if has_reading_keys((m, n, t)) {
+            let held = Held::new(random.reading_key(m, n, t));
+            for capsule in all(1) {
+                let answer = same_session(&published(&held), &held, &capsule, &random.secret(n));
+                assert_eq!(answer, (34, [0; 32]));
+            }
         }
     }
 }
@@ -148,12 +157,31 @@ fn large_shapes() {
 /// Something that a call looks at, and the numbers whose conditions hold for it, in their order.
 type Kind<T> = (T, Vec<u8>);
 
-/// A station with each of 21, 25 and 24, alone and together, and with none.
-fn stations(held: &Held, unsound: &Held) -> Vec<Kind<(Station, bool)>> {
-    let kinds = [(0, false, vec![21]), (0, true, vec![21, 25]), (1, false, vec![24]), (1, true, vec![25, 24])];
-    let published = [2, 3, 255].into_iter().flat_map(|state| [(state, false, vec![]), (state, true, vec![25])]);
-    let made = kinds.into_iter().chain(published);
-    made.map(|(state, bad, holds)| ((holding(state, &if bad { unsound } else { held }.key), bad), holds)).collect()
+/// Keys with each of 25 and 34, alone and together, and with none.
+fn keys(random: &mut Random, held: Held) -> Vec<Kind<Held>> {
+    let Key { m, n, t, .. } = held.key;
+    let unsound = doubled(&held.key);
+    let mut keys = vec![(held, vec![]), (unsound, vec![25])];
+    if has_reading_keys((m, n, t)) {
+        let split = random.reading_key(m, n, t);
+        keys.push((doubled(&split), vec![25, 34]));
+        keys.push((Held::new(split), vec![34]));
+    }
+    keys
+}
+
+/// Stations with each of the keys, in every kind of state: 21 before the key's numbers, and 24 behind them.
+fn stations(keys: &[Kind<Held>]) -> Vec<Kind<(Station, &Held)>> {
+    let mut made = vec![];
+    for (held, of_key) in keys {
+        for state in [0, 1, 2, 3, 255] {
+            let before = (state == 0).then_some(21).into_iter();
+            let behind = (state == 1).then_some(24);
+            let holds = before.chain(of_key.iter().copied()).chain(behind).collect();
+            made.push(((holding(state, &held.key), held), holds));
+        }
+    }
+    made
 }
 
 /// A capsule that opens, one that does not, and those with 8 and 9.
@@ -184,21 +212,18 @@ fn secrets(random: &mut Random, n: usize) -> Vec<Kind<Vec<u8>>> {
     [(fits, vec![])].into_iter().chain(wrong).collect()
 }
 
-/// 21, 25, 24, 8, 9, 33: each alone, and each where the later ones hold too.
+/// 21, 25, 34, 24, 8, 9, 33: each alone, and each where the later ones hold too.
 #[test]
 fn numbers_in_their_order() {
     let mut random = Random::new(65);
     for (m, n, t) in [(4, 6, 1), (4, 13, 3), (12, 100, 5), (13, 6957, 119)] {
         let held = random.published(m, n, t);
-        let mut twice = held.key.clone();
-        twice.support[1] = twice.support[0];
-        let unsound = Held::new(twice);
-        for ((station, bad), of_station) in stations(&held, &unsound) {
-            for (capsule, of_capsule) in capsules(&mut random, &held) {
+        let capsules = capsules(&mut random, &held);
+        for ((station, held), of_station) in stations(&keys(&mut random, held)) {
+            for (capsule, of_capsule) in &capsules {
                 for (secret, of_secret) in secrets(&mut random, n) {
-                    let held = if bad { &unsound } else { &held };
-                    let (number, key) = same_session(&station, held, &capsule, &secret);
-                    let first = of_station.iter().chain(&of_capsule).chain(&of_secret).next();
+                    let (number, key) = same_session(&station, held, capsule, &secret);
+                    let first = of_station.iter().chain(of_capsule).chain(&of_secret).next();
                     assert_eq!(number, first.copied().unwrap_or(0));
                     assert_eq!(key == [0; 32], number != 0);
                 }

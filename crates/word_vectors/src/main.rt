@@ -1,8 +1,9 @@
 // Runs data/words.txt through load, publish, read, open, session, report and lock, and counts agreements and differences.
-// A line is `key FILE`; `public T`, or `public -` where publish refuses; or a case of the key before it: `publish ok`,
-// `read WORD ok PATTERN ONES`, `open CAPSULE ok PATTERN` as if published, `lock PATTERN ok CAPSULE`, or one of the
-// four with `refused NUMBER` from `ok` on; or `session CAPSULE SECRET KEY` as if published. Bytes are in hexadecimal,
-// and `-` is none. A capsule of `open` that is one or a short tail is also reported on.
+// A line is `key FILE`; `public T`, what publish writes and what is locked with, or `public -` for none; or a case of the key
+// before it: `publish ok`, `read WORD ok PATTERN ONES`, `open CAPSULE ok PATTERN` as if published, `lock PATTERN ok CAPSULE`,
+// or one of the four with `refused NUMBER` from `ok` on; or `session CAPSULE SECRET KEY` as if published, or with
+// `refused NUMBER` for KEY. Bytes are in hexadecimal, and `-` is none. A capsule of `open` that is one or a short tail is
+// also reported on.
 ghost use mathlib.Core.Path.{_≡_};
 ghost use lib.ListN.{length};
 use key::kept::Key;
@@ -42,6 +43,9 @@ const LOCK: usize = 4;
 const REPORT: usize = 5;
 
 const SESSION: usize = 6;
+
+// The number of a key whose g has a proper factor, with which a report refuses as open does.
+const FACTOR: u8 = 34;
 
 // An answer as two numbers.
 struct Outcome {
@@ -126,7 +130,7 @@ fn opens(key: Key, line: &[u8]) -> bool {
     r.refused as u16 == refused(line, 2) && r.ones == ones && holds(&out, output(line, 2))
 }
 
-// The session key is the line's, both for a capsule that opens and for one that does not.
+// The session key is the line's, both for a capsule that opens and for one that does not; or the number is, and the key zeros.
 fn derives(key: Key, line: &[u8]) -> bool {
     let c = bytes_of(line, 1);
     let capsule = c.bytes;
@@ -148,10 +152,16 @@ fn derives(key: Key, line: &[u8]) -> bool {
         &secret[..l],
     );
     let own = r.key;
+    let number = refused(line, 3);
+    if number != 0 {
+        let zeros = [0u8; 32];
+        return r.refused as u16 == number && check::same(&own, &zeros);
+    }
     r.refused == 0 && check::same(&own, &wanted[..k])
 }
 
-// A report on the capsule, or on a short tail, has open's number for its only record, and counts it.
+// A report on the capsule, or on a short tail, has open's number for its only record, and counts it; where the key is refused
+// the report is, and has none.
 fn reports(key: Key, line: &[u8]) -> bool {
     let mut records = [FILLER; 64];
     let b = bytes_of(line, 1);
@@ -169,6 +179,9 @@ fn reports(key: Key, line: &[u8]) -> bool {
     );
     let number = (refused(line, 2) % 256) as u8;
     let counts = r.counts;
+    if number == FACTOR {
+        return r.refused == FACTOR && records[0] == FILLER && counts[number as usize] == 0;
+    }
     r.refused == 0 && records[0] == number && records[1] == FILLER && counts[number as usize] == 1
 }
 

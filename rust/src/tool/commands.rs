@@ -36,6 +36,8 @@ const EXPLAINED: Choice = Choice {
 const ROWS: &[Choice] = &[format("places"), ON_THREADS, EXPLAINED];
 
 const KEY: Operand = Operand::needed("KEY", Kind::Input, "a key file");
+const EXCHANGE_KEY: Operand =
+    Operand::needed("KEY", Kind::Input, "a key file of an exchange key: see shearcotter help check");
 const CAPSULES: Operand = Operand::optional("FILE", Kind::Input, "capsules, back to back");
 
 pub const COMMANDS: &[Command] = &[
@@ -45,19 +47,27 @@ pub const COMMANDS: &[Command] = &[
         options: &[],
         about: "check a key file",
         details: "\
-Loads the key file KEY and prints `accepted`, its shape m,n,t, and its name
-where it is one of the standard's.
+Loads the key file KEY and prints `accepted`, its shape m,n,t, its name where it
+is one of the standard's, and `exchange` or `reading-only`:
+
+    accepted 12,3488,64 mceliece348864 exchange
+
+An exchange key has an irreducible g, as the standard has it, and works with
+partners' programs; whether it has a public key is not looked at. With any other
+key words are read, and publish, open, session and report are refused 34. The
+status is 0 for both.
 ",
         run: keys::check,
     },
     Command {
         name: "publish",
-        operands: &[KEY, Operand::needed("OUT", Kind::Output, "the public key")],
+        operands: &[EXCHANGE_KEY, Operand::needed("OUT", Kind::Output, "the public key")],
         options: &[],
         about: "write a key's public key",
         details: "\
 Writes the public key of the key file KEY to OUT. OUT is replaced in one step,
-and left alone where the key is refused.
+and left alone where the key is refused: 34 where it is no exchange key, 23
+where it has no public key.
 ",
         run: keys::publish,
     },
@@ -87,7 +97,7 @@ and OUT is left alone. Otherwise OUT is replaced in one step.
     },
     Command {
         name: "open",
-        operands: &[KEY, CAPSULES],
+        operands: &[EXCHANGE_KEY, CAPSULES],
         options: ROWS,
         about: "open capsules",
         details: "\
@@ -109,7 +119,7 @@ and what the numbers mean by which capsules were refused.
     Command {
         name: "session",
         operands: &[
-            KEY,
+            EXCHANGE_KEY,
             Operand::needed("SECRET", Kind::Input, "the key's secret, as long as a pattern: the standard's s"),
             CAPSULES,
         ],
@@ -148,7 +158,7 @@ and what the numbers mean by which capsules were refused.
     },
     Command {
         name: "report",
-        operands: &[KEY, CAPSULES],
+        operands: &[EXCHANGE_KEY, CAPSULES],
         options: &[
             Choice {
                 name: RECORDS,

@@ -6,10 +6,15 @@ use shearcotter::{Refusal, Shape, Station};
 
 use crate::arguments::Given;
 use crate::explain::{self, Explained};
-use crate::failure::Failure;
+use crate::failure::{self, Failure};
 use crate::status::Status;
+use crate::table::QUIET;
 use crate::wiped::Wiped;
 use crate::{files, help, names};
+
+/// What `check` says of a key by its g: irreducible, or with a proper factor.
+const EXCHANGE: &str = "exchange";
+const READING_ONLY: &str = "reading-only";
 
 fn refused(key: &OsStr, explained: Explained) -> Failure {
     Failure::Refused(names::input(key), explained, Status::KeyRefused)
@@ -34,9 +39,14 @@ pub fn published(key: &OsStr) -> Result<(Station, Shape, Vec<u8>), Failure> {
 /// The command `check`.
 pub fn check(given: &Given) -> Result<Status, Failure> {
     let [key] = given.operands();
-    let (_, shape) = load(key)?;
+    let (station, shape) = load(key)?;
+    let exchange = station.is_exchange_key().map_err(|refusal| refused(key, explain::publishing(refusal)))?;
     let name = shape.name().map_or(String::new(), |name| format!(" {name}"));
-    help::print(&format!("accepted {shape}{name}\n"))
+    let status = help::print(&format!("accepted {shape}{name} {}\n", if exchange { EXCHANGE } else { READING_ONLY }))?;
+    if !exchange && !given.has(QUIET) {
+        failure::say(&format!("{}: {}", names::input(key), explain::reading_only()));
+    }
+    Ok(status)
 }
 
 /// The command `publish`.

@@ -146,7 +146,7 @@ pub const COMMON: &[Choice] = &[
         name: QUIET,
         short: None,
         takes: Takes::Nothing,
-        about: "no summary and no progress bar; failures and rows that raw leaves out are named all the same",
+        about: "no summary, no note on a key and no progress bar; failures and rows that raw leaves out are named all the same",
     },
     Choice { name: "--help", short: Some("-h"), takes: Takes::Nothing, about: "the command's help" },
 ];

@@ -3,6 +3,7 @@
 use std::sync::Arc;
 
 use crate::compare::{near_code_word, small_shapes};
+use crate::independent::drawn::has_reading_keys;
 use crate::independent::held::Held;
 use crate::independent::matrix;
 use crate::independent::random::Random;
@@ -20,17 +21,22 @@ impl Pool {
         let mut small = vec![];
         for (m, n, t) in small_shapes() {
             for _ in 0..4 {
-                let key = random.key(m, n, t);
+                let key = random.exchange_key(m, n, t);
                 small.push(Arc::new(Held::new(key)));
                 small.push(Arc::new(random.published(m, n, t)));
+            }
+            if has_reading_keys((m, n, t)) {
+                let key = random.reading_key(m, n, t);
+                small.push(Arc::new(Held::new(key)));
             }
         }
         let mut large = vec![];
         for (m, n, t) in [(12, 3488, 64), (13, 4608, 96), (13, 6960, 119), (13, 8192, 128), (12, 100, 5)] {
             large.push(Arc::new(random.published(m, n, t)));
         }
-        let key = random.key(13, 6688, 128);
-        large.push(Arc::new(Held::new(key)));
+        for key in [random.exchange_key(13, 6688, 128), random.reading_key(13, 6688, 128)] {
+            large.push(Arc::new(Held::new(key)));
+        }
         Pool { small, large }
     }
 

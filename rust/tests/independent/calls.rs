@@ -43,7 +43,7 @@ pub fn drop(state: u8) -> u8 {
     first(&[(state == 0, 21)])
 }
 
-/// 21 and 25, which publish, open and read ask for first.
+/// 21 and 25, which all calls on a kept key ask for first.
 fn held_number(state: u8, held: &Held) -> u8 {
     if state == 0 {
         21
@@ -52,8 +52,16 @@ fn held_number(state: u8, held: &Held) -> u8 {
     }
 }
 
+/// 21, 25 and 34, which every form of publish and open asks for first.
+fn exchange_number(state: u8, held: &Held) -> u8 {
+    match held_number(state, held) {
+        0 => first(&[(held.has_factor(), 34)]),
+        other => other,
+    }
+}
+
 pub fn publish(state: u8, held: &Held, out: usize, work: usize) -> Outcome {
-    let number = held_number(state, held);
+    let number = exchange_number(state, held);
     if number != 0 {
         return refused(number);
     }
@@ -77,7 +85,7 @@ fn pattern(held: &Held, places: Option<Vec<usize>>, none: u8) -> Outcome {
 }
 
 pub fn open(state: u8, held: &Held, capsule: &[u8], out: usize) -> Outcome {
-    let number = match held_number(state, held) {
+    let number = match exchange_number(state, held) {
         0 if state == 1 => 24,
         0 => row_number(held, held.key.capsule_bits(), capsule, out),
         other => other,
@@ -90,7 +98,7 @@ pub fn open(state: u8, held: &Held, capsule: &[u8], out: usize) -> Outcome {
 
 /// The records are what open answers for each capsule, one after the other; the last may be shorter.
 pub fn report(state: u8, held: &Held, capsules: &[u8], records: usize) -> Outcome {
-    let number = match held_number(state, held) {
+    let number = match exchange_number(state, held) {
         0 if state == 1 => 24,
         other => other,
     };
@@ -112,7 +120,7 @@ pub fn counts(records: &[u8]) -> [usize; 256] {
 /// The number and the session key, zeros where it is refused.
 pub fn session(state: u8, held: &Held, capsule: &[u8], secret: &[u8]) -> (u8, [u8; 32]) {
     let bad_secret = || secret.len() != held.key.n.div_ceil(8) || bits::filler_set(held.key.n, secret);
-    let number = match held_number(state, held) {
+    let number = match exchange_number(state, held) {
         0 if state == 1 => 24,
         0 => match row_number(held, held.key.capsule_bits(), capsule, usize::MAX) {
             0 => first(&[(bad_secret(), 33)]),

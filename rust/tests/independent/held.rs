@@ -1,10 +1,10 @@
-//! A key together with what is worked out from it once: its number, its public key, its reader.
+//! A key together with what is worked out from it once: its number, whether g has a proper factor, its public key, its reader.
 
 use std::sync::OnceLock;
 
 use super::bits;
 use super::key::Key;
-use super::{euclid, matrix, search};
+use super::{euclid, factors, matrix, search};
 
 enum Reader {
     Search(search::Reader),
@@ -14,6 +14,7 @@ enum Reader {
 pub struct Held {
     pub key: Key,
     number: OnceLock<u8>,
+    factor: OnceLock<bool>,
     public: OnceLock<Option<Vec<u8>>>,
     reader: OnceLock<Reader>,
 }
@@ -25,12 +26,21 @@ fn word_of(row: &[u8]) -> u16 {
 
 impl Held {
     pub fn new(key: Key) -> Held {
-        Held { key, number: OnceLock::new(), public: OnceLock::new(), reader: OnceLock::new() }
+        let (number, factor) = (OnceLock::new(), OnceLock::new());
+        Held { key, number, factor, public: OnceLock::new(), reader: OnceLock::new() }
     }
 
     /// Load's number for the key, or 0.
     pub fn number(&self) -> u8 {
         *self.number.get_or_init(|| self.key.number())
+    }
+
+    /// Whether a polynomial of degree 1 to t - 1 divides g.
+    pub fn has_factor(&self) -> bool {
+        *self.factor.get_or_init(|| {
+            let test = if self.key.m == 4 { factors::by_division } else { factors::by_powers };
+            test(self.key.field(), &self.key.polynomial())
+        })
     }
 
     pub fn public(&self) -> Option<&[u8]> {

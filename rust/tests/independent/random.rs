@@ -1,10 +1,7 @@
-//! A seeded generator, and random keys, patterns and damage made with it.
+//! A seeded generator, and random patterns and damage made with it; `drawn` has the keys.
 
 use super::bits;
-use super::field::Field;
-use super::held::Held;
 use super::key::Key;
-use super::poly::{square_divides, value};
 
 /// SplitMix64.
 pub struct Random(u64);
@@ -84,45 +81,10 @@ impl Random {
     }
 
     /// Puts a random choice of the list in its first `count` places.
-    fn shuffle<T>(&mut self, list: &mut [T], count: usize) {
+    pub fn shuffle<T>(&mut self, list: &mut [T], count: usize) {
         for i in 0..count {
             let other = i + self.below(list.len() - i);
             list.swap(i, other);
-        }
-    }
-
-    pub fn support(&mut self, m: u8, n: usize) -> Vec<u16> {
-        let mut all: Vec<u16> = (0..1u32 << m).map(|x| x as u16).collect();
-        self.shuffle(&mut all, n);
-        all.truncate(n);
-        all
-    }
-
-    /// A key that load accepts: g by trial, square-free and nowhere 0 on the support.
-    pub fn key(&mut self, m: u8, n: usize, t: usize) -> Key {
-        let f = Field::of(m).expect("a width of document 01");
-        loop {
-            let support = self.support(m, n);
-            let mut g = self.elements(m, t);
-            g.push(1);
-            if !square_divides(f, &g) && support.iter().all(|x| value(f, &g, *x) != 0) {
-                g.pop();
-                return Key { m, n, t, support, g };
-            }
-        }
-    }
-
-    /// A key that has a public key: the support is drawn again, in another order, until it has.
-    pub fn published(&mut self, m: u8, n: usize, t: usize) -> Held {
-        loop {
-            let mut key = self.key(m, n, t);
-            for _ in 0..20 {
-                let held = Held::new(key.clone());
-                if held.public().is_some() {
-                    return held;
-                }
-                self.shuffle(&mut key.support, n);
-            }
         }
     }
 

@@ -110,6 +110,7 @@ fn load(station: &mut Station) {
     let mut key = file::<7109>("key.bin");
     station.load(&key[..]).expect("load accepts");
     assert_eq!(station.load(&key[..]), Err(Refusal::KeyHeld));
+    assert_eq!(station.is_exchange_key(), Ok(true));
     wipe(&mut key[..]);
 }
 

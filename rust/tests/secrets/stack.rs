@@ -41,6 +41,7 @@ fn calls_leave_zeros_on_the_stack() {
     let mut station = Station::fresh();
     let mut public = vec![];
     assert_eq!(left_by(|| station.load(&key).expect("load accepts")), 0, "load");
+    assert_eq!(left_by(|| assert_eq!(station.is_exchange_key(), Ok(true))), 0, "is_exchange_key");
     assert_eq!(left_by(|| public = station.publish().expect("publish accepts")), 0, "publish");
     assert_eq!(left_by(|| drop(station.open(&capsule).expect("it opens"))), 0, "open");
     let card = capsule.repeat(3);

@@ -2,6 +2,7 @@
 
 mod document;
 mod errors;
+mod exchange;
 mod explanations;
 mod formats;
 mod names;

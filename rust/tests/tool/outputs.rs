@@ -13,9 +13,9 @@ use crate::support::vectors;
 #[test]
 fn check_names_the_shape() {
     let (folder, key) = with_k1();
-    accepted(&["check", &key], &[], "accepted 4,6,1\n");
+    accepted(&["check", &key], &[], "accepted 4,6,1 exchange\n");
     let large = folder.write("large.bin", &vectors::file("mceliece348864/count0/key.bin"));
-    accepted(&["check", &large], &[], "accepted 12,3488,64 mceliece348864\n");
+    accepted(&["check", &large], &[], "accepted 12,3488,64 mceliece348864 exchange\n");
 }
 
 #[test]

@@ -61,7 +61,7 @@ fn a_short_tail_is_refused_8() {
 #[test]
 fn a_long_input_is_read_to_its_end() {
     let (_folder, key) = with_k1();
-    let input: Vec<u8> = (0..70_000_u32).map(|i| [0x03, 0x00, 0x13][(i * i % 11 % 3) as usize]).collect();
+    let input: Vec<u8> = (0..70_000_u64).map(|i| [0x03, 0x00, 0x13][(i * i % 11 % 3) as usize]).collect();
     let said = |capsule: &u8| match capsule {
         0x03 => "open 4",
         0x00 => "refused 13",
@@ -223,7 +223,7 @@ fn a_dash_is_a_standard_stream_for_every_file() {
     let public = folder.write("public", &[3, 1, 2, 0]);
     let pattern = folder.write("pattern", &[0x10]);
     let capsule = folder.write("capsule", &[3]);
-    gives(&["check", "-"], &K1, b"accepted 4,6,1\n");
+    gives(&["check", "-"], &K1, b"accepted 4,6,1 exchange\n");
     gives(&["publish", "-", "-"], &K1, &[3, 1, 2, 0]);
     gives(&["publish", &key, "-"], &[], &[3, 1, 2, 0]);
     gives(&["lock", "4,6,1", "-", &pattern, "-"], &[3, 1, 2, 0], &[3]);

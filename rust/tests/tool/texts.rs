@@ -74,6 +74,8 @@ fn help_names_operands_options_and_values() {
         assert!(session.contains(part), "{part}: {session}");
     }
     assert!(!session.contains("  places "), "{session}");
+    let check = help(&["help", "check"]);
+    assert!(check.contains("`exchange` or `reading-only`") && check.contains("refused 34"), "{check}");
     let report = help(&["help", "report"]);
     assert!(report.contains("--records OUT ") && report.contains("--jobs N "), "{report}");
 }

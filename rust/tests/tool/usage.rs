@@ -84,7 +84,7 @@ fn options_stand_anywhere() {
 fn every_command_takes_quiet() {
     let (folder, key) = with_k1();
     let (public, capsule) = (folder.at("public"), folder.at("capsule"));
-    accepted(&["check", &key, "--quiet"], &[], "accepted 4,6,1\n");
+    accepted(&["check", &key, "--quiet"], &[], "accepted 4,6,1 exchange\n");
     accepted(&["publish", "--quiet", &key, &public], &[], "");
     accepted(&["lock", "--quiet", "4,6,1", &public, "-", &capsule], &[0x10], "");
     for words in [vec!["shapes"], vec!["help"], vec!["man"], vec!["completions", "bash"]] {

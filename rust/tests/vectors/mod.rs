@@ -2,6 +2,7 @@
 
 mod calls;
 mod fields;
+mod irreducible;
 mod keys;
 mod program;
 mod sessions;
@@ -75,6 +76,18 @@ fn same_records(station: &raw::Station, cases: &[Vec<String>]) -> usize {
         assert_eq!(reported.counts, independent::calls::counts(&expected));
     }
     numbers.len()
+}
+
+/// The lines of the folders of words were made before request L5: with a g that has a proper factor, publishing and opening
+/// are refused with 34, and reading and locking stay.
+fn with_a_factor(case: &[String]) -> Vec<String> {
+    let kept = match case[0].as_str() {
+        "publish" => 1,
+        "open" => 2,
+        _ => return case.to_vec(),
+    };
+    let refused = ["refused", "34"].map(str::to_owned);
+    case[..kept].iter().cloned().chain(refused).collect()
 }
 
 /// The number that a case says; 0 for `ok`.

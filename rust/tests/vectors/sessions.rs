@@ -7,6 +7,7 @@ use crate::independent::held::Held;
 use crate::independent::key::Key;
 use crate::independent::{calls, shake};
 use crate::support::bytes;
+use crate::support::raw_calls::{self, holding};
 use crate::support::vectors::{cases, exists, file, names};
 
 /// Both session keys of a folder, and that only the one for a capsule that does not open goes by the secret.
@@ -50,26 +51,32 @@ fn every_standard_folder() {
     }
 }
 
-/// The `session` lines of a folder of words; how many.
-fn same_lines(folder: &str) -> usize {
+/// The `session` lines of a folder of words: whether all are refused with 34 since request L5, and how many there are.
+fn same_lines(folder: &str) -> (bool, usize) {
     let key = file(&format!("{folder}/key.bin"));
     let (mut station, held) = (loaded(&key), Held::new(Key::parse(&key).expect("a key")));
-    station.publish().expect("publish accepts");
+    let split = held.has_factor();
+    assert_eq!(station.publish().err(), split.then_some(Refusal::ReducibleKey), "{folder}");
+    let marked = holding(2, &held.key);
     let lines = cases(&format!("{folder}/session.txt"));
     for case in &lines {
-        let [capsule, secret, expected] = [1, 2, 3].map(|i| bytes(&case[i]));
+        let [capsule, secret, key] = [1, 2, 3].map(|i| bytes(&case[i]));
         assert_eq!((case[0].as_str(), case.len()), ("session", 4), "{case:?}");
-        assert_eq!(station.session(&capsule, &secret).expect("a key"), expected[..], "{case:?}");
-        let second = calls::session(2, &held, &capsule, &secret);
-        assert_eq!((second.0, &second.1[..]), (0, &expected[..]), "the second implementation: {case:?}");
+        let expected = if split { (34, [0; 32]) } else { (0, key.try_into().expect("32 bytes")) };
+        let derived = raw_calls::session(marked, &capsule, &secret);
+        assert_eq!((derived.refused, derived.key), expected, "{case:?}");
+        let answer = station.session(&capsule, &secret).map_err(Refusal::number);
+        assert_eq!(answer, if split { Err(34) } else { Ok(expected.1) }, "{case:?}");
+        assert_eq!(calls::session(2, &held, &capsule, &secret), expected, "the second implementation: {case:?}");
     }
-    lines.len()
+    (split, lines.len())
 }
 
 #[test]
 fn every_folder_of_words() {
     let folders = names("words").into_iter().map(|name| format!("words/{name}"));
     let with_lines = folders.filter(|folder| exists(&format!("{folder}/session.txt")));
-    let counts: Vec<usize> = with_lines.map(|folder| same_lines(&folder)).collect();
-    assert!(counts.len() >= 18 && counts.iter().sum::<usize>() > 2_700, "{counts:?}");
+    let counts: Vec<(bool, usize)> = with_lines.map(|folder| same_lines(&folder)).collect();
+    let of = |kind: bool| counts.iter().filter(|(split, _)| *split == kind).map(|(_, count)| count).sum::<usize>();
+    assert!(counts.len() >= 18 && of(false) > 2_000 && of(true) > 100, "{counts:?}");
 }

@@ -35,9 +35,18 @@ pub fn publishing(refusal: Refusal) -> Explained {
         Refusal::DependentColumns => {
             format!("the key opens no capsules, though it reads words: {ANOTHER}")
         }
+        Refusal::ReducibleKey => {
+            format!("expected an irreducible g; the key opens no capsules, though it reads words: {ANOTHER}")
+        }
         _ => String::new(),
     };
     Explained::new(refusal, refusal.condition(), found)
+}
+
+/// A key that load accepts and publish refuses for its g.
+pub fn reading_only() -> String {
+    let (condition, number) = (Refusal::ReducibleKey.condition(), Refusal::ReducibleKey.number());
+    format!("{condition}: words are read with the key; publish, open, session and report are refused {number}")
 }
 
 /// A key file's numbers as load counts them: what is missing is 0.

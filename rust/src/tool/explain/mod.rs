@@ -10,7 +10,7 @@ use std::fmt;
 
 use shearcotter::Refusal;
 
-pub use key_file::{key_file, publishing};
+pub use key_file::{key_file, publishing, reading_only};
 pub use rows::{number, public_key, row, secret, Row};
 pub use shapes::{position, shape};
 
