@@ -270,7 +270,8 @@ uint8_t shearcotter_lock(uint8_t m, uint16_t n, uint16_t t, const uint8_t *publi
 shearcotter_station shearcotter_fresh(void);
 
 /* Keeps the key of a key file: m in a byte, n in two, low byte first, n elements of two, t in two, g_0 to g_(t-1) of two.
- * Afterwards loaded. A g with a proper factor is kept too: words are read with it, and 34 refuses all else.
+ * Afterwards loaded. A key whose g has a proper factor is kept too: words are read with it, and publish, open, report and session
+ * refuse with 34.
  * Refused: 22, 1, 2, 3, 4, 5, 6, 7. */
 shearcotter_reply shearcotter_load(shearcotter_station station, const uint8_t *file, size_t file_length);
 

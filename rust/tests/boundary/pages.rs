@@ -7,6 +7,7 @@ use std::slice;
 use shearcotter::raw;
 
 use crate::compare::near_code_word;
+use crate::independent::drawn::has_reading_keys;
 use crate::independent::held::Held;
 use crate::independent::random::Random;
 use crate::independent::{calls, matrix, shake};
@@ -171,6 +172,14 @@ fn nothing_past_the_ends() {
             report(&mut random, &held, cut);
             session(&mut random, &held, cut);
             lock(&mut random, &held, cut);
+        }
+        if has_reading_keys((m, n, t)) {
+            let held = Held::new(random.reading_key(m, n, t));
+            for cut in [0, 1] {
+                load_and_publish(&held, cut);
+                open_and_read(&mut random, &held, cut);
+                report(&mut random, &held, cut);
+            }
         }
     }
 }
