@@ -1,5 +1,5 @@
-/* For each key file named: load, open, a session key and a read of the word of ones under callgrind, which writes a profile of each
-   call with the title 'CALL SHAPE', and of nothing else. */
+/* For each key file named: load, the question whether it is an exchange key, open, a session key, a report on three capsules and a
+   read of the word of ones under callgrind, which writes a profile of each call with the title 'CALL SHAPE', and of nothing else. */
 #include <stdio.h>
 #include <string.h>
 #include <valgrind/callgrind.h>
@@ -8,9 +8,10 @@
 
 enum { PLACES = SHEARCOTTER_MOST_PLACES, ERRORS = SHEARCOTTER_MOST_ERRORS, WORD = PLACES / 8 };
 static uint8_t file[SHEARCOTTER_FILE_BYTES(PLACES, ERRORS) + 1], public_key[13 * ERRORS * WORD], work[13 * ERRORS * WORD];
-static uint8_t pattern[WORD], ones[WORD], capsule[WORD], out[WORD];
+static uint8_t pattern[WORD], ones[WORD], capsule[WORD], out[WORD], capsules[3 * WORD], records[3];
 static shearcotter_reply reply;
 static shearcotter_derived derived;
+static shearcotter_reported reported;
 
 #define PROFILE(name, result, call) \
     do { \
@@ -39,13 +40,19 @@ static int profile(size_t size)
     fill(pattern, n / t, t);
     reply.station = shearcotter_fresh();
     PROFILE("load", reply, shearcotter_load(reply.station, file, size));
+    PROFILE("asked", reply, shearcotter_publish(reply.station, public_key, 0, work, 0));
+    int exchange = reply.refused == SHEARCOTTER_SHORT_OUTPUT;
     reply = shearcotter_publish(reply.station, public_key, sizeof public_key, work, sizeof work);
     shearcotter_lock((uint8_t)m, (uint16_t)n, (uint16_t)t, public_key, SHEARCOTTER_PUBLIC_BYTES(m, n, t), pattern, word_bytes,
                      capsule, WORD);
     PROFILE("open", reply, shearcotter_open(reply.station, capsule, capsule_bytes, out, WORD));
-    int opened = !reply.refused && memcmp(out, pattern, word_bytes) == 0;
+    int opened = exchange && !reply.refused && memcmp(out, pattern, word_bytes) == 0;
     PROFILE("session", derived, shearcotter_session(reply.station, capsule, capsule_bytes, pattern, word_bytes));
     opened = opened && !derived.refused;
+    for (int i = 0; i < 3; i++)
+        memcpy(capsules + (size_t)i * capsule_bytes, capsule, capsule_bytes);
+    PROFILE("report", reported, shearcotter_report(reply.station, capsules, 3 * capsule_bytes, records, sizeof records));
+    opened = opened && !reported.refused && reported.counts[0] == 3;
     capsule[0] ^= 1;
     PROFILE("reject", derived, shearcotter_session(reply.station, capsule, capsule_bytes, pattern, word_bytes));
     opened = opened && !derived.refused;
