@@ -54,7 +54,7 @@ fn same_total(name: &str, key: &str, input: &[u8], printed: &str) {
 #[test]
 fn short_runs() {
     let names = names("program");
-    assert!(names.len() >= 15);
+    assert!(names.len() >= 16);
     names.iter().for_each(|name| compare(name, |length| length < MOST));
 }
 
