@@ -5,10 +5,10 @@ use Rattle.program_vectors.proofs.main.Statement.{statement}
 use Rattle.program_vectors.proofs.main.Tie as tie
 
 abbrev Inv-loop : tie.InvT-loop
-Inv-loop differences₀ case₀ t3 differences case = (differences ≤ case) × (case ≤ 30)
+Inv-loop differences₀ case₀ t3 differences case = (differences ≤ case) × (case ≤ 32)
 
 abbrev μ-loop : tie.MeasureT-loop
-μ-loop differences₀ case₀ t3 differences case = 30 - case
+μ-loop differences₀ case₀ t3 differences case = 32 - case
 
 loop-holds : tie.Need-loop-holds Inv-loop μ-loop
 loop-holds c = search needs
