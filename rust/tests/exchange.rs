@@ -3,7 +3,7 @@
 use shearcotter::raw::Station;
 use shearcotter::{raw, Refusal};
 
-use crate::independent::drawn::{doubled, has_reading_keys, Split};
+use crate::independent::drawn::{Kind, Split};
 use crate::independent::field::Field;
 use crate::independent::held::Held;
 use crate::independent::key::Key;
@@ -96,20 +96,10 @@ fn every_degree_at_the_large_widths() {
     }
 }
 
-/// Something that a call looks at, and the numbers whose conditions hold for it, in their order.
-type Kind<T> = (T, Vec<u8>);
-
-/// Keys with each of 25 and 34, alone and together, and with none.
+/// Keys of a shape with each of 25 and 34, alone and together, and with none.
 fn keys(random: &mut Random, (m, n, t): (u8, usize, usize)) -> Vec<Kind<Held>> {
     let held = random.published(m, n, t);
-    let unsound = doubled(&held.key);
-    let mut keys = vec![(held, vec![]), (unsound, vec![25])];
-    if has_reading_keys((m, n, t)) {
-        let split = random.reading_key(m, n, t);
-        keys.push((doubled(&split), vec![25, 34]));
-        keys.push((Held::new(split), vec![34]));
-    }
-    keys
+    random.kinds(held)
 }
 
 /// A station in a state with a key: 21 stands before the key's numbers.

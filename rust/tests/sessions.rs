@@ -4,9 +4,8 @@ use shearcotter::raw::Station;
 use shearcotter::{shake256, Refusal, Shape};
 
 use crate::compare::small_shapes;
-use crate::independent::drawn::{doubled, has_reading_keys};
+use crate::independent::drawn::{has_reading_keys, Kind};
 use crate::independent::held::Held;
-use crate::independent::key::Key;
 use crate::independent::random::Random;
 use crate::independent::{bits, calls, matrix};
 use crate::support::raw_calls::{self, holding};
@@ -154,22 +153,6 @@ fn large_shapes() {
     }
 }
 
-/// Something that a call looks at, and the numbers whose conditions hold for it, in their order.
-type Kind<T> = (T, Vec<u8>);
-
-/// Keys with each of 25 and 34, alone and together, and with none.
-fn keys(random: &mut Random, held: Held) -> Vec<Kind<Held>> {
-    let Key { m, n, t, .. } = held.key;
-    let unsound = doubled(&held.key);
-    let mut keys = vec![(held, vec![]), (unsound, vec![25])];
-    if has_reading_keys((m, n, t)) {
-        let split = random.reading_key(m, n, t);
-        keys.push((doubled(&split), vec![25, 34]));
-        keys.push((Held::new(split), vec![34]));
-    }
-    keys
-}
-
 /// Stations with each of the keys, in every kind of state: 21 before the key's numbers, and 24 behind them.
 fn stations(keys: &[Kind<Held>]) -> Vec<Kind<(Station, &Held)>> {
     let mut made = vec![];
@@ -219,7 +202,7 @@ fn numbers_in_their_order() {
     for (m, n, t) in [(4, 6, 1), (4, 13, 3), (12, 100, 5), (13, 6957, 119)] {
         let held = random.published(m, n, t);
         let capsules = capsules(&mut random, &held);
-        for ((station, held), of_station) in stations(&keys(&mut random, held)) {
+        for ((station, held), of_station) in stations(&random.kinds(held)) {
             for (capsule, of_capsule) in &capsules {
                 for (secret, of_secret) in secrets(&mut random, n) {
                     let (number, key) = same_session(&station, held, capsule, &secret);

@@ -39,6 +39,9 @@ pub fn has_reading_keys((m, n, t): (u8, usize, usize)) -> bool {
     t > 1 && n + roots <= 1 << m
 }
 
+/// Something that a call looks at, and the numbers whose conditions hold for it, in their order.
+pub type Kind<T> = (T, Vec<u8>);
+
 /// The key with its first element twice, which load refuses: a station made by hand with it answers 25.
 pub fn doubled(key: &Key) -> Held {
     let mut key = key.clone();
@@ -145,5 +148,18 @@ impl Random {
                 self.shuffle(&mut key.support, n);
             }
         }
+    }
+
+    /// A key and others of its shape with each of 25 and 34, alone and together.
+    pub fn kinds(&mut self, held: Held) -> Vec<Kind<Held>> {
+        let Key { m, n, t, .. } = held.key;
+        let unsound = doubled(&held.key);
+        let mut keys = vec![(held, vec![]), (unsound, vec![25])];
+        if has_reading_keys((m, n, t)) {
+            let split = self.reading_key(m, n, t);
+            keys.push((doubled(&split), vec![25, 34]));
+            keys.push((Held::new(split), vec![34]));
+        }
+        keys
     }
 }
