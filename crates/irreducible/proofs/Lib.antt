@@ -1,8 +1,7 @@
-pub mod RowTable
-pub mod Residues
 pub mod Rows
 pub mod Modulo
+pub mod Products
 pub mod PowerRows
-pub mod Independence
+pub mod Elimination
 pub mod Verdict
 pub mod Exchange

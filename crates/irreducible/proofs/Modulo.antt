@@ -1,13 +1,13 @@
--- Lists as residues modulo g: times the unknown, products by coefficients. Assumes nothing.
-use mathlib.Core.Path.{_≡_, refl, sym, ap, ap₂, _∙_, fun-ext}
+-- Lists as polynomials: powers of the unknown, rows added, equality modulo g. Assumes nothing.
+use mathlib.Core.Path.{_≡_, refl, sym, ap, ap₂, _∙_, fun-ext, subst}
 use mathlib.Core.List.{List, [], _∷_, map}
 use Prim.Native.Nat.{ℕ, zero, suc, _+_, _-_, _^_, _≤_, _<_}
 use native.Mathlib.Omega.{arith}
-use native.Mathlib.Decide.{decLt}
-use lib.ListN.{length, getD, take, length-map, List·getD-eq-default}
-use lib.Seq.{getD-take}
+use native.Mathlib.Decide.{decLt, ℕ-discrete}
+use lib.ListN.{length, getD, take, set, replicate, length-map, length-take}
+use lib.Seq.{getD-take, getD-set-same, getD-set-other}
 use lib.Pow.{pow-pos}
-use Rattle.bits.proofs.Lists.{take-below}
+use Rattle.bits.proofs.Bits.{zeros-at}
 use Rattle.bits.specs.Xor.{_⊕_}
 use Rattle.bits.specs.Bits.{xorRow}
 use Rattle.bits.proofs.Xor.{xor-lt}
@@ -21,18 +21,27 @@ use Rattle.algebra.proofs.Poly.{Below, Poly, Monic, poly-mul, poly-C}
 use Rattle.field.specs.Field.{mul}
 use Rattle.field.proofs.Table.{Width}
 use Rattle.field.proofs.Laws.{mul-lt}
-use Rattle.field.proofs.Gf.{Elem, val, val-zero, plus, times, zero-elem, one-elem, laws, gf}
+use Rattle.field.proofs.Gf.{Elem, val, val-zero, val-xor, plus, times, zero-elem, one-elem, laws, gf}
 use Rattle.field.proofs.Arrays.{Elements, map-elements, poly, poly-below, poly-cons, poly-xor, poly-scale}
 use Rattle.poly.specs.Polynomials.{monic}
 use Rattle.poly.proofs.Product.{monic-low, poly-monic}
 use Rattle.algebra.proofs.Factor.{Div, div, div-add, div-mul, div-to}
 use Rattle.algebra.proofs.Rank.{power, monic-power}
-use Rattle.irreducible.specs.RowTable.{tableOf, addMultiple}
-use Rattle.irreducible.specs.Residues.{last, shifted, timesX, timesXs}
-use Rattle.irreducible.specs.Rows.{productTo}
-use Rattle.irreducible.specs.Ready.{Same}
-use Rattle.irreducible.proofs.RowTable.{addMultiple-row, length-addMultiple}
-use Rattle.irreducible.proofs.Residues.{length-shifted, length-timesX, length-timesXs}
+use Rattle.row_tables.specs.RowTable.{tableOf, addMultiple}
+use Rattle.row_tables.proofs.RowTable.{addMultiple-row}
+use Rattle.irreducible.specs.Residues.{Same}
+
+pub zeros-elements : (m n : ℕ) → Elements m (replicate n 0)
+zeros-elements m n k = rw (zeros-at n k) (pow-pos m)
+
+pub set-elements : (m : ℕ) (r : List ℕ) (p v : ℕ) → p < length r → v < 2 ^ m → Elements m r → Elements m (set r p (getD r p 0 ⊕ v))
+set-elements m r p v h b E k = elim (ℕ-discrete k p) [
+  | yes e ↦ subst (λ (x : ℕ). getD (set r p (getD r p 0 ⊕ v)) x 0 < 2 ^ m) (sym e) (rw (getD-set-same {A = ℕ} r p (getD r p 0 ⊕ v) 0 h) (xor-lt m (E p) b))
+  | no e ↦ rw (getD-set-other {A = ℕ} r p k (getD r p 0 ⊕ v) 0 e) (E k)
+]
+
+above : (j k : ℕ) → j ≤ k → ¬ (k ≡ j) → j < k
+above j k l n = elim (decLt j k) [ yes b ↦ b | no b ↦ (let e : k ≡ j = omega arith in absurd (n e)) ]
 
 module _ (m : ℕ) (W : Width m) where
   open Operations (operations (laws m W)) using (_⊞_, _⊠_, O, C, X, series)
@@ -65,6 +74,9 @@ module _ (m : ℕ) (W : Width m) where
 
   pub power-low : (j k : ℕ) → k < j → power K j k ≡ zero-elem m
   power-low j k h = ap (λ p. p k) (power-shift j) ∙ shift-low L j (C (one-elem m W)) k h
+
+  pub power-other : (j k : ℕ) → ¬ (k ≡ j) → power K j k ≡ zero-elem m
+  power-other j k h = elim (decLt k j) [ yes l ↦ power-low j k l | no l ↦ monic-power K j .below k (above j k (omega arith) h) ]
 
   pub power-poly : (j : ℕ) → Poly L (power K j)
   power-poly j = (suc j, monic-power K j .below)
@@ -100,13 +112,37 @@ module _ (m : ℕ) (W : Width m) where
   pub first-all : (n : ℕ) (p : Series (Elem m)) → Below L n p → first n p ≡ p
   first-all n p b = fun-ext λ k. elim (decLt k n) [ yes h ↦ first-at n p k .0 h | no h ↦ first-at n p k .1 (omega arith) ∙ sym (b k (omega arith)) ]
 
+  pub take-first : (j : ℕ) (b : List ℕ) → poly m (take j b) ≡ first j (poly m b)
+  take-first j b = fun-ext λ k. elim (decLt k j) [
+    | yes h ↦ ap (val m) (getD-take j b k 0 h) ∙ sym (first-at j (poly m b) k .0 h)
+    | no h ↦ poly-below m W (take j b) k (omega (arith, length-take j b)) ∙ sym (first-at j (poly m b) k .1 (omega arith))
+  ]
+
+  pub zeros-poly : (n : ℕ) → poly m (replicate n 0) ≡ O
+  unfolding S.O
+  zeros-poly n = fun-ext λ k. ap (val m) (zeros-at n k) ∙ val-zero m
+
+  -- a number added at a place
+  module _ (r : List ℕ) (p v : ℕ) (h : p < length r) where
+    abbrev new : List ℕ
+    new = set r p (getD r p 0 ⊕ v)
+
+    pub set-poly : poly m new ≡ poly m r ⊞ C (val m v) ⊠ power K p
+    unfolding S._⊞_
+    set-poly = fun-ext λ k. elim (ℕ-discrete k p) [
+      | yes e ↦ ap (λ (x : ℕ). val m (getD new x 0)) e ∙ ap (val m) (getD-set-same r p (getD r p 0 ⊕ v) 0 h) ∙ val-xor m _ v
+          ∙ ap₂ (plus m) (sym (ap (poly m r) e)) (sym (C-at L (val m v) (power K p) k ∙ ap (times m (val m v)) (ap (power K p) e ∙ monic-power K p .lead) ∙ L .mul-one _))
+      | no e ↦ ap (val m) (getD-set-other r p k _ 0 e)
+          ∙ sym (ap (plus m (poly m r k)) (C-at L (val m v) (power K p) k ∙ ap (times m (val m v)) (power-other p k e)) ∙ end (poly m r k) (val m v))
+    ]
+      where
+        end : (a b : Elem m) → plus m a (times m b (zero-elem m)) ≡ a
+        end a b = simp (ring, L)
+
   -- modulo g
-  module _ (g : List ℕ) (small : length g ≤ 128) where
+  module _ (g : List ℕ) where
     abbrev G : Series (Elem m)
     G = poly m (monic g)
-
-    abbrev T : List ℕ
-    T = tableOf m g
 
     pub same-refl : (p : Series (Elem m)) → Same m W g p p
     unfolding S.O
@@ -136,104 +172,16 @@ module _ (m : ℕ) (W : Width m) where
     pub same-to : {p q r s : Series (Elem m)} → p ≡ q → r ≡ s → Same m W g p r → Same m W g q s
     same-to e f a = record { by = div-to K (ap₂ _⊞_ e f) (a .by) }
 
-    -- times the unknown
-    x-times : (r : List ℕ) → X ⊠ poly m r ≡ poly m (0 ∷ r)
-    x-times r = sym (poly-cons m W 0 r ∙ ap (λ x. x ⊞ X ⊠ poly m r) (ap C (val-zero m) ∙ C-zero L) ∙ zero-add series _)
+    pub same-product : {p y q z : Series (Elem m)} → Poly L p → Poly L z → Same m W g p y → Same m W g q z → Same m W g (p ⊠ q) (y ⊠ z)
+    same-product {p} {y} {q} {z} a b e f = same-trans (same-mul p a f) (same-to (series .mul-comm z p) (series .mul-comm z y) (same-mul z b e))
 
-    module _ (r : List ℕ) (e : length r ≡ length g) where
-      abbrev c : Elem m
-      c = val m (last r)
-
-      top : (k : ℕ) → poly m (0 ∷ r) k ≡ plus m (poly m (shifted r) k) (times m c (plus m (poly m g k) (G k)))
-      unfolding shifted last
-      top k = elim (decLt k (length g)) [
-        | yes h ↦ ap (val m) (sym (getD-take (length r) (0 ∷ r) k 0 (omega arith))) ∙ sym (ap (λ x. plus m (poly m (shifted r) k) (times m c (plus m (poly m g k) x))) (ap (val m) (monic-low g k h)) ∙ cancel _ _ _)
-        | no h ↦ elim (decLt (length g) k) [
-          | yes l ↦ ap (val m) (List·getD-eq-default (0 ∷ r) 0 {n = k} (omega arith)) ∙ val-zero m
-              ∙ sym (ap₂ (λ x y. plus m x (times m c y)) (past k (omega arith)) (ap₂ (plus m) (poly-below m W g k (omega arith)) (poly-monic m W g .below k l) ∙ L .add-self _) ∙ nil c)
-          | no l ↦ (let i : k ≡ length g = omega arith in let j : k ≡ length r = omega arith in
-              ap (poly m (0 ∷ r)) j
-              ∙ sym (ap₂ (λ x y. plus m x (times m c y)) (past k (omega arith)) (ap₂ (plus m) (poly-below m W g k (omega arith)) (ap G i ∙ poly-monic m W g .lead) ∙ zero-add L _) ∙ unit c))
-        ]
+    -- g by its lower coefficients
+    pub monic-split : G ≡ poly m g ⊞ power K (length g)
+    unfolding S._⊞_
+    monic-split = fun-ext λ k. elim (decLt k (length g)) [
+      | yes h ↦ ap (val m) (monic-low g k h) ∙ sym (ap (plus m (poly m g k)) (power-low (length g) k h) ∙ L .add-zero _)
+      | no h ↦ elim (ℕ-discrete k (length g)) [
+        | yes e ↦ ap G e ∙ poly-monic m W g .lead ∙ sym (ap₂ (plus m) (poly-below m W g k (omega arith)) (ap (power K (length g)) e ∙ monic-power K (length g) .lead) ∙ zero-add L _)
+        | no e ↦ poly-monic m W g .below k (above (length g) k (omega arith) e) ∙ sym (ap₂ (plus m) (poly-below m W g k (omega arith)) (power-other (length g) k e) ∙ L .add-zero _)
       ]
-        where
-          past : (k : ℕ) → length r ≤ k → poly m (shifted r) k ≡ zero-elem m
-          past k h = poly-below m W (shifted r) k (omega (arith, length-shifted r))
-
-          cancel : (a b d : Elem m) → plus m a (times m b (plus m d d)) ≡ a
-          cancel a b d = simp (ring, L)
-
-          nil : (b : Elem m) → plus m (zero-elem m) (times m b (zero-elem m)) ≡ zero-elem m
-          nil b = simp (ring, L)
-
-          unit : (b : Elem m) → plus m (zero-elem m) (times m b (one-elem m W)) ≡ b
-          unit b = simp (ring, L)
-
-      pub times-same : Same m W g (X ⊠ poly m r) (poly m (timesX T r))
-      unfolding timesX S._⊞_
-      times-same = record { by = div K (C c) (poly-C L c) (ap₂ _⊞_ whole (add-row g (last r) (shifted r) (length-shifted r ∙ e) (omega (arith, length-shifted r))) ∙ shape (poly m (shifted r)) (C c) (poly m g) G) }
-        where
-          whole : X ⊠ poly m r ≡ poly m (shifted r) ⊞ C c ⊠ (poly m g ⊞ G)
-          whole = x-times r ∙ fun-ext λ k. top k ∙ ap (plus m (poly m (shifted r) k)) (sym (C-at L c (λ i. plus m (poly m g i) (G i)) k))
-
-          shape : (s c p q : Series (Elem m)) → (s ⊞ c ⊠ (p ⊞ q)) ⊞ (s ⊞ c ⊠ p) ≡ q ⊠ c
-          shape s c p q = let R = series in simp (ring, R)
-
-    pub times-all : (k : ℕ) (r : List ℕ) → length r ≡ length g → Same m W g (power K k ⊠ poly m r) (poly m (timesXs T k r))
-    unfolding timesXs pow
-    times-all zero r e = same-to (sym (one (poly m r))) refl (same-refl (poly m r))
-      where
-        one : (p : Series (Elem m)) → C (one-elem m W) ⊠ p ≡ p
-        one p = let R = series in simp (ring, R)
-    times-all (suc k) r e =
-        same-trans (same-to (shape (power K k) (poly m r)) refl (same-mul (power K k) (power-poly k) (times-same r e))) (times-all k (timesX T r) (length-timesX T r ∙ e))
-      where
-        shape : (p q : Series (Elem m)) → p ⊠ (X ⊠ q) ≡ X ⊠ p ⊠ q
-        shape p q = let R = series in simp (ring, R)
-
-    shifted-elements : (r : List ℕ) → Elements m r → Elements m (shifted r)
-    unfolding shifted
-    shifted-elements r E = take-below (2 ^ m) (length r) (0 ∷ r) at
-      where
-        at : (k : ℕ) → getD (0 ∷ r) k 0 < 2 ^ m
-        at zero = pow-pos m
-        at (suc k) = E k
-
-    pub times-elements : (k : ℕ) (r : List ℕ) → length r ≡ length g → Elements m r → Elements m (timesXs T k r)
-    unfolding timesXs timesX
-    times-elements zero r e E = E
-    times-elements (suc k) r e E =
-        times-elements k (timesX T r) (length-timesX T r ∙ e)
-        (add-elements g (last r) (shifted r) (length-shifted r ∙ e) (omega (arith, length-shifted r)) (shifted-elements r E))
-
-    -- the product by coefficients
-    pub length-productTo : (w a b : List ℕ) (j : ℕ) → length (productTo m T w a b j) ≡ length b
-    unfolding productTo
-    length-productTo w a b zero = refl
-    length-productTo w a b (suc j) = length-addMultiple _ _ _ ∙ length-productTo w a b j
-
-    module _ (w a b : List ℕ) (ew : length w ≡ length g) (eb : length b ≡ length g) where
-      step-size : (j : ℕ) → length (productTo m T w a b j) ≡ length (timesXs T j w)
-      step-size j = length-productTo w a b j ∙ eb ∙ sym (length-timesXs T j w ∙ ew)
-
-      pub product-elements : Elements m b → (j : ℕ) → Elements m (productTo m T w a b j)
-      unfolding productTo
-      product-elements E zero = E
-      product-elements E (suc j) = add-elements (timesXs T j w) (getD a j 0) (productTo m T w a b j) (step-size j) (omega (arith, length-productTo w a b j)) (product-elements E j)
-
-      product-same : (j : ℕ) → Same m W g (first j (poly m a) ⊠ poly m w ⊞ poly m b) (poly m (productTo m T w a b j))
-      unfolding productTo first
-      product-same zero = same-to (sym (nil (poly m w) (poly m b))) refl (same-refl (poly m b))
-        where
-          nil : (p q : Series (Elem m)) → O ⊠ p ⊞ q ≡ q
-          nil p q = let R = series in simp (ring, R)
-      product-same (suc j) =
-          same-to (shape (first j (poly m a)) (poly m w) (poly m b) (C (poly m a j)) (power K j))
-          (sym (add-row (timesXs T j w) (getD a j 0) (productTo m T w a b j) (step-size j) (omega (arith, length-productTo w a b j))))
-          (same-add (product-same j) (same-mul (C (poly m a j)) (poly-C L _) (times-all j w ew)))
-        where
-          shape : (f w b c x : Series (Elem m)) → (f ⊠ w ⊞ b) ⊞ c ⊠ (x ⊠ w) ≡ (f ⊞ c ⊠ x) ⊠ w ⊞ b
-          shape f w b c x = let R = series in simp (ring, R)
-
-      pub product-all : length a ≡ length g → Same m W g (poly m a ⊠ poly m w ⊞ poly m b) (poly m (productTo m T w a b (length g)))
-      product-all ea = same-to (ap (λ x. x ⊠ poly m w ⊞ poly m b) (first-all (length g) (poly m a) (λ i h. poly-below m W a i (omega arith)))) refl (product-same (length g))
+    ]

@@ -7,18 +7,24 @@ use native.Mathlib.Nat.{add-zero, zero-add, le-trans, mul-le-mul-right}
 use native.Mathlib.Numerals.{add-one}
 use native.Mathlib.Omega.{arith}
 use native.Mathlib.Decide.{decLt}
-use lib.ListN.{length, getD, take, drop, set, length-set, length-drop}
-use lib.Seq.{length-take-le, take-at, drop-at, take-nil, take-take, drop-drop, getD-take, getD-drop, take-append-le, drop-append-le, ext-getD}
+use lib.ListN.{length, getD, take, drop, set, replicate, length-set, length-drop}
+use lib.Seq.{take-all, length-take-le, take-at, drop-at, take-nil, take-take, drop-drop, getD-take, getD-drop, take-append-le, drop-append-le, ext-getD}
 use borrow.Rule.Slice.PartMut.{putMid, take-put, drop-put, same-len-mid, set-mid-at}
 use Rattle.bits.proofs.Parts.{rows-in, next-row}
 use Rattle.bits.specs.Xor.{_⊕_}
-use Rattle.bits.specs.Bits.{padded}
-use Rattle.bits.proofs.Padded.{length-padded, take-padded}
+use Rattle.bits.specs.Bits.{eachWith, padded}
+use Rattle.bits.proofs.Padded.{take-padded}
+use Rattle.bits.proofs.Lists.{cons-eq}
+use Rattle.bits.proofs.Xor.{xor-zero}
+use Rattle.field.specs.Field.{mul}
+use Rattle.field.specs.Poly.{hornerEach}
+use Rattle.field.proofs.Laws.{mul-comm}
+use Rattle.field.proofs.Places.{hornerEach-width}
+use Rattle.field.proofs.Table.{Width}
 use Rattle.irreducible.specs.Ready.{Shifted}
-use Rattle.irreducible.specs.RowTable.{tableOf, addMultiple}
-use Rattle.irreducible.specs.Residues.{timesXs}
-use Rattle.irreducible.specs.Rows.{rowAt, Added, productTo, Multiplied}
-use Rattle.irreducible.proofs.RowTable.{length-addMultiple}
+use Rattle.row_tables.specs.RowTable.{addMultiple}
+use Rattle.row_tables.proofs.RowTable.{length-addMultiple}
+use Rattle.irreducible.specs.Rows.{rowAt, Added}
 
 -- the rows before row k lie within k rows
 pub row-room : (r k n len : ℕ) → r < k → k * n ≤ len → r * n + n ≤ len
@@ -69,23 +75,16 @@ module _ (n r : ℕ) (l y : List ℕ) (room : r * n + n ≤ length l) (size : le
       ap (λ (z : ℕ). drop e (putMid (r * n) z l y)) (sym s) ∙ drop-put (r * n) e l y (omega arith) room (size ∙ sym s) in
       ap (take n) (ap (λ (z : ℕ). drop z L) (sym u) ∙ sym (drop-drop (q * n - e) e L) ∙ ap (drop (q * n - e)) same ∙ drop-drop (q * n - e) e l ∙ ap (λ (z : ℕ). drop z l) u)
 
-pub added-by : {t u : List ℕ} {n p s d k : ℕ} {l l′ : List ℕ} → t ≡ u → Added t n p s d k l l′ → Added u n p s d k l l′
-added-by {t} {u} {n} {p} {s} {d} {k} {l} {l′} e a = subst (λ (z : List ℕ). Added z n p s d k l l′) e a
+pub added-by : {t u : List ℕ} {n p d k : ℕ} {l l′ : List ℕ} → t ≡ u → Added t n p d k l l′ → Added u n p d k l l′
+added-by {t} {u} {n} {p} {d} {k} {l} {l′} e a = subst (λ (z : List ℕ). Added z n p d k l l′) e a
 
 -- the loop over rows: none yet; one more
-pub added-none : (t : List ℕ) (n p s d : ℕ) (l : List ℕ) → Added t n p s d 0 l l
-added-none t n p s d l = record { size = refl; inside = λ i h. absurd (omega arith); others = λ r h. refl }
+pub added-none : (t : List ℕ) (n p d : ℕ) (l : List ℕ) → Added t n p d 0 l l
+added-none t n p d l = record { size = refl; inside = λ i h. absurd (omega arith); others = λ r h. refl }
 
-module _ (t : List ℕ) (n p s d i : ℕ) (l l₁ : List ℕ) (a : Added t n p s d i l l₁) (room : (d + i) * n + n ≤ length l) (apart : (d ≤ s) ⊎ (s + i < d)) where
+module _ (t : List ℕ) (n p d i : ℕ) (l l₁ : List ℕ) (a : Added t n p d i l l₁) (room : (d + i) * n + n ≤ length l) where
   abbrev new : List ℕ
-  new = addMultiple t (getD (rowAt n l₁ (s + i)) p 0) (rowAt n l₁ (d + i))
-
-  source : rowAt n l₁ (s + i) ≡ rowAt n l (s + i)
-  source = a .others (s + i) (go apart)
-    where
-      go : (d ≤ s) ⊎ (s + i < d) → (s + i < d) ⊎ (d + i ≤ s + i)
-      go (inl h) = inr (omega arith)
-      go (inr h) = inl h
+  new = addMultiple t (getD (rowAt n l₁ (d + i)) p 0) (rowAt n l₁ (d + i))
 
   target : rowAt n l₁ (d + i) ≡ rowAt n l (d + i)
   target = a .others (d + i) (inr (omega arith))
@@ -93,7 +92,7 @@ module _ (t : List ℕ) (n p s d i : ℕ) (l l₁ : List ℕ) (a : Added t n p s
   size-new : length new ≡ n
   size-new = length-addMultiple t _ (rowAt n l₁ (d + i)) ∙ ap length target ∙ length-row n l (d + i) room
 
-  pub added-next : Added t n p s d (i + 1) l (putMid ((d + i) * n) n l₁ new)
+  pub added-next : Added t n p d (i + 1) l (putMid ((d + i) * n) n l₁ new)
   added-next =
       let sz : length l₁ ≡ length l = a .size in
       let rm : (d + i) * n + n ≤ length l₁ = omega arith in
@@ -103,8 +102,8 @@ module _ (t : List ℕ) (n p s d i : ℕ) (l l₁ : List ℕ) (a : Added t n p s
           | yes k ↦ put-other n (d + i) l₁ new rm size-new (d + j) (inl (omega arith)) ∙ a .inside j k
           | no k ↦ (let e : j ≡ i = omega arith in
               ap (λ (x : ℕ). rowAt n (putMid ((d + i) * n) n l₁ new) (d + x)) e ∙ put-same n (d + i) l₁ new rm size-new
-              ∙ ap₂ (λ (x y : List ℕ). addMultiple t (getD x p 0) y) source target
-              ∙ sym (ap (λ (x : ℕ). addMultiple t (getD (rowAt n l (s + x)) p 0) (rowAt n l (d + x))) e))
+              ∙ ap (λ (x : List ℕ). addMultiple t (getD x p 0) x) target
+              ∙ sym (ap (λ (x : ℕ). addMultiple t (getD (rowAt n l (d + x)) p 0) (rowAt n l (d + x))) e))
         ];
         others = λ r h. put-other n (d + i) l₁ new rm size-new r (go r h) ∙ a .others r (back r h);
       }
@@ -120,32 +119,12 @@ module _ (t : List ℕ) (n p s d i : ℕ) (l l₁ : List ℕ) (a : Added t n p s
       back r (inl h) = inl h
       back r (inr h) = inr (omega arith)
 
--- the loop over coefficients: none yet; one more
-pub multiplied-none : (m : ℕ) (t w : List ℕ) (n k c : ℕ) (l : List ℕ) → Multiplied m t w n k c 0 l l
-unfolding productTo
-multiplied-none m t w n k c l = record { size = refl; inside = λ i h. refl; others = λ r h. refl }
-
-pub multiplied-next : (m : ℕ) (t w : List ℕ) (n k c j : ℕ) (l l₁ l₂ : List ℕ) → c ≤ k → Multiplied m t w n k c j l l₁
-    → Added (tableOf m (timesXs t j w)) n j 0 k c l₁ l₂ → Multiplied m t w n k c (j + 1) l l₂
-unfolding productTo
-multiplied-next m t w n k c j l l₁ l₂ le a b = record {
-  size = b .size ∙ a .size;
-  inside = λ i h. b .inside i h
-      ∙ ap₂ (λ (x y : List ℕ). addMultiple (tableOf m (timesXs t j w)) (getD x j 0) y)
-      (ap (rowAt n l₁) (zero-add i) ∙ a .others i (inl (omega arith))) (a .inside i h)
-      ∙ ap (productTo m t w (rowAt n l i) (rowAt n l (k + i))) (sym (add-one j));
-  others = λ r h. b .others r h ∙ a .others r h;
-}
-
-pub multiplied-by : {m : ℕ} {t w v : List ℕ} {n k c j : ℕ} {l l′ : List ℕ} → w ≡ v → Multiplied m t w n k c j l l′ → Multiplied m t v n k c j l l′
-multiplied-by {m} {t} {w} {v} {n} {k} {c} {j} {l} {l′} e a = subst (λ (z : List ℕ). Multiplied m t z n k c j l l′) e a
-
-pub multiplied-table : {m : ℕ} {t u w : List ℕ} {n k c j : ℕ} {l l′ : List ℕ} → t ≡ u → Multiplied m t w n k c j l l′ → Multiplied m u w n k c j l l′
-multiplied-table {m} {t} {u} {w} {n} {k} {c} {j} {l} {l′} e a = subst (λ (z : List ℕ). Multiplied m z w n k c j l l′) e a
-
 -- at most 128 rows of 128
 pub square-room : (n : ℕ) → n ≤ 128 → n * n ≤ 16384
 square-room n h = omega (arith, rows-le n 128 n h)
+
+pub room : (n r : ℕ) (l : List ℕ) → n ≤ 128 → length l ≡ 16384 → r < n → r * n + n ≤ length l
+room n r l h e k = let s : n * n ≤ length l = omega (arith, square-room n h) in le-trans (rows-in r n n k) s
 
 -- a part that is lent
 pub part-row : (n : ℕ) (l : List ℕ) (r at e : ℕ) → at ≡ r * n → e ≡ at + n → take (e - at) (drop at l) ≡ rowAt n l r
@@ -188,27 +167,19 @@ shifted-next n r l l₁ a room h =
       others = λ q k. set-other n r (suc r) v l₁ (omega arith) h q (inr (omega arith)) ∙ a .others q (omega arith);
     }
 
+-- every number times c
+pub horner-multiple : (m c : ℕ) → Width m → (n : ℕ) (b : List ℕ) → length b ≤ n → hornerEach m 0 b (replicate n c) ≡ map (mul m c) b
+unfolding eachWith
+horner-multiple m c w n b e = hornerEach-width m 0 b (replicate n c) w ∙ go n b e
+  where
+    go : (n : ℕ) (b : List ℕ) → length b ≤ n → eachWith (λ x y. mul m x y ⊕ 0) b (replicate n c) ≡ map (mul m c) b
+    go n [] e = refl
+    go zero (x ∷ b) e = absurd (omega arith)
+    go (suc n) (x ∷ b) e = cons-eq (xor-zero _ ∙ mul-comm m x c) (go n b (omega arith))
+
 -- a row copied out, with zeros behind it
-pub record Copied (n : ℕ) (row w : List ℕ) : Type 0 where
-  pub size : length w ≡ 128
-  pub part : take n w ≡ row
-  pub part-size : length (take n w) ≡ n
-  pub entry : (p : ℕ) → p < n → getD w p 0 ≡ getD row p 0
-
-pub copied : (n r : ℕ) (l w : List ℕ) → n ≤ 128 → r * n + n ≤ length l → w ≡ padded 128 (take (r * n + n - r * n) (drop (r * n) l)) → Copied n (rowAt n l r) w
-copied n r l w h room e =
+pub copied : (n r : ℕ) (l w : List ℕ) → n ≤ 128 → length l ≡ 16384 → r < n → w ≡ padded 512 (take 512 (take (r * n + n - r * n) (drop (r * n) l))) → take n w ≡ rowAt n l r
+copied n r l w h z k e =
     let row : List ℕ = rowAt n l r in
-    let x : w ≡ padded 128 row = e ∙ ap (padded 128) (part-row n l r (r * n) (r * n + n) refl refl) in
-    let z : length row ≡ n = length-row n l r room in
-    let y : take n w ≡ row = ap (take n) x ∙ take-padded 128 row n z in
-    record {
-      size = ap length x ∙ length-padded 128 row (omega arith);
-      part = y;
-      part-size = ap length y ∙ z;
-      entry = λ p k. sym (getD-take n w p 0 k) ∙ ap (λ (q : List ℕ). getD q p 0) y;
-    }
-
-pub take-map : (f : ℕ → ℕ) (n : ℕ) (l : List ℕ) → take n (map f l) ≡ map f (take n l)
-take-map f zero l = refl
-take-map f (suc n) [] = refl
-take-map f (suc n) (x ∷ l) = ap (λ (r : List ℕ). f x ∷ r) (take-map f n l)
+    let long : length row ≡ n = length-row n l r (room n r l h z k) in
+    ap (take n) (e ∙ ap (padded 512) (ap (take 512) (part-row n l r (r * n) (r * n + n) refl refl) ∙ take-all 512 row (omega arith))) ∙ take-padded 512 row n long

@@ -34,6 +34,11 @@ unfolding someBelow
 below-none k p e = ap (λ (n : ℕ). someBelow n p) e
 
 module _ (m : ℕ) (g : List ℕ) where
+  -- degree 1
+  pub factor-linear : length g ≡ 1 → hasFactor m g ≡ false
+  unfolding hasFactor
+  factor-linear e = below-none _ _ (omega arith)
+
   pub factor-no-width : isWidth m ≡ false → factorTest m g ≡ false
   unfolding factorTest
   factor-no-width n = rw n

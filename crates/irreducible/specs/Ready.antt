@@ -1,33 +1,20 @@
--- What the rows hold: powers, images and the elimination's state. Terms of private functions' contracts. Assumes nothing.
+-- What the rows hold: images, and the elimination's state. Terms of private functions' contracts. Assumes nothing.
 use Prim.Native.Nat.{ℕ, suc, _+_, _-_, _*_, _≤_, _<_}
 use mathlib.Core.Path.{_≡_}
 use mathlib.Core.List.{List, map}
-use lib.ListN.{length, getD, set, replicate}
+use lib.ListN.{length, getD, set}
 use Rattle.bits.specs.Xor.{_⊕_}
-use Rattle.algebra.proofs.Series as S
 use Rattle.algebra.proofs.Series.{Series}
 use Rattle.field.specs.Field.{mul, inv}
 use Rattle.field.proofs.Table.{Width}
-use Rattle.field.proofs.Gf.{Elem, gf, laws}
+use Rattle.field.proofs.Gf.{Elem, gf}
 use Rattle.field.proofs.Arrays.{Elements, poly}
 use Rattle.poly.specs.Polynomials.{monic}
 use Rattle.poly.proofs.Product.{poly-monic}
-use Rattle.algebra.proofs.Factor.{Div, frob}
 use Rattle.algebra.proofs.Rank.{Row, reduced, power, Image, State}
 use Rattle.field.proofs.FiniteField.{finite}
-use Rattle.irreducible.specs.RowTable.{tableOf}
+use Rattle.row_tables.specs.RowTable.{tableOf}
 use Rattle.irreducible.specs.Rows.{rowAt, Added}
-
--- equal modulo g
-pub record Same (m : ℕ) (W : Width m) (g : List ℕ) (p y : Series (Elem m)) : Type 0 where
-  pub by : Div (gf m W) (poly m (monic g)) (S._⊞_ (laws m W) p y)
-
--- row r is x^(2^m·(r + 1)) modulo g, for r below k, and the rows from there on are 0
-pub record Powers (m : ℕ) (g : List ℕ) (k : ℕ) (l : List ℕ) : Type 0 where
-  pub size : length l ≡ 16384
-  pub residue : (W : Width m) (r : ℕ) → r < k → Same m W g (frob (S.series (laws m W)) m (power (gf m W) (suc r))) (poly m (rowAt (length g) l r))
-  pub zeros : (r : ℕ) → k ≤ r → r < length g → rowAt (length g) l r ≡ replicate (length g) 0
-  pub elements : (r : ℕ) → r < length g → Elements m (rowAt (length g) l r)
 
 -- 1 is added in row r at r + 1, for r below k
 pub record Shifted (n k : ℕ) (l l′ : List ℕ) : Type 0 where
@@ -46,7 +33,7 @@ pub record Cleared (m n i : ℕ) (l l′ : List ℕ) : Type 0 where
   pub place : ℕ
   pub small : place < n
   pub nonzero : ¬ (getD (rowAt n l i) place 0 ≡ 0)
-  pub added : Added (tableOf m (map (mul m (inv m (getD (rowAt n l i) place 0))) (rowAt n l i))) n place (i + 1) (i + 1) (n - (i + 2)) l l′
+  pub added : Added (tableOf m (map (mul m (inv m (getD (rowAt n l i) place 0))) (rowAt n l i))) n place (i + 1) (n - (i + 2)) l l′
 
 -- row r is what is left of the image of x^(r + 1)
 pub record Left (m : ℕ) (W : Width m) (g : List ℕ) (B : List (Row (gf m W))) (r : ℕ) (y : Series (Elem m)) : Type 0 where

@@ -4,18 +4,19 @@ use native.Mathlib.Omega.{arith}
 use borrow.Author.Needs.{needs}
 use Rattle.field.proofs.Arrays.{every-elements}
 use Rattle.poly.proofs.SquareSearch.{hasSquare-separable}
-use Rattle.irreducible.proofs.Independence.{basis-start}
-use Rattle.irreducible.proofs.Verdict.{factor-decided}
+use Rattle.irreducible.proofs.Elimination.{basis-start}
+use Rattle.irreducible.proofs.Verdict.{factor-decided, factor-linear}
 use Rattle.irreducible.proofs.splits.Statement.{statement}
 use Rattle.irreducible.proofs.splits.Tie as tie
+
+returns : tie.Need-returns
+returns c = sym (factor-linear _ _ (c .if1 .taken))
 
 slice-aggregate-powers : tie.Need-slice-aggregate-powers
 slice-aggregate-powers c = search needs
 
 powers-requires : tie.Need-powers-requires
-powers-requires c κs =
-    let s = c .before .before in
-    (s .pre .0, s .pre .1, s .pre .2, every-elements (s .args .m) (s .args .g .now) (s .pre .3), refl)
+powers-requires c κs = search needs
 
 slice-aggregate-add-unit : tie.Need-slice-aggregate-add-unit
 slice-aggregate-add-unit c = search needs
@@ -29,15 +30,14 @@ slice-aggregate-independent c = search needs
 independent-requires : tie.Need-independent-requires
 independent-requires c κs =
     let u = c .before .before .add-unit .ensures in
-    let q = c .before .before .before .before .before in
-    let p = q .powers .ensures in
-    let s = q .before .before .before in
+    let p = c .before .before .before .before .before .powers .ensures in
+    let s = c .before .before .before .before .before .before .before .before .before in
     ((s .pre .0, s .pre .1, s .pre .2, u .size ∙ p .size), λ W. basis-start (s .args .m) W (s .args .g .now) (s .pre .2) _ _ p u)
 
-returns : tie.Need-returns
-returns c =
+returns-2 : tie.Need-returns-2
+returns-2 c =
     let r = c .before .independent in
-    let s = c .before .before .before .before .before .before .before .before .before .before in
+    let s = c .before .before .before .before .before .before .before .before .before .before .before in
     let m = s .args .m in
     let g = s .args .g .now in
     let E = every-elements m g (s .pre .3) in
@@ -47,10 +47,11 @@ pub splits-spec : {M : Type 1} → statement M
 splits-spec =
     tie.close
     (tie.spec
+    returns
     slice-aggregate-powers
     powers-requires
     slice-aggregate-add-unit
     add-unit-requires
     slice-aggregate-independent
     independent-requires
-    returns)
+    returns-2)
