@@ -9,6 +9,7 @@ ghost use lib.ListN.{getD};
 ghost use Rattle.field.specs.Poly.{hornerEach};
 ghost use Rattle.poly.specs.Polynomials.{valuesAt};
 ghost use Rattle.euclid.specs.Euclid.{squareTest};
+ghost use Rattle.irreducible.specs.Answers.{factorTest};
 ghost use Rattle.key.specs.Parts.{distinctBelow};
 ghost use Rattle.key.specs.Kept.{kept, parts};
 ghost use Rattle.decoder.specs.Calls.{readNumber, readOutput};
@@ -55,6 +56,14 @@ pub extern "C" fn bench_square(m: u8, g: &[u16]) -> bool
     ensures { λ r. ⌜ r ≡ squareTest m (now (g .entry)) ⌝ }
 {
     euclid::has_square(m, g)
+}
+
+// The factor test, the square test included.
+#[no_mangle]
+pub extern "C" fn bench_factor(m: u8, g: &[u16]) -> bool
+    ensures { λ r. ⌜ r ≡ factorTest m (now (g .entry)) ⌝ }
+{
+    irreducible::has_factor(m, g)
 }
 
 // The distinctness pass.
