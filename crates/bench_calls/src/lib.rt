@@ -58,7 +58,7 @@ pub extern "C" fn bench_square(m: u8, g: &[u16]) -> bool
     euclid::has_square(m, g)
 }
 
-// The test for a proper factor.
+// The test for a proper factor, the square test included.
 #[no_mangle]
 pub extern "C" fn bench_factor(m: u8, g: &[u16]) -> bool
     ensures { λ r. ⌜ r ≡ factorTest m (now (g .entry)) ⌝ }
