@@ -1,13 +1,11 @@
 -- The loop's invariant: q rows are made, and the other columns are as they were. Assumes nothing.
 use mathlib.Core.Path.{_≡_, refl, sym, _∙_, subst}
 use mathlib.Core.Logic.{_⊎_}
-use mathlib.Core.List.{List}
-use Prim.Native.Nat.{ℕ, _+_, _-_, _*_, _%_, _≤_, _<_}
+use Prim.Native.Nat.{ℕ, _+_, _-_, _%_, _≤_, _<_}
 use native.Mathlib.Omega.{arith}
 use borrow.Author.Needs.{needs}
 use lib.ListN.{length, getD}
-use Rattle.field.specs.PointTable.{multiplesOf}
-use Rattle.row_tables.specs.Making.{earlierRows, digitPlaces, Put, Columns}
+use Rattle.row_tables.specs.Making.{earlierRows, digitPlaces, Columns}
 use Rattle.row_tables.proofs.Making.{earlier-lt, digit-lt, put-by, columns-start, columns-next, outside, outside-first}
 use Rattle.row_tables.proofs.fill.Statement.{statement}
 use Rattle.row_tables.proofs.fill.Tie as tie
@@ -22,7 +20,7 @@ zero-half-requires : tie.Need-zero-half-requires Inv-loop μ-loop
 zero-half-requires c κs = search needs
 
 multiples-requires : tie.Need-multiples-requires Inv-loop μ-loop
-multiples-requires c κs = search needs
+multiples-requires c κs = tt
 
 loop-holds : tie.Need-loop-holds Inv-loop μ-loop
 loop-holds c = let s = c .before .before .before .before .before .before .before in let a = s .args in (omega arith, omega arith, columns-start (a .m) (a .a .now) (a .h) (a .p .now) _ (s .pre .1) (c .before .before .before .zero-half .ensures), λ x h. refl)

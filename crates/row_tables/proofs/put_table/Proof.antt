@@ -1,5 +1,5 @@
 -- `row_tables::put_table` meets its contract. Assumes nothing.
-use mathlib.Core.Path.{_≡_, refl, sym, _∙_}
+use mathlib.Core.Path.{refl, sym, _∙_}
 use mathlib.Core.Logic.{inl}
 use Prim.Native.Nat.{_+_, _*_}
 use native.Mathlib.Omega.{arith}
@@ -13,7 +13,7 @@ returns : tie.Need-returns
 returns c = sym (tableIn-none _ _ _ (c .if1 .taken))
 
 smaller-requires : tie.Need-smaller-requires
-smaller-requires c κs = search needs
+smaller-requires c κs = tt
 
 fill-requires : tie.Need-fill-requires
 fill-requires c κs = search needs

@@ -2,7 +2,6 @@
 use mathlib.Core.Path.{_≡_, subst}
 use Prim.Native.Nat.{ℕ, _-_, _≤_}
 use native.Mathlib.Omega.{arith}
-use borrow.Author.Needs.{needs}
 use Rattle.row_tables.specs.Making.{Zeroed}
 use Rattle.row_tables.proofs.Making.{zeroed-none, zeroed-next}
 use Rattle.row_tables.proofs.zero_half.Statement.{statement}

@@ -7,7 +7,7 @@ use native.Mathlib.Omega.{arith}
 use native.Mathlib.Decide.{decLt}
 use borrow.Author.Needs.{needs}
 use lib.ListN.{length, take, drop, getD, length-map, length-append, length-replicate, List·getD-eq-default}
-use lib.Seq.{length-take-le, take-at}
+use lib.Seq.{take-at}
 use Rattle.field.specs.Field.{mul, inv}
 use Rattle.field.proofs.Units.{element-unit}
 use Rattle.row_tables.specs.RowTable.{tableOf}
@@ -39,7 +39,7 @@ part-block-end : tie.Need-part-block-end
 part-block-end c = let a = c .before .before .args in omega (arith, room (a .n) (a .i) (a .rows .now) (omega arith) (omega arith) (omega arith))
 
 block-requires : tie.Need-block-requires
-block-requires c κs = search needs
+block-requires c κs = tt
 
 array-share-prefix-w : tie.Need-array-share-prefix-w
 array-share-prefix-w c = search needs
@@ -48,7 +48,7 @@ slice-aggregate-pivot : tie.Need-slice-aggregate-pivot
 slice-aggregate-pivot c = let a = c .before .before .before .before .before .args in sym (ap length (copied (a .n) (a .i) (a .rows .now) (c .before .block .result) (omega arith) (omega arith) (omega arith) (c .before .block .ensures)) ∙ length-row (a .n) (a .rows .now) (a .i) (room (a .n) (a .i) (a .rows .now) (omega arith) (omega arith) (omega arith)))
 
 pivot-requires : tie.Need-pivot-requires
-pivot-requires c κs = search needs
+pivot-requires c κs = tt
 
 same-length : tie.Need-same-length
 same-length c = refl
@@ -102,7 +102,7 @@ slice-aggregate-put-table-2 : tie.Need-slice-aggregate-put-table-2
 slice-aggregate-put-table-2 c = search needs
 
 put-table-requires : tie.Need-put-table-requires
-put-table-requires c κs = search needs
+put-table-requires c κs = tt
 
 add-add-column : tie.Need-add-add-column
 add-add-column c = search needs

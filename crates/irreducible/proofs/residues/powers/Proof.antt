@@ -9,7 +9,6 @@ use borrow.Rule.Slice.PartMut.{putMid}
 use lib.ListN.{length, take, drop, length-replicate}
 use lib.Seq.{length-take-le}
 use Rattle.bits.proofs.Parts.{next-row}
-use Rattle.bits.specs.Bits.{eachWith}
 use Rattle.row_tables.specs.RowTable.{tableOf}
 use Rattle.row_tables.proofs.RowTable.{tableIn-all}
 use Rattle.irreducible.specs.Rows.{rowAt}
