@@ -1,16 +1,11 @@
 -- The elimination's state: before the first row, a row more, where a row is 0, at the end. Assumes nothing.
 use mathlib.Core.Path.{_≡_, refl, sym, ap, ap₂, _∙_, fun-ext, subst}
-use mathlib.Core.Logic.{_⊎_, inl, inr}
 use mathlib.Core.List.{List, [], _∷_, map}
-use Prim.Native.Nat.{ℕ, zero, suc, _+_, _-_, _*_, _%_, _^_, _≤_, _<_}
-use native.Mathlib.Nat.{mod-eq-of-lt}
+use Prim.Native.Nat.{ℕ, suc, _+_, _-_, _≤_, _<_}
 use native.Mathlib.Numerals.{add-one}
 use native.Mathlib.Omega.{arith}
-use native.Mathlib.Decide.{decLt}
 use lib.ListN.{length, getD, set, length-set, length-map}
-use lib.Seq.{getD-set-same, getD-set-other}
 use Rattle.bits.specs.Xor.{_⊕_}
-use Rattle.bits.proofs.Xor.{xor-lt}
 use Rattle.algebra.proofs.Ring.{Ring, ring}
 use Rattle.algebra.proofs.Field.{Field}
 use Rattle.algebra.proofs.Series as S
@@ -20,16 +15,16 @@ use Rattle.algebra.proofs.Goppa.{Separable}
 use Rattle.field.specs.Field.{mul, inv}
 use Rattle.field.proofs.Table.{Width}
 use Rattle.field.proofs.Laws.{one-lt}
-use Rattle.field.proofs.Gf.{Elem, val, val-of, val-zero, val-one, val-xor, val-inv, plus, times, inverse, zero-elem, one-elem, laws, gf}
+use Rattle.field.proofs.Gf.{Elem, val, val-of, val-zero, val-one, val-inv, plus, times, inverse, zero-elem, one-elem, laws, gf}
 use Rattle.field.proofs.Arrays.{Elements, poly, poly-below, poly-scale}
 use Rattle.poly.specs.Polynomials.{monic}
 use Rattle.poly.proofs.Product.{poly-monic}
-use Rattle.algebra.proofs.Factor.{Div, div-to, frob, Prime}
-use Rattle.algebra.proofs.Rank.{Row, reduced, power, monic-power, Image, State, start, next, step, test-yes, test-no}
+use Rattle.algebra.proofs.Factor.{div-to, frob, Prime}
+use Rattle.algebra.proofs.Rank.{reduced, power, Image, State, start, next, step, test-yes, test-no}
 use Rattle.field.proofs.FiniteField.{finite}
 use Rattle.row_tables.specs.RowTable.{tableOf, addMultiple}
-use Rattle.irreducible.specs.Rows.{rowAt, Added}
-use Rattle.irreducible.specs.Residues.{Same, Powers}
+use Rattle.irreducible.specs.Rows.{rowAt}
+use Rattle.irreducible.specs.Residues.{Powers}
 use Rattle.irreducible.specs.Ready.{Shifted, Cleared, Left, Basis}
 use Rattle.irreducible.proofs.Rows.{length-row, room}
 use Rattle.irreducible.proofs.Modulo.{add-row, add-elements, set-poly, set-elements}

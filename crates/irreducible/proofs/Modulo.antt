@@ -1,6 +1,6 @@
 -- Lists as polynomials: powers of the unknown, rows added, equality modulo g. Assumes nothing.
 use mathlib.Core.Path.{_≡_, refl, sym, ap, ap₂, _∙_, fun-ext, subst}
-use mathlib.Core.List.{List, [], _∷_, map}
+use mathlib.Core.List.{List, map}
 use Prim.Native.Nat.{ℕ, zero, suc, _+_, _-_, _^_, _≤_, _<_}
 use native.Mathlib.Omega.{arith}
 use native.Mathlib.Decide.{decLt, ℕ-discrete}
@@ -9,23 +9,22 @@ use lib.Seq.{getD-take, getD-set-same, getD-set-other}
 use lib.Pow.{pow-pos}
 use Rattle.bits.proofs.Bits.{zeros-at}
 use Rattle.bits.specs.Xor.{_⊕_}
-use Rattle.bits.specs.Bits.{xorRow}
 use Rattle.bits.proofs.Xor.{xor-lt}
 use Rattle.bits.proofs.Rows.{getD-xorRow}
 use Rattle.algebra.proofs.Ring.{Ring, ring, zero-add}
 use Rattle.algebra.proofs.Field.{Field}
 use Rattle.algebra.proofs.Points.{pow}
 use Rattle.algebra.proofs.Series as S
-use Rattle.algebra.proofs.Series.{Series, Operations, operations, C-at, C-zero, shift, shift-at, shift-low}
-use Rattle.algebra.proofs.Poly.{Below, Poly, Monic, poly-mul, poly-C}
+use Rattle.algebra.proofs.Series.{Series, Operations, operations, C-at, shift, shift-low}
+use Rattle.algebra.proofs.Poly.{Below, Poly}
 use Rattle.field.specs.Field.{mul}
 use Rattle.field.proofs.Table.{Width}
 use Rattle.field.proofs.Laws.{mul-lt}
 use Rattle.field.proofs.Gf.{Elem, val, val-zero, val-xor, plus, times, zero-elem, one-elem, laws, gf}
-use Rattle.field.proofs.Arrays.{Elements, map-elements, poly, poly-below, poly-cons, poly-xor, poly-scale}
+use Rattle.field.proofs.Arrays.{Elements, map-elements, poly, poly-below, poly-xor, poly-scale}
 use Rattle.poly.specs.Polynomials.{monic}
 use Rattle.poly.proofs.Product.{monic-low, poly-monic}
-use Rattle.algebra.proofs.Factor.{Div, div, div-add, div-mul, div-to}
+use Rattle.algebra.proofs.Factor.{div, div-add, div-mul, div-to}
 use Rattle.algebra.proofs.Rank.{power, monic-power}
 use Rattle.row_tables.specs.RowTable.{tableOf, addMultiple}
 use Rattle.row_tables.proofs.RowTable.{addMultiple-row}

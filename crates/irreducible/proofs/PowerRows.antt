@@ -1,8 +1,8 @@
 -- The rows' powers: the first, by squares, and a row more. Assumes nothing.
 use mathlib.Core.Path.{_≡_, refl, sym, ap, ap₂, _∙_, subst}
-use mathlib.Core.Logic.{inl, inr}
+use mathlib.Core.Logic.{inl}
 use mathlib.Core.List.{List, _++_}
-use Prim.Native.Nat.{ℕ, zero, suc, _+_, _-_, _*_, _≤_, _<_}
+use Prim.Native.Nat.{ℕ, suc, _+_, _-_, _*_, _≤_, _<_}
 use native.Mathlib.Numerals.{add-one}
 use native.Mathlib.Omega.{arith}
 use native.Mathlib.Decide.{decLt}
@@ -19,13 +19,13 @@ use Rattle.algebra.proofs.Rank.{power, monic-power}
 use Rattle.algebra.proofs.Series as S
 use Rattle.algebra.proofs.Series.{Series, Operations, operations}
 use Rattle.field.proofs.Arrays.{Elements, poly, poly-below}
-use Rattle.field.proofs.Gf.{Elem, gf, laws, one-elem, val, val-one}
+use Rattle.field.proofs.Gf.{Elem, gf, laws, one-elem, val-one}
 use Rattle.field.proofs.Laws.{one-lt}
 use Rattle.field.proofs.Table.{Width}
 use Rattle.row_tables.specs.RowTable.{tableOf}
 use Rattle.irreducible.specs.Rows.{rowAt}
 use Rattle.irreducible.specs.Residues.{Same, ProductModulo, FirstPower, Powers}
-use Rattle.irreducible.proofs.Rows.{length-row, room, put-same, put-other}
+use Rattle.irreducible.proofs.Rows.{room, put-same, put-other}
 use Rattle.irreducible.proofs.Modulo.{power-poly, power-add, first, first-all, take-first, zeros-poly, zeros-elements, set-poly, set-elements, same-refl, same-trans, same-to, same-product}
 
 -- x itself

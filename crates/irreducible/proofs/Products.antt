@@ -1,7 +1,7 @@
 -- Products and residues as the loops make them. Assumes nothing.
 use mathlib.Core.Path.{_≡_, refl, sym, ap, ap₂, _∙_, subst}
 use mathlib.Core.List.{List, [], _∷_, _++_, map}
-use Prim.Native.Nat.{ℕ, zero, suc, _+_, _-_, _*_, _^_, _≤_, _<_}
+use Prim.Native.Nat.{ℕ, zero, suc, _+_, _-_, _^_, _≤_, _<_}
 use native.Mathlib.Nat.{suc-inj}
 use native.Mathlib.Numerals.{add-one}
 use native.Mathlib.Omega.{arith}
@@ -17,9 +17,9 @@ use Rattle.bits.proofs.Each.{take-eachWith}
 use Rattle.bits.proofs.Rows.{length-xorRow, xorRow-nil}
 use Rattle.algebra.proofs.Ring.{Ring, ring}
 use Rattle.algebra.proofs.Field.{Field}
-use Rattle.algebra.proofs.Factor.{div, frob}
+use Rattle.algebra.proofs.Factor.{div}
 use Rattle.algebra.proofs.Poly.{Below, poly-C, poly-mul, below-mul}
-use Rattle.algebra.proofs.Rank.{power, monic-power}
+use Rattle.algebra.proofs.Rank.{power}
 use Rattle.algebra.proofs.Series as S
 use Rattle.algebra.proofs.Series.{Series, Operations, operations, C-mul, shift, shift-mul}
 use Rattle.field.specs.Field.{mul}
@@ -29,7 +29,6 @@ use Rattle.field.proofs.Gf.{Elem, gf, laws, plus, times, zero-elem, one-elem, v
 use Rattle.field.proofs.Laws.{mul-lt}
 use Rattle.field.proofs.Places.{length-hornerEach, hornerEach-at}
 use Rattle.field.proofs.Table.{Width}
-use Rattle.poly.specs.Polynomials.{monic}
 use Rattle.row_tables.specs.RowTable.{tableOf, addMultiple}
 use Rattle.row_tables.proofs.RowTable.{addMultiple-row, length-addMultiple}
 use Rattle.irreducible.specs.Residues.{Same, Product, Reduced, Residue, ProductModulo}

@@ -1,14 +1,13 @@
 -- Rows one behind another in a list: a row that is put back, and what the loops over rows leave. Assumes nothing.
 use mathlib.Core.Path.{_≡_, refl, sym, ap, ap₂, _∙_, subst}
 use mathlib.Core.Logic.{_⊎_, inl, inr}
-use mathlib.Core.List.{List, [], _∷_, _++_, map}
+use mathlib.Core.List.{List, [], _∷_, map}
 use Prim.Native.Nat.{ℕ, zero, suc, _+_, _-_, _*_, _≤_, _<_}
-use native.Mathlib.Nat.{add-zero, zero-add, le-trans, mul-le-mul-right}
-use native.Mathlib.Numerals.{add-one}
+use native.Mathlib.Nat.{add-zero, le-trans, mul-le-mul-right}
 use native.Mathlib.Omega.{arith}
 use native.Mathlib.Decide.{decLt}
 use lib.ListN.{length, getD, take, drop, set, replicate, length-set, length-drop}
-use lib.Seq.{take-all, length-take-le, take-at, drop-at, take-nil, take-take, drop-drop, getD-take, getD-drop, take-append-le, drop-append-le, ext-getD}
+use lib.Seq.{take-all, length-take-le, take-at, drop-at, take-nil, take-take, drop-drop, getD-take, getD-drop}
 use borrow.Rule.Slice.PartMut.{putMid, take-put, drop-put, same-len-mid, set-mid-at}
 use Rattle.bits.proofs.Parts.{rows-in, next-row}
 use Rattle.bits.specs.Xor.{_⊕_}

@@ -1,11 +1,10 @@
 // The images of x, .., x^(n-1) under h -> h^(2^m) + h modulo g, and whether they are independent: rows of n coefficients.
 use field::Answer;
 use row_tables::add_multiple;
-use row_tables::table;
+use row_tables::put_table;
 ghost use mathlib.Core.Path.{_≡_};
 ghost use mathlib.Core.Bool.{true, false};
 ghost use mathlib.Core.List.{map};
-ghost use mathlib.Core.Logic.{_⊎_};
 ghost use Prim.Native.Nat.{ℕ, _+_, _-_, _*_, _≤_, _<_};
 ghost use lib.ListN.{length, getD};
 ghost use Rattle.field.specs.Answers.{isUnit};
@@ -91,7 +90,8 @@ fn clear(m: u8, n: usize, i: usize, rows: &mut [u16]) -> bool
         return false;
     }
     divide(m, p, &mut w[..n]);
-    let t = table(m, &w[..n]);
+    let mut t = [0u16; 5120];
+    put_table(m, &w[..n], &mut t);
     add_column(&t, n, p, i + 1, n - (i + 2), rows);
     true
 }

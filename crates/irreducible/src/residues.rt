@@ -1,13 +1,12 @@
 // Powers modulo a monic polynomial g of degree n, by the table t of its lower coefficients (`row_tables`).
 use row_tables::add_multiple;
-use row_tables::table;
+use row_tables::put_table;
 ghost use mathlib.Core.Path.{_≡_};
 ghost use mathlib.Core.Bool.{true};
 ghost use mathlib.Core.List.{List};
 ghost use Prim.Native.Nat.{ℕ, _+_, _-_, _≤_, _<_};
-ghost use lib.ListN.{length, take};
+ghost use lib.ListN.{length};
 ghost use Rattle.field.specs.Field.{isWidth};
-ghost use Rattle.field.proofs.Arrays.{Elements};
 ghost use Rattle.field.proofs.Table.{Width};
 ghost use Rattle.row_tables.specs.RowTable.{tableOf};
 ghost use Rattle.irreducible.specs.Residues.{Product, Reduced, Residue, ProductModulo, FirstPower, Powers};
@@ -110,9 +109,11 @@ pub fn powers(m: u8, g: &[u16], rows: &mut [u16])
     ensures { λ _. ⌜ Powers m (now (g .entry)) (length (now (g .entry)) - 1) (now (rows .exit)) ⌝ }
 {
     let n = g.len();
-    let t = table(m, g);
+    let mut t = [0u16; 5120];
+    put_table(m, g, &mut t);
     let mut w = first_power(m, &t, n);
-    let s = table(m, &w[..n]);
+    let mut s = [0u16; 5120];
+    put_table(m, &w[..n], &mut s);
     let mut r = 0;
     let mut at = 0;
     while r + 1 < n {

@@ -12,14 +12,13 @@ use lib.Seq.{take-all, ext-getD, getD-drop, getD-set-same, getD-set-other}
 use borrow.Author.Tests.{ltb-true, eqb-true}
 use Rattle.bits.specs.Xor.{_⊕_}
 use Rattle.bits.specs.Bits.{from, every}
-use Rattle.bits.proofs.Bits.{zeros-at}
 use Rattle.bits.proofs.Lists.{and-left, and-right, every-from-at}
 use Rattle.field.specs.Field.{mul}
 use Rattle.field.specs.PointTable.{multiplesOf}
 use Rattle.field.proofs.Laws.{mul-add, mul-zero}
 use Rattle.field.proofs.PointTable.{multiples-at}
 use Rattle.row_tables.specs.RowTable.{factorAt, tableOf}
-use Rattle.row_tables.specs.Making.{earlierRows, digitPlaces, Put, Columns}
+use Rattle.row_tables.specs.Making.{earlierRows, digitPlaces, Put, Zeroed, Columns}
 use Rattle.row_tables.proofs.RowTable.{length-table, table-at}
 
 -- every row but row 0 is an earlier row plus a power, by one computed test
@@ -48,6 +47,14 @@ module _ (q : ℕ) (pos : 0 < q) (h : q < 40) where
   pub factor-sum : factorAt (getD earlierRows q 0) ⊕ 2 ^ getD digitPlaces q 0 ≡ factorAt q
   factor-sum = eqb-true _ _ (and-right (ltb (getD digitPlaces q 0) 13) _ rest)
 
+apart-from : (at k x : ℕ) → (x < at) ⊎ (at + (k + 1) ≤ x) → ¬ (x ≡ at + k)
+apart-from at k x (inl h) e = omega arith
+apart-from at k x (inr h) e = omega arith
+
+less : (at k x : ℕ) → (x < at) ⊎ (at + (k + 1) ≤ x) → (x < at) ⊎ (at + k ≤ x)
+less at k x (inl h) = inl h
+less at k x (inr h) = inr (omega arith)
+
 -- half a row: none yet; one number more
 pub put-none : (t : List ℕ) (j s at : ℕ) (l : List ℕ) → Put t j s at 0 l l
 put-none t j s at l = record { size = refl; inside = λ i h. absurd (omega arith); others = λ x h. refl }
@@ -66,16 +73,24 @@ put-next t j s at k l l₁ a apart room =
             ∙ ap (λ (x : ℕ). x ⊕ getD t (64 * j + k) 0) (a .others (s + k) (inl (omega arith)))
             ∙ sym (ap (λ (x : ℕ). getD l (s + x) 0 ⊕ getD t (64 * j + x) 0) e))
       ];
-      others = λ x h. getD-set-other l₁ (at + k) x v 0 (λ e. apart-from x h e) ∙ a .others x (less x h);
+      others = λ x h. getD-set-other l₁ (at + k) x v 0 (apart-from at k x h) ∙ a .others x (less at k x h);
     }
-  where
-    apart-from : (x : ℕ) → (x < at) ⊎ (at + (k + 1) ≤ x) → ¬ (x ≡ at + k)
-    apart-from x (inl h) e = omega arith
-    apart-from x (inr h) e = omega arith
 
-    less : (x : ℕ) → (x < at) ⊎ (at + (k + 1) ≤ x) → (x < at) ⊎ (at + k ≤ x)
-    less x (inl h) = inl h
-    less x (inr h) = inr (omega arith)
+-- zeros: none yet; one more
+pub zeroed-none : (at : ℕ) (l : List ℕ) → Zeroed at 0 l l
+zeroed-none at l = record { size = refl; inside = λ i h. absurd (omega arith); others = λ x h. refl }
+
+pub zeroed-next : (at k : ℕ) (l l₁ : List ℕ) → Zeroed at k l l₁ → at + k < length l → Zeroed at (k + 1) l (set l₁ (at + k) 0)
+zeroed-next at k l l₁ a room =
+    let z : length l₁ ≡ length l = a .size in
+    record {
+      size = length-set l₁ _ _ ∙ a .size;
+      inside = λ i h. elim (decLt i k) [
+        | yes b ↦ getD-set-other l₁ (at + k) (at + i) 0 0 (λ e. omega arith) ∙ a .inside i b
+        | no b ↦ (let e : i ≡ k = omega arith in ap (λ (x : ℕ). getD (set l₁ (at + k) 0) (at + x) 0) e ∙ getD-set-same l₁ (at + k) 0 0 (omega arith))
+      ];
+      others = λ x h. getD-set-other l₁ (at + k) x 0 0 (apart-from at k x h) ∙ a .others x (less at k x h);
+    }
 
 -- by what t, j and s are
 pub put-by : {t u : List ℕ} {j k e f at n : ℕ} {l l′ : List ℕ} (h : ℕ) → t ≡ u → j ≡ k → e ≡ f → Put t j (128 * e + h) at n l l′ → Put u k (128 * f + h) at n l l′
@@ -90,16 +105,23 @@ outside q h x l o = elim (decLt x (128 * q + h)) [ yes k ↦ inl k | no k ↦ in
     go (inl i) k = omega arith
     go (inr i) k = omega arith
 
+pub outside-first : (h x : ℕ) → h ≤ 64 → (x % 128 < h) ⊎ (h + 64 ≤ x % 128) → (x < h) ⊎ (h + 64 ≤ x)
+outside-first h x l o = go (outside 0 h x l o)
+  where
+    go : (x < 128 * 0 + h) ⊎ (128 * 0 + h + 64 ≤ x) → (x < h) ⊎ (h + 64 ≤ x)
+    go (inl k) = inl (omega arith)
+    go (inr k) = inr (omega arith)
+
 -- 64 columns: row 0; a row more
 module _ (m : ℕ) (a : List ℕ) (h : ℕ) where
-  pub columns-start : (l : List ℕ) → length l ≡ 5120 → ((i : ℕ) → i < 64 → getD l (h + i) 0 ≡ 0) → Columns m a h 1 l
+  pub columns-start : (l l′ : List ℕ) → length l ≡ 5120 → Zeroed h 64 l l′ → Columns m a h 1 l′
   unfolding factorAt
-  columns-start l z e = record {
-    size = z;
+  columns-start l l′ z e = record {
+    size = e .size ∙ z;
     entries = λ q i k b.
         (let x : 128 * q + h + i ≡ h + i = omega arith in
         let y : q ≡ 0 = omega arith in
-        ap (λ (x : ℕ). getD l x 0) x ∙ e i b ∙ sym (ap (λ (x : ℕ). mul m (getD a i 0) (factorAt x)) y ∙ mul-zero m (getD a i 0)));
+        ap (λ (x : ℕ). getD l′ x 0) x ∙ e .inside i b ∙ sym (ap (λ (x : ℕ). mul m (getD a i 0) (factorAt x)) y ∙ mul-zero m (getD a i 0)));
   }
 
   multiple-at : (i j : ℕ) → i < 64 → j < 13 → getD (multiplesOf m a) (64 * j + i) 0 ≡ mul m (getD a i 0) (2 ^ j)

@@ -9,7 +9,7 @@ use lib.Pow.{pow-pos, mod-pow-add, mod-mod-pow}
 use lib.Bits.{bitAnd, and-mask, mask-lt}
 use lib.ListN.{length, getD, take, set, length-map}
 use lib.Seq.{ext-getD}
-use borrow.Author.Tests.{lt-ltb, le-ltb}
+use borrow.Author.Tests.{lt-ltb, le-ltb, eq-eqb, ne-eqb}
 use Rattle.bits.specs.Xor.{_⊕_}
 use Rattle.bits.specs.Bits.{from, eachWith, xorRow}
 use Rattle.bits.proofs.Xor.{xor-shifted, xor-comm}
@@ -19,11 +19,19 @@ use Rattle.bits.proofs.Rows.{length-xorRow, getD-xorRow}
 use Rattle.field.specs.Field.{mul}
 use Rattle.field.proofs.Table.{Width, width-narrow}
 use Rattle.field.proofs.Laws.{mul-comm, mul-add, low-mul}
-use Rattle.row_tables.specs.RowTable.{factorAt, tableOf, entryAt, combination, addMultiple}
+use Rattle.row_tables.specs.RowTable.{factorAt, tableOf, tableIn, entryAt, combination, addMultiple}
 
 pub length-table : (m : ℕ) (a : List ℕ) → length (tableOf m a) ≡ 5120
 unfolding tableOf
 length-table m a = length-map-from (λ x. mul m (getD a (x % 128) 0) (factorAt (x / 128))) 0 5120
+
+pub tableIn-all : (m : ℕ) (a l : List ℕ) → length l ≡ 5120 → tableIn m a l ≡ tableOf m a
+unfolding tableIn
+tableIn-all m a l e = rw (eq-eqb (length l) 5120 e)
+
+pub tableIn-none : (m : ℕ) (a l : List ℕ) → (length l ≡ 5120 → ⊥) → tableIn m a l ≡ l
+unfolding tableIn
+tableIn-none m a l h = rw (ne-eqb (length l) 5120 h)
 
 pub table-at : (m : ℕ) (a : List ℕ) (x : ℕ) → x < 5120 → getD (tableOf m a) x 0 ≡ mul m (getD a (x % 128) 0) (factorAt (x / 128))
 unfolding tableOf

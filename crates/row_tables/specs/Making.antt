@@ -31,6 +31,12 @@ pub record Put (t : List ℕ) (j s at k : ℕ) (l l′ : List ℕ) : Type 0 wher
   pub inside : (i : ℕ) → i < k → getD l′ (at + i) 0 ≡ getD l (s + i) 0 ⊕ getD t (64 * j + i) 0
   pub others : (x : ℕ) → (x < at) ⊎ (at + k ≤ x) → getD l′ x 0 ≡ getD l x 0
 
+-- k numbers from place `at` on are 0
+pub record Zeroed (at k : ℕ) (l l′ : List ℕ) : Type 0 where
+  pub size : length l′ ≡ length l
+  pub inside : (i : ℕ) → i < k → getD l′ (at + i) 0 ≡ 0
+  pub others : (x : ℕ) → (x < at) ⊎ (at + k ≤ x) → getD l′ x 0 ≡ getD l x 0
+
 -- in the 64 columns from h on, e rows are the multiples of a's coefficients
 pub record Columns (m : ℕ) (a : List ℕ) (h e : ℕ) (l : List ℕ) : Type 0 where
   pub size : length l ≡ 5120

@@ -2,8 +2,8 @@
 use Prim.Native.Nat.{ℕ, _+_, _-_, _*_, _/_, _%_, _^_}
 use mathlib.Core.Bool.{cond}
 use mathlib.Core.List.{List, map}
-use lib.Dec.{ltb}
-use lib.ListN.{getD}
+use lib.Dec.{eqb, ltb}
+use lib.ListN.{length, getD}
 use Rattle.bits.specs.Xor.{_⊕_}
 use Rattle.bits.specs.Bits.{from, eachWith}
 use Rattle.field.specs.Field.{mul}
@@ -15,6 +15,10 @@ factorAt q = cond (ltb q 16) q (q % 8 * 2 ^ (3 * (q / 8) - 2))
 -- a row of 128 for each factor; 0 past the coefficients
 unfoldable pub tableOf : ℕ → List ℕ → List ℕ
 tableOf m a = map (λ x. mul m (getD a (x % 128) 0) (factorAt (x / 128))) (from 0 5120)
+
+-- over a list of as many numbers; a list of another length stays as it is
+unfoldable pub tableIn : ℕ → List ℕ → List ℕ → List ℕ
+tableIn m a l = cond (eqb (length l) 5120) (tableOf m a) l
 
 -- row q in column i
 unfoldable pub entryAt : List ℕ → ℕ → ℕ → ℕ

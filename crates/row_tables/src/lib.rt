@@ -3,8 +3,8 @@ ghost use mathlib.Core.Path.{_≡_};
 ghost use mathlib.Core.Logic.{_⊎_};
 ghost use Prim.Native.Nat.{ℕ, _+_, _*_, _%_, _≤_, _<_};
 ghost use lib.ListN.{length, getD};
-ghost use Rattle.row_tables.specs.RowTable.{tableOf, addMultiple};
-ghost use Rattle.row_tables.specs.Making.{earlierRows, digitPlaces, Put, Columns};
+ghost use Rattle.row_tables.specs.RowTable.{tableIn, addMultiple};
+ghost use Rattle.row_tables.specs.Making.{earlierRows, digitPlaces, Put, Zeroed, Columns};
 
 // Each row of a table but row 0 is an earlier row plus the coefficients times a power of z: which row, and which power.
 const EARLIER: [usize; 40] = [
@@ -121,12 +121,25 @@ fn put_half(t: &[u16; 832], j: usize, s: usize, at: usize, p: &mut [u16])
     }
 }
 
-// In the 64 columns from h on, the rows behind row 0 become the multiples of a's first 64 coefficients.
+// The 64 numbers from place h on become 0.
+fn zero_half(h: usize, p: &mut [u16])
+    requires { ⌜ (h ≤ 64) × (length (now p) ≡ 5120) ⌝ }
+    ensures { λ _. ⌜ Zeroed h 64 (now (p .entry)) (now (p .exit)) ⌝ }
+{
+    let mut i = 0;
+    while i < 64 {
+        p[h + i] = 0;
+        i += 1;
+    }
+}
+
+// In the 64 columns from h on, the rows of p become the multiples of a's first 64 coefficients.
 fn fill(m: u8, a: &[u16], h: usize, p: &mut [u16])
-    requires { ⌜ (h ≤ 64) × Columns m (now a) h 1 (now p) ⌝ }
+    requires { ⌜ (h ≤ 64) × (length (now p) ≡ 5120) ⌝ }
     ensures { λ _. ⌜ Columns m (now (a .entry)) h 40 (now (p .exit)) ⌝ }
     ensures { λ _. ⌜ ((x : ℕ) → (x % 128 < h) ⊎ (h + 64 ≤ x % 128) → getD (now (p .exit)) x 0 ≡ getD (now (p .entry)) x 0) ⌝ }
 {
+    zero_half(h, p);
     let t = field_places::multiples(m, a);
     let mut q = 1;
     while q < 40 {
@@ -138,16 +151,18 @@ fn fill(m: u8, a: &[u16], h: usize, p: &mut [u16])
     }
 }
 
-// The multiples of a's first 128 coefficients by each number of four digits, and by each of the next three, the next three and the
-// last three digits: 40 rows of 128; 0 past the coefficients, and where m is no width.
-pub fn table(m: u8, a: &[u16]) -> [u16; 5120]
-    ensures { λ r. ⌜ r ≡ tableOf m (now (a .entry)) ⌝ }
+// p becomes a's table: the multiples of its first 128 coefficients by each number of four digits, and by each of the next three, the
+// next three and the last three digits, 40 rows of 128; 0 past the coefficients and where m is no width. Nothing where p has another
+// length.
+pub fn put_table(m: u8, a: &[u16], p: &mut [u16])
+    ensures { λ _. ⌜ now (p .exit) ≡ tableIn m (now (a .entry)) (now (p .entry)) ⌝ }
 {
+    if p.len() != 5120 {
+        return;
+    }
     let n = bits::smaller(a.len(), 64);
-    let mut p = [0u16; 5120];
-    fill(m, a, 0, &mut p);
-    fill(m, &a[n..], 64, &mut p);
-    p
+    fill(m, a, 0, p);
+    fill(m, &a[n..], 64, p);
 }
 
 // Where row q of a table starts.

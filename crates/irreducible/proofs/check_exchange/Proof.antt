@@ -1,15 +1,11 @@
 -- The key, then its g. Assumes nothing.
-use mathlib.Core.Path.{_≡_, sym, ap, _∙_}
-use mathlib.Core.Bool.{true}
-use mathlib.Core.List.{List}
+use mathlib.Core.Path.{sym, ap, _∙_}
 use native.Mathlib.Omega.{arith}
 use borrow.Author.Needs.{needs}
-use lib.ListN.{length, take}
-use lib.Seq.{length-take-le}
 use Rattle.field.specs.Verdicts.{verdictOf}
 use Rattle.field.proofs.Verdicts.{refuses, verdict-accepted, verdict-refused}
 use Rattle.field.proofs.Arrays.{elements-every}
-use Rattle.key.specs.Keys.{keyNumber, reducible}
+use Rattle.key.specs.Keys.{reducible}
 use Rattle.key.specs.Kept.{kept, parts}
 use Rattle.key.proofs.Accepted.{Accepted, accepted}
 use Rattle.irreducible.proofs.Exchange.{exchange-unsound, exchange-reducible, exchange-right}
@@ -17,7 +13,7 @@ use Rattle.irreducible.proofs.check_exchange.Statement.{statement}
 use Rattle.irreducible.proofs.check_exchange.Tie as tie
 
 check-requires : tie.Need-check-requires
-check-requires c κs = search needs
+check-requires c κs = tt
 
 enum-told : tie.Need-enum-told
 enum-told c = search needs

@@ -1,6 +1,5 @@
 -- `splits` meets its contract. Assumes nothing.
-use mathlib.Core.Path.{_≡_, refl, sym, _∙_}
-use native.Mathlib.Omega.{arith}
+use mathlib.Core.Path.{sym, _∙_}
 use borrow.Author.Needs.{needs}
 use Rattle.field.proofs.Arrays.{every-elements}
 use Rattle.poly.proofs.SquareSearch.{hasSquare-separable}

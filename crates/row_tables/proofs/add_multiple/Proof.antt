@@ -1,11 +1,10 @@
 -- The loop's invariant: the first i places are done; where the four rows start. Assumes nothing.
 use mathlib.Core.Path.{_≡_, refl, ap, _∙_}
-use Prim.Native.Nat.{ℕ, _+_, _-_, _*_, _/_, _%_, _≤_}
+use Prim.Native.Nat.{ℕ, _-_, _/_, _≤_}
 use native.Mathlib.Omega.{arith}
 use mathlib.Core.List.{List}
 use lib.Bits.{mask-lt}
 use lib.ListN.{length, getD, set, length-set}
-use borrow.Author.Needs.{needs}
 use Rattle.bits.specs.Xor.{_⊕_}
 use Rattle.row_tables.specs.RowTable.{combination}
 use Rattle.row_tables.proofs.RowTable.{Starts, starts, addedTo, added-start, added-next, added-all, combination-from}
@@ -19,7 +18,7 @@ abbrev μ-loop : tie.MeasureT-loop
 μ-loop t c r₀ n p q u v i₀ r i = n - i
 
 smaller-requires : tie.Need-smaller-requires Inv-loop μ-loop
-smaller-requires c κs = search needs
+smaller-requires c κs = tt
 
 start-requires : tie.Need-start-requires Inv-loop μ-loop
 start-requires c κs = let a = c .before .before .args in omega (arith, mask-lt (a .c) 4)

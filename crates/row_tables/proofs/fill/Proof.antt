@@ -1,14 +1,12 @@
 -- The loop's invariant: q rows are made, and the other columns are as they were. Assumes nothing.
 use mathlib.Core.Path.{_≡_, refl, sym, _∙_, subst}
 use mathlib.Core.Logic.{_⊎_}
-use mathlib.Core.List.{List}
-use Prim.Native.Nat.{ℕ, _+_, _-_, _*_, _%_, _≤_, _<_}
+use Prim.Native.Nat.{ℕ, _+_, _-_, _%_, _≤_, _<_}
 use native.Mathlib.Omega.{arith}
 use borrow.Author.Needs.{needs}
 use lib.ListN.{length, getD}
-use Rattle.field.specs.PointTable.{multiplesOf}
-use Rattle.row_tables.specs.Making.{earlierRows, digitPlaces, Put, Columns}
-use Rattle.row_tables.proofs.Making.{earlier-lt, digit-lt, put-by, columns-next, outside}
+use Rattle.row_tables.specs.Making.{earlierRows, digitPlaces, Columns}
+use Rattle.row_tables.proofs.Making.{earlier-lt, digit-lt, put-by, columns-start, columns-next, outside, outside-first}
 use Rattle.row_tables.proofs.fill.Statement.{statement}
 use Rattle.row_tables.proofs.fill.Tie as tie
 
@@ -18,11 +16,14 @@ Inv-loop m a h p₀ t q₀ p q = (0 < q) × (q ≤ 40) × Columns m a h q p × (
 abbrev μ-loop : tie.MeasureT-loop
 μ-loop m a h p₀ t q₀ p q = 40 - q
 
+zero-half-requires : tie.Need-zero-half-requires Inv-loop μ-loop
+zero-half-requires c κs = search needs
+
 multiples-requires : tie.Need-multiples-requires Inv-loop μ-loop
-multiples-requires c κs = search needs
+multiples-requires c κs = tt
 
 loop-holds : tie.Need-loop-holds Inv-loop μ-loop
-loop-holds c = (omega arith, omega arith, c .before .before .before .pre .1, λ x h. refl)
+loop-holds c = let s = c .before .before .before .before .before .before .before in let a = s .args in (omega arith, omega arith, columns-start (a .m) (a .a .now) (a .h) (a .p .now) _ (s .pre .1) (c .before .before .before .zero-half .ensures), λ x h. refl)
 
 digit-requires : tie.Need-digit-requires Inv-loop μ-loop
 digit-requires c κs = omega arith
@@ -68,7 +69,7 @@ loop-again c =
     let b = c .before .before in
     let d = b .before .before .before in
     let l = d .before .before .before .loop in
-    let s = d .before .before .before .before .before .before .before in
+    let s = d .before .before .before .before .before .before .before .before .before .before .before in
     let a = s .args in
     let p = put-by (a .h) (d .before .before .before .before .multiples .ensures) (d .before .digit .ensures) (d .earlier .ensures) (b .put-half .ensures) in (
       omega arith,
@@ -78,14 +79,14 @@ loop-again c =
     )
 
 same-length : tie.Need-same-length Inv-loop μ-loop
-same-length c = c .before .loop .inv .2 .size ∙ sym (c .before .before .before .before .before .pre .1 .size)
+same-length c = c .before .loop .inv .2 .size ∙ sym (c .before .before .before .before .before .before .before .before .before .pre .1)
 
 returns : tie.Need-returns Inv-loop μ-loop
 returns c =
     let l = c .before .loop in
-    let a = c .before .before .before .before .before .args in
+    let a = c .before .before .before .before .before .before .before .before .before .args in
     let e : l .q ≡ 40 = omega arith in
-    (subst (λ (k : ℕ). Columns (a .m) (a .a .now) (a .h) k (l .p)) e (l .inv .2), l .inv .3)
+    (subst (λ (k : ℕ). Columns (a .m) (a .a .now) (a .h) k (l .p)) e (l .inv .2), λ x h. l .inv .3 x h ∙ c .before .before .before .before .before .zero-half .ensures .others x (outside-first (a .h) x (omega arith) h))
 
 pub fill-spec : {M : Type 1} → statement M
 fill-spec =
@@ -93,6 +94,7 @@ fill-spec =
     (tie.spec
     Inv-loop
     μ-loop
+    zero-half-requires
     multiples-requires
     loop-holds
     digit-requires

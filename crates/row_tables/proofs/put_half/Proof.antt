@@ -1,10 +1,7 @@
 -- The loop's invariant: i numbers are put. Assumes nothing.
-use mathlib.Core.Path.{_≡_, ap, ap₂, _∙_, subst}
-use Prim.Native.Nat.{ℕ, _+_, _-_, _*_, _≤_}
+use mathlib.Core.Path.{_≡_, subst}
+use Prim.Native.Nat.{ℕ, _-_, _≤_}
 use native.Mathlib.Omega.{arith}
-use mathlib.Core.List.{List}
-use borrow.Author.Needs.{needs}
-use lib.ListN.{length}
 use Rattle.bits.specs.Xor.{_⊕_}
 use Rattle.row_tables.specs.Making.{Put}
 use Rattle.row_tables.proofs.Making.{put-none, put-next}

@@ -3,9 +3,8 @@ use mathlib.Core.Path.{_≡_, refl, sym, ap, ap₂, _∙_, subst}
 use mathlib.Core.List.{List}
 use Prim.Native.Nat.{ℕ, _+_, _-_, _*_, _≤_, _<_}
 use native.Mathlib.Omega.{arith}
-use borrow.Author.Needs.{needs}
 use borrow.Rule.Slice.PartMut.{putMid}
-use lib.ListN.{length, getD, take, drop}
+use lib.ListN.{length, getD}
 use Rattle.row_tables.specs.RowTable.{addMultiple}
 use Rattle.irreducible.specs.Rows.{rowAt, Added}
 use Rattle.irreducible.proofs.Rows.{row-room, row-next, rows-le, row-start, row-at, part-row, added-none, added-next}
@@ -52,7 +51,7 @@ part-add-multiple-end : tie.Need-part-add-multiple-end Inv-loop μ-loop
 part-add-multiple-end c = let l = c .before .before .loop in let a = c .before .before .before .before .args in omega (arith, bounds (a .d) (a .k) (a .n) (l .i) (l .at) (length (a .rows .now)) (omega arith) (l .inv .1) (omega arith), l .inv .2 .size)
 
 add-multiple-requires : tie.Need-add-multiple-requires Inv-loop μ-loop
-add-multiple-requires c κs = search needs
+add-multiple-requires c κs = tt
 
 add-i : tie.Need-add-i Inv-loop μ-loop
 add-i c = omega arith

@@ -1,11 +1,9 @@
 -- The loop's invariant: r rows are done, and `at` is the place in the next. Assumes nothing.
-use mathlib.Core.Path.{_≡_, refl, sym, ap, ap₂, _∙_, subst}
-use Prim.Native.Nat.{ℕ, zero, suc, _+_, _-_, _*_, _/_, _%_, _^_, _≤_, _<_}
+use mathlib.Core.Path.{_≡_, sym, subst}
+use Prim.Native.Nat.{ℕ, suc, _+_, _-_, _*_, _≤_, _<_}
 use native.Mathlib.Omega.{arith}
 use native.Mathlib.Nat.{zero-mul, le-trans}
-use native.Mathlib.Numerals.{add-one}
-use mathlib.Core.List.{List, [], _∷_, _++_}
-use lib.ListN.{length, take, drop, getD, set, length-set}
+use lib.ListN.{length, getD, set}
 use borrow.Author.Needs.{needs}
 use Rattle.bits.specs.Xor.{_⊕_}
 use Rattle.bits.proofs.Parts.{rows-in, next-row}
@@ -20,6 +18,9 @@ Inv-loop n rows₀ r₀ at₀ rows r at = (r ≤ n - 1) × (at ≡ r * n + suc r
 abbrev μ-loop : tie.MeasureT-loop
 μ-loop n rows₀ r₀ at₀ rows r at = n - r
 
+inside : (r n : ℕ) → r + 1 < n → n ≤ 128 → r * n + n ≤ 16384
+inside r n h k = le-trans (rows-in r n n (omega arith)) (square-room n k)
+
 loop-holds : tie.Need-loop-holds Inv-loop μ-loop
 loop-holds c = (omega arith, omega (arith, zero-mul (c .args .n)), shifted-none _ _)
 
@@ -28,43 +29,23 @@ add-loop c = omega arith
 
 mul-rows : tie.Need-mul-rows Inv-loop μ-loop
 mul-rows c =
-    let l = c .before .loop in
-    let a = c .before .before .args in
-    let u : l .r * a .n + a .n ≤ 16384 = le-trans (rows-in (l .r) (a .n) (a .n) (omega arith)) (square-room (a .n) (omega arith)) in
-    let z : length (l .rows) ≡ length (a .rows .now) = l .inv .2 .size in
-    omega arith
+    let l = c .before .loop in let a = c .before .before .args in omega (arith, inside (l .r) (a .n) (omega arith) (omega arith), l .inv .2 .size)
 
 slice-read-rows : tie.Need-slice-read-rows Inv-loop μ-loop
 slice-read-rows c =
-    let l = c .before .before .loop in
-    let a = c .before .before .before .args in
-    let u : l .r * a .n + a .n ≤ 16384 = le-trans (rows-in (l .r) (a .n) (a .n) (omega arith)) (square-room (a .n) (omega arith)) in
-    let z : length (l .rows) ≡ length (a .rows .now) = l .inv .2 .size in
-    omega arith
+    let l = c .before .before .loop in let a = c .before .before .before .args in omega (arith, inside (l .r) (a .n) (omega arith) (omega arith), l .inv .2 .size)
 
 slice-write-rows : tie.Need-slice-write-rows Inv-loop μ-loop
 slice-write-rows c =
-    let l = c .before .before .loop in
-    let a = c .before .before .before .args in
-    let u : l .r * a .n + a .n ≤ 16384 = le-trans (rows-in (l .r) (a .n) (a .n) (omega arith)) (square-room (a .n) (omega arith)) in
-    let z : length (l .rows) ≡ length (a .rows .now) = l .inv .2 .size in
-    omega arith
+    let l = c .before .before .loop in let a = c .before .before .before .args in omega (arith, inside (l .r) (a .n) (omega arith) (omega arith), l .inv .2 .size)
 
 add-at : tie.Need-add-at Inv-loop μ-loop
 add-at c =
-    let l = c .before .before .loop in
-    let a = c .before .before .before .args in
-    let u : l .r * a .n + a .n ≤ 16384 = le-trans (rows-in (l .r) (a .n) (a .n) (omega arith)) (square-room (a .n) (omega arith)) in
-    let z : length (l .rows) ≡ length (a .rows .now) = l .inv .2 .size in
-    omega arith
+    let l = c .before .before .loop in let a = c .before .before .before .args in omega (arith, inside (l .r) (a .n) (omega arith) (omega arith), l .inv .2 .size)
 
 add-at-2 : tie.Need-add-at-2 Inv-loop μ-loop
 add-at-2 c =
-    let l = c .before .before .loop in
-    let a = c .before .before .before .args in
-    let u : l .r * a .n + a .n ≤ 16384 = le-trans (rows-in (l .r) (a .n) (a .n) (omega arith)) (square-room (a .n) (omega arith)) in
-    let z : length (l .rows) ≡ length (a .rows .now) = l .inv .2 .size in
-    omega arith
+    let l = c .before .before .loop in let a = c .before .before .before .args in omega (arith, inside (l .r) (a .n) (omega arith) (omega arith), l .inv .2 .size)
 
 add-r : tie.Need-add-r Inv-loop μ-loop
 add-r c = search needs
@@ -77,7 +58,7 @@ unfolding _⊕_
 loop-again c =
     let l = c .before .before .loop in
     let a = c .before .before .before .args in
-    let u : l .r * a .n + a .n ≤ 16384 = le-trans (rows-in (l .r) (a .n) (a .n) (omega arith)) (square-room (a .n) (omega arith)) in
+    let u : l .r * a .n + a .n ≤ 16384 = inside (l .r) (a .n) (omega arith) (omega arith) in
     let z : length (l .rows) ≡ length (a .rows .now) = l .inv .2 .size in
     let v : ℕ = getD (l .rows) (l .at) 0 ⊕ 1 in (
       omega arith,

@@ -6,11 +6,12 @@ use Prim.Native.Nat.{ℕ, _+_, _-_, _*_, _≤_, _<_}
 use native.Mathlib.Omega.{arith}
 use native.Mathlib.Decide.{decLt}
 use borrow.Author.Needs.{needs}
-use lib.ListN.{length, take, drop, getD, length-map, length-append, List·getD-eq-default}
-use lib.Seq.{length-take-le, take-at}
+use lib.ListN.{length, take, drop, getD, length-map, length-append, length-replicate, List·getD-eq-default}
+use lib.Seq.{take-at}
 use Rattle.field.specs.Field.{mul, inv}
 use Rattle.field.proofs.Units.{element-unit}
 use Rattle.row_tables.specs.RowTable.{tableOf}
+use Rattle.row_tables.proofs.RowTable.{tableIn-all}
 use Rattle.irreducible.specs.Rows.{rowAt}
 use Rattle.irreducible.proofs.Rows.{square-room, rows-le, room, length-row, copied, added-by}
 use Rattle.irreducible.proofs.independence.clear.Statement.{statement}
@@ -38,7 +39,7 @@ part-block-end : tie.Need-part-block-end
 part-block-end c = let a = c .before .before .args in omega (arith, room (a .n) (a .i) (a .rows .now) (omega arith) (omega arith) (omega arith))
 
 block-requires : tie.Need-block-requires
-block-requires c κs = search needs
+block-requires c κs = tt
 
 array-share-prefix-w : tie.Need-array-share-prefix-w
 array-share-prefix-w c = search needs
@@ -47,7 +48,7 @@ slice-aggregate-pivot : tie.Need-slice-aggregate-pivot
 slice-aggregate-pivot c = let a = c .before .before .before .before .before .args in sym (ap length (copied (a .n) (a .i) (a .rows .now) (c .before .block .result) (omega arith) (omega arith) (omega arith) (c .before .block .ensures)) ∙ length-row (a .n) (a .rows .now) (a .i) (room (a .n) (a .i) (a .rows .now) (omega arith) (omega arith) (omega arith)))
 
 pivot-requires : tie.Need-pivot-requires
-pivot-requires c κs = search needs
+pivot-requires c κs = tt
 
 same-length : tie.Need-same-length
 same-length c = refl
@@ -90,15 +91,18 @@ array-share-prefix-w-2 c =
     let long : length d ≡ a .n = ap length (c .before .divide .ensures) ∙ length-map (take (a .n) (c .before .before .before .before .before .before .block .result)) _ ∙ ap length (copied (a .n) (a .i) (a .rows .now) (c .before .before .before .before .before .before .block .result) (omega arith) (omega arith) (omega arith) (c .before .before .before .before .before .before .block .ensures)) ∙ length-row (a .n) (a .rows .now) (a .i) (room (a .n) (a .i) (a .rows .now) (omega arith) (omega arith) (omega arith)) in
     omega (arith, length-append d (drop (a .n) (c .before .before .before .before .before .before .block .result)))
 
-slice-aggregate-table : tie.Need-slice-aggregate-table
-slice-aggregate-table c =
+slice-aggregate-put-table : tie.Need-slice-aggregate-put-table
+slice-aggregate-put-table c =
     let a = c .before .before .before .before .before .before .before .before .before .before .before .args in
     let d : List ℕ = c .before .before .divide .last .1 .1 .0 in
     let long : length d ≡ a .n = ap length (c .before .before .divide .ensures) ∙ length-map (take (a .n) (c .before .before .before .before .before .before .before .block .result)) _ ∙ ap length (copied (a .n) (a .i) (a .rows .now) (c .before .before .before .before .before .before .before .block .result) (omega arith) (omega arith) (omega arith) (c .before .before .before .before .before .before .before .block .ensures)) ∙ length-row (a .n) (a .rows .now) (a .i) (room (a .n) (a .i) (a .rows .now) (omega arith) (omega arith) (omega arith)) in
     sym (ap length (take-at d _ (a .n) long) ∙ long)
 
-table-requires : tie.Need-table-requires
-table-requires c κs = search needs
+slice-aggregate-put-table-2 : tie.Need-slice-aggregate-put-table-2
+slice-aggregate-put-table-2 c = search needs
+
+put-table-requires : tie.Need-put-table-requires
+put-table-requires c κs = tt
 
 add-add-column : tie.Need-add-add-column
 add-add-column c = search needs
@@ -111,11 +115,11 @@ sub-add-column c = search needs
 
 add-column-requires : tie.Need-add-column-requires
 add-column-requires c κs =
-    let a = c .before .before .before .before .before .before .before .before .before .before .before .before .before .before .args in
-    let v = c .before .before .before .before .before .before .before .before .pivot in
+    let a = c .before .before .before .before .before .before .before .before .before .before .before .before .before .before .before .before .args in
+    let v = c .before .before .before .before .before .before .before .before .before .before .pivot in
     let bound = v .ensures .bound in
-    let long = ap length (copied (a .n) (a .i) (a .rows .now) (c .before .before .before .before .before .before .before .before .before .before .block .result) (omega arith) (omega arith) (omega arith) (c .before .before .before .before .before .before .before .before .before .before .block .ensures)) ∙ length-row (a .n) (a .rows .now) (a .i) (room (a .n) (a .i) (a .rows .now) (omega arith) (omega arith) (omega arith)) in
-    let h : v .result < a .n = less (v .result) (a .n) (omega arith) (c .before .before .before .before .before .before .before .if1 .left) in
+    let long = ap length (copied (a .n) (a .i) (a .rows .now) (c .before .before .before .before .before .before .before .before .before .before .before .before .block .result) (omega arith) (omega arith) (omega arith) (c .before .before .before .before .before .before .before .before .before .before .before .before .block .ensures)) ∙ length-row (a .n) (a .rows .now) (a .i) (room (a .n) (a .i) (a .rows .now) (omega arith) (omega arith) (omega arith)) in
+    let h : v .result < a .n = less (v .result) (a .n) (omega arith) (c .before .before .before .before .before .before .before .before .before .if1 .left) in
     let k : ℕ = a .i + 1 + (a .n - (a .i + 2)) in
     let r : k * a .n ≤ a .n * a .n = rows-le k (a .n) (a .n) (omega arith) in
     let t = square-room (a .n) (omega arith) in
@@ -126,21 +130,21 @@ same-length-2 c = c .before .before .add-column .ensures .size
 
 returns-2 : tie.Need-returns-2
 returns-2 c =
-    let a = c .before .before .before .before .before .before .before .before .before .before .before .before .before .before .before .before .before .args in
-    let d : List ℕ = c .before .before .before .before .before .before .before .before .divide .last .1 .1 .0 in
-    let long : length d ≡ a .n = ap length (c .before .before .before .before .before .before .before .before .divide .ensures) ∙ length-map (take (a .n) (c .before .before .before .before .before .before .before .before .before .before .before .before .before .block .result)) _ ∙ ap length (copied (a .n) (a .i) (a .rows .now) (c .before .before .before .before .before .before .before .before .before .before .before .before .before .block .result) (omega arith) (omega arith) (omega arith) (c .before .before .before .before .before .before .before .before .before .before .before .before .before .block .ensures)) ∙ length-row (a .n) (a .rows .now) (a .i) (room (a .n) (a .i) (a .rows .now) (omega arith) (omega arith) (omega arith)) in
-    let t = c .before .before .before .before .before in
-    let v = c .before .before .before .before .before .before .before .before .before .before .before .pivot in
-    let w : take (a .n) (c .before .before .before .before .before .before .before .before .before .before .before .before .before .block .result) ≡ rowAt (a .n) (a .rows .now) (a .i) = copied (a .n) (a .i) (a .rows .now) (c .before .before .before .before .before .before .before .before .before .before .before .before .before .block .result) (omega arith) (omega arith) (omega arith) (c .before .before .before .before .before .before .before .before .before .before .before .before .before .block .ensures) in
-    let size : length (take (a .n) (c .before .before .before .before .before .before .before .before .before .before .before .before .before .block .result)) ≡ a .n = ap length w ∙ length-row (a .n) (a .rows .now) (a .i) (room (a .n) (a .i) (a .rows .now) (omega arith) (omega arith) (omega arith)) in
+    let a = c .before .before .before .before .before .before .before .before .before .before .before .before .before .before .before .before .before .before .before .args in
+    let d : List ℕ = c .before .before .before .before .before .before .before .before .before .before .divide .last .1 .1 .0 in
+    let long : length d ≡ a .n = ap length (c .before .before .before .before .before .before .before .before .before .before .divide .ensures) ∙ length-map (take (a .n) (c .before .before .before .before .before .before .before .before .before .before .before .before .before .before .before .block .result)) _ ∙ ap length (copied (a .n) (a .i) (a .rows .now) (c .before .before .before .before .before .before .before .before .before .before .before .before .before .before .before .block .result) (omega arith) (omega arith) (omega arith) (c .before .before .before .before .before .before .before .before .before .before .before .before .before .before .before .block .ensures)) ∙ length-row (a .n) (a .rows .now) (a .i) (room (a .n) (a .i) (a .rows .now) (omega arith) (omega arith) (omega arith)) in
+    let t = c .before .before .before .before .before .before in
+    let v = c .before .before .before .before .before .before .before .before .before .before .before .before .before .pivot in
+    let w : take (a .n) (c .before .before .before .before .before .before .before .before .before .before .before .before .before .before .before .block .result) ≡ rowAt (a .n) (a .rows .now) (a .i) = copied (a .n) (a .i) (a .rows .now) (c .before .before .before .before .before .before .before .before .before .before .before .before .before .before .before .block .result) (omega arith) (omega arith) (omega arith) (c .before .before .before .before .before .before .before .before .before .before .before .before .before .before .before .block .ensures) in
+    let size : length (take (a .n) (c .before .before .before .before .before .before .before .before .before .before .before .before .before .before .before .block .result)) ≡ a .n = ap length w ∙ length-row (a .n) (a .rows .now) (a .i) (room (a .n) (a .i) (a .rows .now) (omega arith) (omega arith) (omega arith)) in
     let bound = v .ensures .bound in
-    let y : take (a .n) (d ++ drop (a .n) (c .before .before .before .before .before .before .before .before .before .before .before .before .before .block .result)) ≡ map (mul (a .m) (inv (a .m) (getD (rowAt (a .n) (a .rows .now) (a .i)) (v .result) 0))) (rowAt (a .n) (a .rows .now) (a .i)) =
-    take-at d _ (a .n) long ∙ c .before .before .before .before .before .before .before .before .divide .ensures ∙ ap (λ (r : List ℕ). map (mul (a .m) (inv (a .m) (getD r (v .result) 0))) r) w in (
+    let y : take (a .n) (d ++ drop (a .n) (c .before .before .before .before .before .before .before .before .before .before .before .before .before .before .before .block .result)) ≡ map (mul (a .m) (inv (a .m) (getD (rowAt (a .n) (a .rows .now) (a .i)) (v .result) 0))) (rowAt (a .n) (a .rows .now) (a .i)) =
+    take-at d _ (a .n) long ∙ c .before .before .before .before .before .before .before .before .before .before .divide .ensures ∙ ap (λ (r : List ℕ). map (mul (a .m) (inv (a .m) (getD r (v .result) 0))) r) w in (
       λ f. record {
         place = v .result;
-        small = less (v .result) (a .n) (omega arith) (c .before .before .before .before .before .before .before .before .before .before .if1 .left);
-        nonzero = λ z. v .ensures .found (less _ _ bound (λ e. c .before .before .before .before .before .before .before .before .before .before .if1 .left (e ∙ size))) (ap (λ (r : List ℕ). getD r (v .result) 0) w ∙ z);
-        added = added-by (t .table .ensures ∙ ap (tableOf (a .m)) y) (c .before .before .add-column .ensures);
+        small = less (v .result) (a .n) (omega arith) (c .before .before .before .before .before .before .before .before .before .before .before .before .if1 .left);
+        nonzero = λ z. v .ensures .found (less _ _ bound (λ e. c .before .before .before .before .before .before .before .before .before .before .before .before .if1 .left (e ∙ size))) (ap (λ (r : List ℕ). getD r (v .result) 0) w ∙ z);
+        added = added-by (t .put-table .ensures ∙ tableIn-all (a .m) _ _ (length-replicate {A = ℕ} 5120 0) ∙ ap (tableOf (a .m)) y) (c .before .before .add-column .ensures);
       },
       λ f. absurd (false≢true (sym f)),
     )
@@ -165,8 +169,9 @@ clear-spec =
     slice-aggregate-divide
     divide-requires
     array-share-prefix-w-2
-    slice-aggregate-table
-    table-requires
+    slice-aggregate-put-table
+    slice-aggregate-put-table-2
+    put-table-requires
     add-add-column
     add-add-column-2
     sub-add-column

@@ -1,5 +1,5 @@
 -- `divide` meets its contract. Assumes nothing.
-use mathlib.Core.Path.{_≡_, ap, _∙_}
+use mathlib.Core.Path.{ap, _∙_}
 use mathlib.Core.List.{map}
 use Prim.Native.Nat.{ℕ}
 use native.Mathlib.Omega.{arith}
@@ -17,7 +17,7 @@ slice-read-inverse : tie.Need-slice-read-inverse
 slice-read-inverse c = search needs
 
 inverse-requires : tie.Need-inverse-requires
-inverse-requires c κs = search needs
+inverse-requires c κs = tt
 
 enum-known-i : tie.Need-enum-known-i
 enum-known-i c = search needs
@@ -35,7 +35,7 @@ slice-aggregate-horner-each : tie.Need-slice-aggregate-horner-each
 slice-aggregate-horner-each c = search needs
 
 horner-each-requires : tie.Need-horner-each-requires
-horner-each-requires c κs = search needs
+horner-each-requires c κs = tt
 
 same-length : tie.Need-same-length
 same-length c = search needs

@@ -3,7 +3,6 @@ use mathlib.Core.Path.{_≡_, sym, subst}
 use Prim.Native.Nat.{ℕ, _-_, _≤_}
 use native.Mathlib.Omega.{arith}
 use borrow.Author.Needs.{needs}
-use lib.ListN.{length, take}
 use lib.Seq.{length-take-le}
 use Rattle.irreducible.specs.Residues.{FirstPower}
 use Rattle.irreducible.proofs.PowerRows.{first-none, first-next}

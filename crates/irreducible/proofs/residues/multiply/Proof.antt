@@ -1,6 +1,4 @@
 -- `multiply` meets its contract. Assumes nothing.
-use mathlib.Core.Path.{_≡_}
-use native.Mathlib.Omega.{arith}
 use borrow.Author.Needs.{needs}
 use Rattle.irreducible.proofs.Products.{product-modulo}
 use Rattle.irreducible.proofs.residues.multiply.Statement.{statement}

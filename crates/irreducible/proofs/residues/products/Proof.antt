@@ -3,7 +3,6 @@ use mathlib.Core.Path.{_≡_, refl, sym, ap, ap₂, _∙_, subst}
 use mathlib.Core.List.{List}
 use Prim.Native.Nat.{ℕ, _+_, _-_, _≤_}
 use native.Mathlib.Omega.{arith}
-use borrow.Author.Needs.{needs}
 use borrow.Rule.Slice.PartMut.{putMid, same-len-mid}
 use lib.ListN.{length, getD, take, drop, length-replicate}
 use Rattle.field.proofs.Table.{Width}
@@ -44,7 +43,7 @@ part-b-end : tie.Need-part-b-end Inv-loop μ-loop
 part-b-end c = let z : length (c .before .before .loop .b) ≡ 256 = c .before .before .loop .inv .1 in omega arith
 
 add-multiple-requires : tie.Need-add-multiple-requires Inv-loop μ-loop
-add-multiple-requires c κs = search needs
+add-multiple-requires c κs = tt
 
 add-j : tie.Need-add-j Inv-loop μ-loop
 add-j c = omega arith

@@ -1,10 +1,9 @@
 -- `residue` meets its contract. Assumes nothing.
-use mathlib.Core.Path.{_≡_, sym, ap, _∙_}
-use mathlib.Core.List.{List, _++_}
-use Prim.Native.Nat.{ℕ, _+_, _≤_}
+use mathlib.Core.Path.{_≡_, sym, _∙_}
+use Prim.Native.Nat.{ℕ, _+_}
 use native.Mathlib.Omega.{arith}
 use borrow.Author.Needs.{needs}
-use lib.ListN.{length, take, drop, length-append}
+use lib.ListN.{length, drop, length-append}
 use lib.Seq.{length-take-le}
 use Rattle.irreducible.proofs.Products.{residue-of}
 use Rattle.irreducible.proofs.residues.residue.Statement.{statement}
@@ -41,7 +40,7 @@ slice-aggregate-copy-each c =
     sym (length-take-le n _ (omega (arith, length-append (x .last .1 .1 .0) (drop (n + n) (a .b)))))
 
 copy-each-requires : tie.Need-copy-each-requires
-copy-each-requires c κs = search needs
+copy-each-requires c κs = tt
 
 same-length : tie.Need-same-length
 same-length c = search needs

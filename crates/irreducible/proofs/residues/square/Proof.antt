@@ -1,6 +1,5 @@
 -- `square` meets its contract. Assumes nothing.
-use mathlib.Core.Path.{_≡_, refl}
-use native.Mathlib.Omega.{arith}
+use mathlib.Core.Path.{refl}
 use borrow.Author.Needs.{needs}
 use Rattle.irreducible.proofs.Products.{product-modulo}
 use Rattle.irreducible.proofs.residues.square.Statement.{statement}

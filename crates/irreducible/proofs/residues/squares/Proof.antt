@@ -1,11 +1,10 @@
 -- The loop's invariant: b is the square of r's first i coefficients. Assumes nothing.
-use mathlib.Core.Path.{_≡_, refl, sym, ap, _∙_}
-use mathlib.Core.List.{List, _++_, map}
-use Prim.Native.Nat.{ℕ, _+_, _-_, _≤_, _<_}
+use mathlib.Core.Path.{sym, ap}
+use mathlib.Core.List.{List}
+use Prim.Native.Nat.{ℕ, _-_, _≤_}
 use native.Mathlib.Omega.{arith}
 use borrow.Author.Needs.{needs}
-use lib.ListN.{length, getD, take, drop}
-use lib.Seq.{length-take-le}
+use lib.ListN.{length}
 use Rattle.bits.specs.Xor.{_⊕_}
 use Rattle.irreducible.proofs.Products.{Part, part-none, part-square, part-all, block-part, square-at}
 use Rattle.irreducible.proofs.residues.squares.Statement.{statement}
@@ -18,7 +17,7 @@ abbrev μ-loop : tie.MeasureT-loop
 μ-loop m r n s b₀ i₀ b i = n - i
 
 block-requires : tie.Need-block-requires Inv-loop μ-loop
-block-requires c κs = search needs
+block-requires c κs = tt
 
 array-borrow-prefix-s : tie.Need-array-borrow-prefix-s Inv-loop μ-loop
 array-borrow-prefix-s c = search needs
@@ -27,7 +26,7 @@ slice-aggregate-square-each : tie.Need-slice-aggregate-square-each Inv-loop μ-l
 slice-aggregate-square-each c = let r = c .before .before .before .args .r .now in sym (ap length (block-part r (c .before .block .result) (omega arith) (c .before .block .ensures)))
 
 square-each-requires : tie.Need-square-each-requires Inv-loop μ-loop
-square-each-requires c κs = search needs
+square-each-requires c κs = tt
 
 loop-holds : tie.Need-loop-holds Inv-loop μ-loop
 loop-holds c = (omega arith, part-none _ _ _ 0)
