@@ -15,7 +15,7 @@ static inline void wipe(void *bytes, size_t length)
     __asm__ volatile("" : : "r"(bytes) : "memory");
 }
 
-/* 384 KiB: a call takes up to 244 (enum shearcotter_stack_kib), and the rest is for the function that makes it. */
+/* 384 KiB: a call takes up to 243 (enum shearcotter_stack_kib), and the rest is for the function that makes it. */
 enum { WIPE_STACK_PAGES = 96 };
 
 /* Overwrites the stack below the caller's frame: what functions that the caller called before have left there. Goes down page by

@@ -25,7 +25,7 @@
 //!
 //! # Stack
 //!
-//! A call takes up to 244 KiB of stack, about 266 without optimisation, since the station passes by value. Each call touches
+//! A call takes up to 243 KiB of stack, about 265 without optimisation, since the station passes by value. Each call touches
 //! [`raw::STACK`] bytes of stack first, 384 KiB, so that a thread with less ends at its guard page and nowhere else.
 //!
 //! # Secrets

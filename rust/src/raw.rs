@@ -21,17 +21,17 @@ pub const STACK: usize = 384 * 1024;
 /// Bytes of stack that `shearcotter_load` takes, its argument and reply in the caller included.
 pub const STACK_LOAD: usize = 192 * 1024;
 /// The same for `shearcotter_publish`.
-pub const STACK_PUBLISH: usize = 240 * 1024;
+pub const STACK_PUBLISH: usize = 231 * 1024;
 /// Bytes of stack that `shearcotter_lock` takes.
 pub const STACK_LOCK: usize = 2 * 1024;
 /// The same as [`STACK_LOAD`] for `shearcotter_open`.
-pub const STACK_OPEN: usize = 226 * 1024;
+pub const STACK_OPEN: usize = 225 * 1024;
 /// The same for `shearcotter_read`.
 pub const STACK_READ: usize = 225 * 1024;
 /// The same for `shearcotter_report`.
-pub const STACK_REPORT: usize = 230 * 1024;
+pub const STACK_REPORT: usize = 229 * 1024;
 /// The same for `shearcotter_session`.
-pub const STACK_SESSION: usize = 244 * 1024;
+pub const STACK_SESSION: usize = 243 * 1024;
 /// The same for `shearcotter_drop`.
 pub const STACK_DROP: usize = 49 * 1024;
 /// Bytes of stack that `shearcotter_shake256` takes.
