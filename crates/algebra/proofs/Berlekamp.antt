@@ -1,5 +1,5 @@
 -- Berlekamp's criterion over a finite field of 2^m elements: a separable g of degree t is without factors exactly where the
--- residues h with h^(2^m) = h are the constants; and, over every field, where those with h h = h are 0 and 1. Assumes nothing.
+-- residues h with h^(2^m) = h are the constants. Assumes nothing.
 use mathlib.Core.Path.{_≡_, refl, sym, _∙_, ap, ap₂, subst}
 use mathlib.Core.Logic.{_⊎_, inl, inr}
 use mathlib.Core.List.{List, [], _∷_}
@@ -83,16 +83,6 @@ module _ (K : Field) where
           | inl z ↦ inl (div K (G .a) (G .poly-a) (G .left ∙ ap (λ x. G .a ⊠ x) (sym (same z)) ∙ series .mul-comm _ _))
           | inr l ↦ absurd (pr (G .deg) (G .gcd) (omega arith) l (G .monic .below) (λ z. 𝟙≢𝟘 (sym (G .monic .lead) ∙ z)) (div K (G .b) (G .poly-b) (G .right ∙ series .mul-comm _ _)))
         ]
-
-    -- the idempotents are 0 and 1
-    pub prime-idempotents : (e : Series F) → Below L (suc t) e → Div K g (e ⊠ e ⊞ e) → (e ≡ O) ⊎ (e ≡ C 𝟙)
-    prime-idempotents e b d = elim (euclid-lemma (suc t, b) (poly-add L (suc t, b) (poly-C L 𝟙)) (div-to K (shape e) d)) [
-      | inl a ↦ inl (div-low K m b a)
-      | inr a ↦ inr (add-cancel series _ _ (div-low K m (below-add L b (λ i h. below-C L 𝟙 i (omega arith))) a))
-    ]
-      where
-        shape : (e : Series F) → e ⊠ e ⊞ e ≡ e ⊠ (e ⊞ C 𝟙)
-        shape e = let R = series in simp (ring, R)
 
     poly-product : {h : Series F} → Poly L h → (E : List F) → Poly L (product L h E)
     unfolding product

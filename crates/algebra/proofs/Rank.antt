@@ -297,27 +297,3 @@ module _ (K : Field) where
 
     pub test-no : {i : ℕ} {B : List Row} → State i B → {r : Series F} → Image (power (suc i)) r → suc i < t → reduced B r ≡ O → ¬ Prime K t g
     test-no s im l z pr = fails s im l z (prime-rigid K fin t g mo pr)
-
-    -- residues modulo g, as the program holds them
-    pub record Residue (p y : ℕ → F) : Type 0 where
-      pub low : Below L t y
-      pub same : Div K g (p ⊞ y)
-
-    pub residue-mul : {p y q z w : Series F} → Poly L p → Residue p y → Residue q z → Residue (y ⊠ z) w → Residue (p ⊠ q) w
-    residue-mul {p} {y} {q} {z} {w} pp a b c = record {
-      low = c .low;
-      same = div-to K (shape p y q z w) (div-add K (div-add K (div-mul K z (t, b .low) (a .same)) (div-mul K p pp (b .same))) (c .same));
-    }
-      where
-        shape : (p y q z w : Series F) → ((p ⊞ y) ⊠ z ⊞ (q ⊞ z) ⊠ p) ⊞ (y ⊠ z ⊞ w) ≡ p ⊠ q ⊞ w
-        shape p y q z w = let R = series in simp (ring, R)
-
-    -- from x^(2^m j) to the row of x^j
-    pub residue-image : {j : ℕ} {y : Series F} → j < t → Residue (frob series m (power j)) y → Image (power j) (y ⊞ power j)
-    residue-image {j} {y} l a = record {
-      below = below-add L (a .low) (λ i k. monic-power j .below i (omega arith));
-      residue = div-to K (shape (frob series m (power j)) (power j) y) (a .same);
-    }
-      where
-        shape : (f p y : Series F) → f ⊞ y ≡ (f ⊞ p) ⊞ (y ⊞ p)
-        shape f p y = let R = series in simp (ring, R)

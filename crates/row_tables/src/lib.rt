@@ -151,9 +151,8 @@ fn fill(m: u8, a: &[u16], h: usize, p: &mut [u16])
     }
 }
 
-// p becomes a's table: the multiples of its first 128 coefficients by each number of four digits, and by each of the next three, the
-// next three and the last three digits, 40 rows of 128; 0 past the coefficients and where m is no width. Nothing where p has another
-// length.
+// p, where it has 5120 places, becomes a's table: the multiples of its first 128 coefficients by the numbers of the digits 0 to 3, 4 to
+// 6, 7 to 9 and 10 to 12, 40 rows of 128; 0 past the coefficients and where m is no width.
 pub fn put_table(m: u8, a: &[u16], p: &mut [u16])
     ensures { λ _. ⌜ now (p .exit) ≡ tableIn m (now (a .entry)) (now (p .entry)) ⌝ }
 {
