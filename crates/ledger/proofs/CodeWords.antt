@@ -10,7 +10,7 @@ use Rattle.bits.proofs.Pack.{row-length, row-unpack, unpack-over}
 use Rattle.bits.proofs.Rows.{xorRow-comm, xorRow-twice, row-xorRow}
 use Rattle.key.specs.Keys.{Key, keyNumber}
 use Rattle.code.specs.Code.{inCode}
-use Rattle.ledger.specs.Station.{Station}
+use Rattle.ledger.specs.Slot.{Slot}
 use Rattle.ledger.specs.Questions.{read-word}
 use Rattle.ledger.specs.Calls.{ask, step}
 use Rattle.ledger.specs.Systems.{System}
@@ -55,7 +55,7 @@ module _ (sys : System) (sim : Simulates sys) where
   unfolding at
   reads k s word out h good formed long =
       decides sys sim s (ask (read-word word out)) (Differs k word) 14 out
-      (at-held (λ (x : Station). Decides (Differs k word) 14 out (step x (ask (read-word word out)))) (sys .view s) k h
+      (at-held (λ (x : Slot). Decides (Differs k word) 14 out (step x (ask (read-word word out)))) (sys .view s) k h
       (λ state e. read-decides k good state e word out formed long))
 
   accepts : (k : Key) (s : sys .Stations) (word out : List ℕ) → Decides (Differs k word) 14 out (sys .call s (ask (read-word word out)))

@@ -7,7 +7,7 @@ use mathlib.Core.List.{List, _∷_}
 use Rattle.field.specs.Numbers.{firstOf}
 use Rattle.field.proofs.Numbers.{first-of, clear-of, numbered}
 use Rattle.code.specs.Publish.{workBytes}
-use Rattle.ledger.specs.Station.{Station, Held, isEmpty, heldBy}
+use Rattle.ledger.specs.Slot.{Slot, Held, isEmpty, heldBy}
 use Rattle.ledger.specs.Calls.{Call, load, publish, ask, drop-key, conditionsOf, made, step}
 use Rattle.ledger.specs.Systems.{definitions}
 use Rattle.ledger.specs.Demands.{Demand1}
@@ -28,7 +28,7 @@ unfolding firstOf
 refused-first true cs w n e f = refl
 refused-first false cs w n e f = f e
 
-refused-work : (s : Station) (c : Call) (n : ℕ) → step s c .number ≡ suc n → (suc n ≡ 23 → ⊥) → step s c .free ≡ 0
+refused-work : (s : Slot) (c : Call) (n : ℕ) → step s c .number ≡ suc n → (suc n ≡ 23 → ⊥) → step s c .free ≡ 0
 unfolding made heldBy conditionsOf
 refused-work s (load f) n e other = step-free s (load f)
 refused-work s (publish p) n e other =
@@ -42,7 +42,7 @@ none-first : (e : Bool) (w v : ℕ) → (w ≡ 0) ⊎ (w ≡ v) → (cond e 0 w 
 none-first true w v p = inl refl
 none-first false w v p = p
 
-made-workspace : (s : Station) (c : Call) → (made s c .free ≡ 0) ⊎ (made s c .free ≡ workBytes (s .key))
+made-workspace : (s : Slot) (c : Call) → (made s c .free ≡ 0) ⊎ (made s c .free ≡ workBytes (s .key))
 unfolding made
 made-workspace s (load f) = inl refl
 made-workspace s (publish p) = none-first (isEmpty (s .state)) _ _ (freed-workspace (s .key) p)

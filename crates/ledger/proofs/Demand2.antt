@@ -23,7 +23,7 @@ use Rattle.code.proofs.LockLaws.{public-size, lock-written, lock-accepts}
 use Rattle.code.proofs.Exchange.{exchangeable}
 use Rattle.code.specs.Publish.{capsuleBits, publicBytes, workBytes, publishChecks, publishConditions, freeBytes}
 use Rattle.decoder.specs.Calls.{openConditions}
-use Rattle.ledger.specs.Station.{State, empty, loaded, published, Station, Held, isEmpty, heldBy, Result}
+use Rattle.ledger.specs.Slot.{State, empty, loaded, published, Slot, Held, isEmpty, heldBy, Result}
 use Rattle.ledger.specs.Publishing.{systematic, publishingConditions, publication, freedBytes}
 use Rattle.ledger.specs.Questions.{open-capsule, questionConditions, gives, given}
 use Rattle.ledger.specs.Calls.{publish, ask, conditionsOf, made, step}
@@ -43,14 +43,14 @@ openResult k capsule out = step (at published k) (ask (open-capsule capsule out)
 abbrev patternIn : Key → List ℕ → List ℕ → List ℕ
 patternIn k capsule out = take (bytesFor (k .n)) (openResult k capsule out .output)
 
--- a station that holds the key k is loaded or published with it
-holding : (P : Station → Type 0) (st : State) (j k : Key) → keyHeld (at st j) ≡ some k → ((state : State) → isEmpty state ≡ false → P (at state k)) → P (at st j)
+-- a slot that holds the key k is loaded or published with it
+holding : (P : Slot → Type 0) (st : State) (j k : Key) → keyHeld (at st j) ≡ some k → ((state : State) → isEmpty state ≡ false → P (at state k)) → P (at st j)
 unfolding keyHeld at isEmpty
 holding P empty j k h f = differ (cc)
 holding P loaded j k h f = let q : k ≡ j = cc in subst (λ (x : Key). P (at loaded x)) q (f loaded refl)
 holding P published j k h f = let q : k ≡ j = cc in subst (λ (x : Key). P (at published x)) q (f published refl)
 
-pub at-held : (P : Station → Type 0) (s : Station) (k : Key) → keyHeld s ≡ some k → ((state : State) → isEmpty state ≡ false → P (at state k)) → P s
+pub at-held : (P : Slot → Type 0) (s : Slot) (k : Key) → keyHeld s ≡ some k → ((state : State) → isEmpty state ≡ false → P (at state k)) → P s
 unfolding at
 at-held P s k h f = holding P (s .state) (s .key) k h f
 
@@ -200,10 +200,10 @@ pub demand-2 : Demand2 definitions
 unfolding at
 demand-2 k rows good irreducible public =
     record {
-      publishes = λ s out work h long room. at-held (λ (x : Station). step x (publish (systematic out work)) ≡ record { station = record { state = published; key = x .key }; number = 0; output = over (flatMap pack rows) out; count = 0; answer = []; free = workBytes k }) s k h
+      publishes = λ s out work h long room. at-held (λ (x : Slot). step x (publish (systematic out work)) ≡ record { station = record { state = published; key = x .key }; number = 0; output = over (flatMap pack rows) out; count = 0; answer = []; free = workBytes k }) s k h
           (λ state e. publishes k rows good irreducible public state out work e long room);
-      marks = λ s h. at-held (λ (x : Station). at published (x .key) ≡ at published k) s k h (λ state e. refl);
-      public = λ s out work h. at-held (λ (x : Station). step x (publish (systematic out work)) .number ≡ 0 → take (publicBytes k) (step x (publish (systematic out work)) .output) ≡ flatMap pack rows) s k h
+      marks = λ s h. at-held (λ (x : Slot). at published (x .key) ≡ at published k) s k h (λ state e. refl);
+      public = λ s out work h. at-held (λ (x : Slot). step x (publish (systematic out work)) .number ≡ 0 → take (publicBytes k) (step x (publish (systematic out work)) .output) ≡ flatMap pack rows) s k h
           (λ state e. public-begins k rows good public state out work);
       locks = locks k rows good public;
       locked-opened = λ s pattern out p bytes formed count long.

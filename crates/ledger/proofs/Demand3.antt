@@ -16,14 +16,14 @@ use Rattle.code.specs.PublicKey.{Matrix, publicKey}
 use Rattle.decoder.specs.Reading.{reading, opening}
 use Rattle.code.specs.Publish.{capsuleBits}
 use Rattle.decoder.specs.Calls.{found, isNone, openConditions, readConditions}
-use Rattle.ledger.specs.Station.{State, loaded, published, Station, Held, isEmpty, isUnpublished, Result}
+use Rattle.ledger.specs.Slot.{State, loaded, published, Slot, Held, isEmpty, isUnpublished, Result}
 use Rattle.ledger.specs.Questions.{Question, open-capsule, read-word, questionConditions, Given, gives, given}
 use Rattle.ledger.specs.Calls.{ask, conditionsOf, made, step}
 use Rattle.ledger.specs.Ledger.{Ledger, blank}
 use Rattle.ledger.specs.Systems.{definitions}
 use Rattle.ledger.specs.Demands.{Locks, Differs, Decides, AfterEveryList}
 use Rattle.ledger.proofs.StepLaws.{callNumber, step-number, step-made}
-use Rattle.ledger.proofs.Agreement.{stationOf, Agree, nothing, held, marked, sound-held, agree-run, agree-numbers, agree-key}
+use Rattle.ledger.proofs.Agreement.{slotOf, Agree, nothing, held, marked, sound-held, agree-run, agree-numbers, agree-key}
 use Rattle.ledger.proofs.Patterns.{reading-sound, reading-complete, opening-sound, opening-complete, one-reading, one-opening}
 
 -- 0 and 1 are different
@@ -33,7 +33,7 @@ differ e = absurd (omega arith)
 -- An answer that gives what a search found, unless it found none, decides.
 module _ (P : List ℕ → Type 0) (o : Option (List ℕ)) (sound : (e : List ℕ) → o ≡ some e → P e) (complete : o ≡ none → (e : List ℕ) → P e → ⊥)
     (unique : (e d : List ℕ) → P e → P d → d ≡ e) where
-  found-decides : (refusal : ℕ) (s : Station) (q : Question) (out : List ℕ) → given (s .key) q ≡ gives (found o) out
+  found-decides : (refusal : ℕ) (s : Slot) (q : Question) (out : List ℕ) → given (s .key) q ≡ gives (found o) out
       → callNumber s (ask q) ≡ cond (isNone o) (suc refusal) 0 → Decides P (suc refusal) out (step s (ask q))
   unfolding isNone found gives made
   found-decides refusal s q out g c = go o refl g (step-number s (ask q) ∙ c)
@@ -67,50 +67,50 @@ unfolding firstOf
 open-first z a b c d o p q r = rw (o, p, q, r)
 
 -- demand 3's words on reading a word, and on opening
-abbrev Reads : Station → Key → List ℕ → List ℕ → Type 0
+abbrev Reads : Slot → Key → List ℕ → List ℕ → Type 0
 Reads s k word out = wellFormed (k .n) word ≡ true → bytesFor (k .n) ≤ length out → Decides (Differs k word) 14 out (step s (ask (read-word word out)))
 
-abbrev Opens : Station → Key → Matrix → List ℕ → List ℕ → Type 0
+abbrev Opens : Slot → Key → Matrix → List ℕ → List ℕ → Type 0
 Opens s k rows capsule out =
     wellFormed (capsuleBits k) capsule ≡ true → bytesFor (k .n) ≤ length out → Decides (Locks k rows capsule) 13 out (step s (ask (open-capsule capsule out)))
 
-abbrev OpensAll : Station → Key → Type 0
+abbrev OpensAll : Slot → Key → Type 0
 OpensAll s k = (reducible k ≡ false) × (rows : Matrix) × (publicKey k ≡ some rows) × ((capsule out : List ℕ) → Opens s k rows capsule out)
 
 module _ (k : Key) (good : keyNumber k ≡ 0) where
-  pub read-decides : (st : State) → isEmpty st ≡ false → (word out : List ℕ) → Reads (stationOf st k) k word out
+  pub read-decides : (st : State) → isEmpty st ≡ false → (word out : List ℕ) → Reads (slotOf st k) k word out
   unfolding conditionsOf questionConditions readConditions given
   read-decides st h word out w long =
       found-decides (Differs k word) (reading k (unpack (k .n) word)) (reading-sound k word) (reading-complete k word) (one-reading k good word)
-      13 (stationOf st k) (read-word word out) out refl
+      13 (slotOf st k) (read-word word out) out refl
       (ap (λ (x : Held). firstOf (conditionsOf x (ask (read-word word out)))) (sound-held st k good)
       ∙ read-first _ (eqb (length word) (bytesFor (k .n))) (fillerClear (k .n) word) (ltb (length out) (bytesFor (k .n))) _
       h (eq-eqb _ _ (well-formed-length (k .n) word w)) (well-formed-clear (k .n) word w) (le-ltb _ _ long))
 
-  pub open-decides : reducible k ≡ false → (rows : Matrix) → publicKey k ≡ some rows → (capsule out : List ℕ) → Opens (stationOf published k) k rows capsule out
+  pub open-decides : reducible k ≡ false → (rows : Matrix) → publicKey k ≡ some rows → (capsule out : List ℕ) → Opens (slotOf published k) k rows capsule out
   unfolding conditionsOf questionConditions openConditions given isEmpty isUnpublished
   open-decides irreducible rows public capsule out w long =
       let s : List ℕ = unpack (capsuleBits k) capsule in
       found-decides (Locks k rows capsule) (opening k s) (opening-sound k good rows public capsule) (opening-complete k good rows public capsule)
-      (one-opening k good rows public capsule) 12 (stationOf published k) (open-capsule capsule out) out refl
+      (one-opening k good rows public capsule) 12 (slotOf published k) (open-capsule capsule out) out refl
       (ap (λ (x : Held). firstOf (conditionsOf x (ask (open-capsule capsule out)))) (sound-held published k good)
       ∙ open-first (reducible k) (eqb (length capsule) (bytesFor (capsuleBits k))) (fillerClear (capsuleBits k) capsule) (ltb (length out) (bytesFor (k .n))) _
       irreducible (eq-eqb _ _ (well-formed-length (capsuleBits k) capsule w)) (well-formed-clear (capsuleBits k) capsule w) (le-ltb _ _ long))
 
-reading-after : {s : Station} {l : Ledger} → Agree s l → (k : Key) (word out : List ℕ) → l .key ≡ some k → Reads s k word out
+reading-after : {s : Slot} {l : Ledger} → Agree s l → (k : Key) (word out : List ℕ) → l .key ≡ some k → Reads s k word out
 unfolding blank isEmpty
 reading-after nothing k word out e = differ (cc)
 reading-after (held {k = j} h) k word out e =
-    let q : j ≡ k = cc in subst (λ (x : Key). Reads (stationOf loaded j) x word out) q (read-decides j h loaded refl word out)
+    let q : j ≡ k = cc in subst (λ (x : Key). Reads (slotOf loaded j) x word out) q (read-decides j h loaded refl word out)
 reading-after (marked {k = j} h r p) k word out e =
-    let q : j ≡ k = cc in subst (λ (x : Key). Reads (stationOf published j) x word out) q (read-decides j h published refl word out)
+    let q : j ≡ k = cc in subst (λ (x : Key). Reads (slotOf published j) x word out) q (read-decides j h published refl word out)
 
-opening-after : {s : Station} {l : Ledger} → Agree s l → (k : Key) → l .key ≡ some k → l .mark ≡ true → OpensAll s k
+opening-after : {s : Slot} {l : Ledger} → Agree s l → (k : Key) → l .key ≡ some k → l .mark ≡ true → OpensAll s k
 unfolding blank
 opening-after nothing k e m = differ (cc)
 opening-after (held h) k e m = differ (cc)
 opening-after (marked {k = j} {rows = rows} h r p) k e m =
-    let q : j ≡ k = cc in subst (λ (x : Key). OpensAll (stationOf published j) x) q (r, rows, p, open-decides j h r rows p)
+    let q : j ≡ k = cc in subst (λ (x : Key). OpensAll (slotOf published j) x) q (r, rows, p, open-decides j h r rows p)
 
 pub after-every-list : AfterEveryList definitions
 after-every-list calls =

@@ -21,7 +21,7 @@ use Rattle.decoder.specs.Calls.{openConditions, readConditions}
 use Rattle.records.specs.Records.{reportConditions}
 use Rattle.records.proofs.Values.{bits-some, bytes-some}
 use Rattle.session.specs.Session.{sessionConditions}
-use Rattle.ledger.specs.Station.{State, empty, loaded, published, Station, Held, isEmpty, heldBy}
+use Rattle.ledger.specs.Slot.{State, empty, loaded, published, Slot, Held, isEmpty, heldBy}
 use Rattle.ledger.specs.Loading.{key-file, loadingConditions, loadedKey}
 use Rattle.ledger.specs.Publishing.{systematic, publicBuffer, publishingConditions}
 use Rattle.ledger.specs.Questions.{open-capsule, read-word, report, session-key, questionConditions}
@@ -92,12 +92,12 @@ only-34 false true r others w e = absurd (omega arith)
 only-34 false false true others w e = refl
 only-34 false false false others w e = absurd (without-first 33 others w e)
 
--- on the definitions' stations
-module _ (s : Station) (c : Call) where
+-- on the definitions' slots
+module _ (s : Slot) (c : Call) where
   refused-34 : (k : Key) → keyHeld s ≡ some k → keyNumber k ≡ 0 → reducible k ≡ true → exchanges c ≡ true → step s c .number ≡ 34
   unfolding at
   refused-34 k h good r x =
-      at-held (λ (y : Station). step y c .number ≡ 34) s k h
+      at-held (λ (y : Slot). step y c .number ≡ 34) s k h
       (λ state e.
       let b = exchange-begins (record { missing = isEmpty state; unsound = false; unpublished = _; key = k }) c x in
       step-number (at state k) c ∙ ap (λ (y : Held). firstOf (conditionsOf y c)) (sound-held state k good) ∙ ap firstOf (b .begins) ∙ first-34 _ _ k _ e refl r)
@@ -130,7 +130,7 @@ load-first : (a : Bool) (cs : List (Bool × ℕ)) → a ≡ true → firstOf cs 
 unfolding firstOf
 load-first a cs p e = rw p e
 
-file-loads : (s : Station) (k : Key) → keyHeld s ≡ none → keyNumber k ≡ 0
+file-loads : (s : Slot) (k : Key) → keyHeld s ≡ none → keyNumber k ≡ 0
     → (step s (load (key-file (fileOf k))) .number ≡ 0) × (step s (load (key-file (fileOf k))) .station ≡ at loaded k)
 unfolding at heldBy conditionsOf loadingConditions loadedKey
 file-loads s k h good =
@@ -147,17 +147,17 @@ asked-first : (a r o w d : Bool) → a ≡ false → o ≡ true → firstOf ((a,
 unfolding firstOf
 asked-first a r o w d p q = rw (p, q)
 
-asked-number : (s : Station) (k : Key) → keyHeld s ≡ some k → keyNumber k ≡ 0 → step s (publish (systematic [] [])) .number ≡ cond (reducible k) 34 10
+asked-number : (s : Slot) (k : Key) → keyHeld s ≡ some k → keyNumber k ≡ 0 → step s (publish (systematic [] [])) .number ≡ cond (reducible k) 34 10
 unfolding at conditionsOf publishingConditions publishChecks publishConditions
 asked-number s k h good =
-    at-held (λ (y : Station). step y (publish (systematic [] [])) .number ≡ cond (reducible k) 34 10) s k h
+    at-held (λ (y : Slot). step y (publish (systematic [] [])) .number ≡ cond (reducible k) 34 10) s k h
     (λ state e.
     step-number (at state k) (publish (systematic [] []))
     ∙ ap (λ (y : Held). firstOf (conditionsOf y (publish (systematic [] [])))) (sound-held state k good)
     ∙ asked-first (isEmpty state) (reducible k) (ltb 0 (publicBytes k)) (ltb 0 (workBytes k)) (dependent k) e (lt-ltb _ _ (public-some k good)))
 
 -- a reducible key that the ledger has
-kept-loaded : {s : Station} {l : Ledger} → Agree s l → (k : Key) → l .key ≡ some k → reducible k ≡ true → (l .mark ≡ false) × (s ≡ at loaded k)
+kept-loaded : {s : Slot} {l : Ledger} → Agree s l → (k : Key) → l .key ≡ some k → reducible k ≡ true → (l .mark ≡ false) × (s ≡ at loaded k)
 unfolding blank at
 kept-loaded nothing k e r = differ (cc)
 kept-loaded (held {k = j} h) k e r = let q : j ≡ k = cc in (refl, ap (at loaded) q)

@@ -18,7 +18,7 @@ use Rattle.code.proofs.Exchange.{exchangeable}
 use Rattle.decoder.specs.Calls.{openConditions, readConditions}
 use Rattle.records.specs.Records.{reportConditions}
 use Rattle.session.specs.Session.{sessionConditions}
-use Rattle.ledger.specs.Station.{Held}
+use Rattle.ledger.specs.Slot.{Held}
 use Rattle.ledger.specs.Loading.{Loading, key-file, loadingConditions, loadedKey}
 use Rattle.ledger.specs.Publishing.{Publishing, systematic, publishingConditions, freedBytes}
 use Rattle.ledger.specs.Questions.{Question, open-capsule, read-word, report, session-key, questionConditions}

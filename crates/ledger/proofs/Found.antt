@@ -12,7 +12,7 @@ use Rattle.field.proofs.Numbers.{first-clear}
 use Rattle.key.specs.Keys.{Key, keyNumber, unsound, reducible}
 use Rattle.code.specs.PublicKey.{Matrix, publicKey}
 use Rattle.decoder.specs.Calls.{readConditions}
-use Rattle.ledger.specs.Station.{State, empty, loaded, published, Station, isEmpty, heldBy}
+use Rattle.ledger.specs.Slot.{State, empty, loaded, published, Slot, isEmpty, heldBy}
 use Rattle.ledger.specs.Publishing.{Publishing}
 use Rattle.ledger.specs.Questions.{read-word, questionConditions}
 use Rattle.ledger.specs.Calls.{publish, ask, conditionsOf, step}
@@ -20,26 +20,26 @@ use Rattle.ledger.specs.Demands.{at, keyHeld}
 use Rattle.ledger.proofs.Forms.{publishing-public}
 use Rattle.ledger.proofs.StepLaws.{step-number}
 
--- a station that is not empty holds its key
+-- a slot that is not empty holds its key
 holds : (st : State) (k : Key) → isEmpty st ≡ false → keyHeld (at st k) ≡ some k
 unfolding isEmpty keyHeld at
 holds empty k h = absurd (true≢false h)
 holds loaded k h = refl
 holds published k h = refl
 
-pub holds-key : (s : Station) → isEmpty (s .state) ≡ false → keyHeld s ≡ some (s .key)
+pub holds-key : (s : Slot) → isEmpty (s .state) ≡ false → keyHeld s ≡ some (s .key)
 unfolding at
 holds-key s h = holds (s .state) (s .key) h
 
 -- publish: the key is irreducible and has a public key
-pub record Publishes (s : Station) : Type 0 where
+pub record Publishes (s : Slot) : Type 0 where
   pub held : keyHeld s ≡ some (s .key)
   pub good : keyNumber (s .key) ≡ 0
   pub irreducible : reducible (s .key) ≡ false
   pub rows : Matrix
   pub public : publicKey (s .key) ≡ some rows
 
-pub publish-found : (s : Station) (p : Publishing) → step s (publish p) .number ≡ 0 → Publishes s
+pub publish-found : (s : Slot) (p : Publishing) → step s (publish p) .number ≡ 0 → Publishes s
 unfolding heldBy conditionsOf unsound
 publish-found s p e =
     let c21 = first-clear _ 20 _ (sym (step-number s (publish p)) ∙ e) in
@@ -47,13 +47,13 @@ publish-found s p e =
     record { held = holds-key s (c21 .0); good = eqb-true _ _ (not-false _ (q .sound)); irreducible = q .irreducible; rows = q .rows; public = q .public }
 
 -- read
-pub record Reads (s : Station) (word out : List ℕ) : Type 0 where
+pub record Reads (s : Slot) (word out : List ℕ) : Type 0 where
   pub held : keyHeld s ≡ some (s .key)
   pub good : keyNumber (s .key) ≡ 0
   pub formed : wellFormed (s .key .n) word ≡ true
   pub long : bytesFor (s .key .n) ≤ length out
 
-pub read-found : (s : Station) (word out : List ℕ) → step s (ask (read-word word out)) .number ≡ 0 → Reads s word out
+pub read-found : (s : Slot) (word out : List ℕ) → step s (ask (read-word word out)) .number ≡ 0 → Reads s word out
 unfolding heldBy conditionsOf questionConditions readConditions unsound
 read-found s word out e =
     let c21 = first-clear _ 20 _ (sym (step-number s (ask (read-word word out))) ∙ e) in

@@ -4,7 +4,7 @@ use mathlib.Core.Path.{_≡_, refl, ap}
 use mathlib.Core.Bool.{true, false}
 use mathlib.Core.List.{List, [], _∷_, _++_}
 use mathlib.Core.Option.{some}
-use Rattle.ledger.specs.Station.{Outcome}
+use Rattle.ledger.specs.Slot.{Outcome}
 use Rattle.ledger.specs.Loading.{Loading, loadedKey}
 use Rattle.ledger.specs.Publishing.{Publishing}
 use Rattle.ledger.specs.Questions.{Question}

@@ -8,7 +8,7 @@ use mathlib.Core.Option.{some}
 use native.Mathlib.Omega.{arith}
 use Rattle.field.proofs.Numbers.{first-clear}
 use Rattle.key.specs.Keys.{Key}
-use Rattle.ledger.specs.Station.{loaded, published, Station, fresh, heldBy}
+use Rattle.ledger.specs.Slot.{loaded, published, Slot, fresh, heldBy}
 use Rattle.ledger.specs.Loading.{Loading, loadedKey}
 use Rattle.ledger.specs.Publishing.{Publishing}
 use Rattle.ledger.specs.Questions.{Question}
@@ -24,10 +24,10 @@ use Rattle.ledger.proofs.Found.{Publishes, publish-found}
 use Rattle.ledger.proofs.Simulation.{Simulates, same-number, same-station}
 
 -- with a key held load is refused
-load-refused : (s : Station) (k : Key) (f : Loading) → keyHeld s ≡ some k → step s (load f) .number ≡ 0 → ⊥
+load-refused : (s : Slot) (k : Key) (f : Loading) → keyHeld s ≡ some k → step s (load f) .number ≡ 0 → ⊥
 unfolding heldBy conditionsOf at
 load-refused s k f h =
-    at-held (λ (x : Station). step x (load f) .number ≡ 0 → ⊥) s k h
+    at-held (λ (x : Slot). step x (load f) .number ≡ 0 → ⊥) s k h
     (λ state e z. true≢false (ap not (sym e) ∙ first-clear _ 21 _ (sym (step-number (at state k) (load f)) ∙ z) .0))
 
 -- accepted or refused
@@ -38,7 +38,7 @@ by-number (suc m) f g = g m refl
 refused-not-0 : {n m : ℕ} → n ≡ suc m → n ≡ 0 → ⊥
 refused-not-0 e z = omega arith
 
--- a fresh station holds none
+-- a fresh slot holds none
 none-held : (k : Key) {A : Type 0} → keyHeld fresh ≡ some k → A
 unfolding keyHeld fresh
 none-held k h = differ (cc)
@@ -177,7 +177,7 @@ module _ (sys : System) (sim : Simulates sys) where
       (λ n e. refused-view s (load f) n e ∙ v)
   marked-next s (publish p) cs k v keeps =
       by-number (sys .call s (publish p) .number)
-      (λ e. publish-view s p e ∙ ap (λ (x : Station). at published (x .key)) v)
+      (λ e. publish-view s p e ∙ ap (λ (x : Slot). at published (x .key)) v)
       (λ n e. refused-view s (publish p) n e ∙ v)
   marked-next s (ask q) cs k v keeps = question-view s q ∙ v
   marked-next s drop-key cs k v keeps =
@@ -196,7 +196,7 @@ module _ (sys : System) (sim : Simulates sys) where
   unfolding run at
   published-after s [] p after k h keeps e =
       marked-after (sys .call s (publish p) .station) after k
-      (publish-view s p e ∙ at-held (λ (x : Station). at published (x .key) ≡ at published k) (sys .view s) k h (λ state q. refl))
+      (publish-view s p e ∙ at-held (λ (x : Slot). at published (x .key) ≡ at published k) (sys .view s) k h (λ state q. refl))
       (drop-behind s (publish p) after keeps)
   published-after s (c ∷ cs) p after k h keeps e =
       let ds : List Call = cs ++ (publish p ∷ after) in
@@ -230,7 +230,7 @@ module _ (sys : System) (sim : Simulates sys) where
   -- loaded is not published
   not-marked : {A : Type 0} (k : Key) → at loaded k ≡ at published k → A
   unfolding at
-  not-marked k e = let q : loaded ≡ published = ap (λ (s : Station). s .state) e in differ (cc)
+  not-marked k e = let q : loaded ≡ published = ap (λ (s : Slot). s .state) e in differ (cc)
 
   pub holds-the-mark : HoldsTheMark sys
   unfolding start keyHeld at

@@ -12,7 +12,7 @@ use Rattle.key.specs.Keys.{Key, keyNumber, reducible}
 use Rattle.code.specs.PublicKey.{Matrix, publicKey}
 use Rattle.code.specs.Publish.{capsuleBits}
 use Rattle.code.proofs.LockLaws.{lock-written, output-written, pattern-formed}
-use Rattle.ledger.specs.Station.{published, Outcome}
+use Rattle.ledger.specs.Slot.{published, Outcome}
 use Rattle.ledger.specs.Publishing.{systematic}
 use Rattle.ledger.specs.Calls.{publish}
 use Rattle.ledger.specs.Systems.{System}

@@ -21,7 +21,7 @@ use Rattle.decoder.specs.Reading.{opening}
 use Rattle.decoder.specs.Calls.{isNone, openConditions}
 use Rattle.records.specs.Records.{capsulesOf, capsuleConditions, recordOf, recordsOf, countsOf, total, reportConditions}
 use Rattle.records.proofs.Values.{record-values, record-open, record-length, record-opening, bits-some, bytes-some, records-length, records-sum, capsules-number, records-at}
-use Rattle.ledger.specs.Station.{Station, isEmpty, isUnpublished, heldBy, Result}
+use Rattle.ledger.specs.Slot.{Slot, isEmpty, isUnpublished, heldBy, Result}
 use Rattle.ledger.specs.Questions.{open-capsule, report, questionConditions, given}
 use Rattle.ledger.specs.Calls.{ask, conditionsOf, made, step}
 use Rattle.ledger.specs.Systems.{System}
@@ -58,7 +58,7 @@ module _ (k : Key) (good : keyNumber k ≡ 0) (rows : Matrix) (public : publicKe
   )
 
 -- the definitions' report: what it found, and what it hands back
-record Accepts (s : Station) (capsules records : List ℕ) : Type 0 where
+record Accepts (s : Slot) (capsules records : List ℕ) : Type 0 where
   held : isEmpty (s .state) ≡ false
   sound : unsound (s .key) ≡ false
   good : keyNumber (s .key) ≡ 0
@@ -68,7 +68,7 @@ record Accepts (s : Station) (capsules records : List ℕ) : Type 0 where
   output : step s (ask (report capsules records)) .output ≡ over (recordsOf (s .key) capsules) records
   answer : step s (ask (report capsules records)) .answer ≡ countsOf (recordsOf (s .key) capsules)
 
-report-accepts : (s : Station) (capsules records : List ℕ) → step s (ask (report capsules records)) .number ≡ 0 → Accepts s capsules records
+report-accepts : (s : Slot) (capsules records : List ℕ) → step s (ask (report capsules records)) .number ≡ 0 → Accepts s capsules records
 unfolding heldBy conditionsOf questionConditions reportConditions made given unsound
 report-accepts s capsules records e =
     let c21 = first-clear _ 20 _ (sym (step-number s (ask (report capsules records))) ∙ e) in
@@ -93,7 +93,7 @@ record-first : (a b c : Bool) (k : Key) (capsule out : List ℕ) → a ≡ false
 unfolding firstOf
 record-first a b c k capsule out p q r i long = rw (p, q, r) (record-open k capsule i out long)
 
-open-records : (s : Station) (capsules records capsule out : List ℕ) → Accepts s capsules records → bytesFor (s .key .n) ≤ length out
+open-records : (s : Slot) (capsules records capsule out : List ℕ) → Accepts s capsules records → bytesFor (s .key .n) ≤ length out
     → step s (ask (open-capsule capsule out)) .number ≡ recordOf (s .key) capsule
 unfolding heldBy conditionsOf questionConditions
 open-records s capsules records capsule out a long =

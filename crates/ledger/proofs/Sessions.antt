@@ -20,7 +20,7 @@ use Rattle.decoder.specs.Calls.{found, isNone, openConditions}
 use Rattle.keccak.specs.Shake.{shake256}
 use Rattle.session.specs.Session.{sessionKey, sessionConditions}
 use Rattle.session.proofs.Keys.{key-opened, key-rejected, opening-row}
-use Rattle.ledger.specs.Station.{Station, heldBy, Result}
+use Rattle.ledger.specs.Slot.{Slot, heldBy, Result}
 use Rattle.ledger.specs.Questions.{open-capsule, session-key, questionConditions, gives, given}
 use Rattle.ledger.specs.Calls.{ask, conditionsOf, made, step}
 use Rattle.ledger.specs.Systems.{System}
@@ -61,8 +61,8 @@ clear false false false false true e f o w h z = absurd (omega arith)
 clear false false false false false true f o w h z = absurd (omega arith)
 clear false false false false false false f o w h z = rw h refl
 
--- an accepted call of the definitions: the key, and its sound station
-module _ (s : Station) (capsule secret : List ℕ) (z : step s (ask (session-key capsule secret)) .number ≡ 0) where
+-- an accepted call of the definitions: the key, and its sound slot
+module _ (s : Slot) (capsule secret : List ℕ) (z : step s (ask (session-key capsule secret)) .number ≡ 0) where
   answer-key : step s (ask (session-key capsule secret)) .answer ≡ sessionKey (s .key) capsule secret
   unfolding made given
   answer-key = ap (λ (r : Result). r .answer) (step-made s (ask (session-key capsule secret)) z)
@@ -90,7 +90,7 @@ module _ (s : Station) (capsule secret : List ℕ) (z : step s (ask (session-key
     nobody (some d) h n = absurd (n d (opening-sound (s .key) sound rows public capsule d h))
 
 -- beside an open with room for the pattern
-module _ (s : Station) (capsule secret out : List ℕ) (room : bytesFor (s .key .n) ≤ length out) where
+module _ (s : Slot) (capsule secret out : List ℕ) (room : bytesFor (s .key .n) ≤ length out) where
   long : ltb (length out) (bytesFor (s .key .n)) ≡ false
   long = le-ltb (length out) (bytesFor (s .key .n)) room
 
@@ -142,7 +142,7 @@ module _ (sys : System) (sim : Simulates sys) where
 
     derived : (out : List ℕ) → bytesFor (sys .view s .key .n) ≤ length out → Derives sys s capsule secret out
     derived out room =
-        let v : Station = sys .view s in
+        let v : Slot = sys .view s in
         let q = same-number sys sim s (ask (open-capsule capsule out)) in
         let a = same-answer sys sim s (ask (session-key capsule secret)) in
         record {

@@ -6,8 +6,8 @@ use mathlib.Core.List.{List, [], _∷_}
 use lib.ListN.{take}
 use Rattle.bits.specs.Bits.{bytesFor}
 use Rattle.code.specs.Publish.{publicBytes}
-use Rattle.ledger.specs.Station.{published, Station, Outcome, Result}
-use Rattle.ledger.specs.Station as Definition
+use Rattle.ledger.specs.Slot.{published, Slot, Outcome, Result}
+use Rattle.ledger.specs.Slot as Definition
 use Rattle.ledger.specs.Publishing.{Publishing, systematic}
 use Rattle.ledger.specs.Questions.{Question, open-capsule, read-word}
 use Rattle.ledger.specs.Calls.{Call, publish, ask, step, run, answered}
@@ -92,17 +92,17 @@ module _ (sys : System) (sim : Simulates sys) where
   pub same-run : (s : sys .Stations) (calls : List Call) → sys .view (run (sys .call) s calls) ≡ run step (sys .view s) calls
   unfolding run
   same-run s [] = refl
-  same-run s (c ∷ cs) = same-run (sys .call s c .station) cs ∙ ap (λ (t : Station). run step t cs) (same-station s c)
+  same-run s (c ∷ cs) = same-run (sys .call s c .station) cs ∙ ap (λ (t : Slot). run step t cs) (same-station s c)
 
   pub same-answered : (s : sys .Stations) (calls : List Call) → answered (sys .call) s calls ≡ answered step (sys .view s) calls
   unfolding answered
   same-answered s [] = refl
   same-answered s (c ∷ cs) =
       ap₂ _∷_ (same-number s c)
-      (same-answered (sys .call s c .station) cs ∙ ap (λ (t : Station). answered step t cs) (same-station s c))
+      (same-answered (sys .call s c .station) cs ∙ ap (λ (t : Slot). answered step t cs) (same-station s c))
 
   pub run-fresh : (calls : List Call) → sys .view (run (sys .call) (sys .fresh) calls) ≡ run step Definition.fresh calls
-  run-fresh calls = same-run (sys .fresh) calls ∙ ap (λ (s : Station). run step s calls) (sim .fresh)
+  run-fresh calls = same-run (sys .fresh) calls ∙ ap (λ (s : Slot). run step s calls) (sim .fresh)
 
   demand-1 : Demand1 sys
   demand-1 s c =
@@ -149,7 +149,7 @@ module _ (sys : System) (sim : Simulates sys) where
       let a = rw (← run-fresh calls) at (Definitions3.after-every-list calls) in
       record {
         key = a .key;
-        numbers = same-answered (sys .fresh) calls ∙ ap (λ (t : Station). answered step t calls) (sim .fresh) ∙ a .numbers;
+        numbers = same-answered (sys .fresh) calls ∙ ap (λ (t : Slot). answered step t calls) (sim .fresh) ∙ a .numbers;
         opening = λ k e m. let o = a .opening k e m in (o .0, o .1, o .2, λ capsule out w long. decides s (ask (open-capsule capsule out)) _ _ out (o .3 capsule out w long));
         reading = λ k word out e w long. decides s (ask (read-word word out)) _ _ out (a .reading k word out e w long);
       }

@@ -25,20 +25,20 @@ use Rattle.code.specs.Publish.{capsuleBits, publishChecks, publishConditions, f
 use Rattle.decoder.specs.Calls.{found, isNone, openConditions, readConditions}
 use Rattle.records.specs.Records.{cut, capsulesOf, capsuleConditions, recordOf, recordsOf, occurrences, countsOf, reportConditions}
 use Rattle.session.specs.Session.{sessionConditions}
-use Rattle.ledger.specs.Station.{State, empty, loaded, published, Station, emptyKey, fresh, isEmpty, isUnpublished, heldBy, Result}
+use Rattle.ledger.specs.Slot.{State, empty, loaded, published, Slot, emptyKey, fresh, isEmpty, isUnpublished, heldBy, Result}
 use Rattle.ledger.specs.Loading.{key-file, loadingConditions, loadedKey}
 use Rattle.ledger.specs.Publishing.{systematic, publicBuffer, publishingConditions, publication, freedBytes}
 use Rattle.ledger.specs.Questions.{open-capsule, read-word, report, session-key, answerBuffer, questionConditions, gives, given, answerSize}
 use Rattle.ledger.specs.Calls.{Call, load, publish, ask, drop-key, conditionsOf, outputOf, noAnswer, made, unless, step, run}
 use Rattle.ledger.specs.Ledger.{blank, heldIn, ledgerNumber, entered, fed, ledgerAfter, expected}
 
--- what a row asks: a call after a list of calls, or on a station; how many bytes of the workspace that call frees; the counts that
+-- what a row asks: a call after a list of calls, or on a slot; how many bytes of the workspace that call frees; the counts that
 -- it answers; a lock under a shape and a public key, or under the public key of a key file; a product
 pub data Asked : Type 0 where
   after : List Call → Call → Asked
-  on : Station → Call → Asked
-  frees : Station → Call → Asked
-  counts : Station → Call → Asked
+  on : Slot → Call → Asked
+  frees : Slot → Call → Asked
+  counts : Slot → Call → Asked
   lock-shape : ℕ → ℕ → ℕ → List ℕ → List ℕ → List ℕ → Asked
   locks : List ℕ → List ℕ → List ℕ → Asked
   times : ℕ → ℕ → ℕ → Asked
@@ -85,8 +85,8 @@ zeros n = replicate n 0
 unfoldable pub published-K1 : List Call
 published-K1 = load (key-file K1) ∷ publish (systematic (zeros 4) (zeros 4)) ∷ []
 
--- the station that they leave
-unfoldable pub published-1 : Station
+-- the slot that they leave
+unfoldable pub published-1 : Slot
 published-1 = record { state = published; key = parse K1 }
 
 -- a key file of width 4
@@ -121,19 +121,19 @@ running =
     (after [] (load (key-file (file 16 1 (from 0 16) (0 ∷ [])))), refused 7) ∷
     (after [] (load (key-file (file 9 2 (from 2 9) (1 ∷ 0 ∷ [])))), refused 6) ∷ []
 
--- a station with a key that load does not accept: the last element stands twice, and the first columns are dependent
-unfoldable pub bad : State → Station
+-- a slot with a key that load does not accept: the last element stands twice, and the first columns are dependent
+unfoldable pub bad : State → Slot
 bad s = record { state = s; key = parse (K1-with (1 ∷ 14 ∷ 9 ∷ 13 ∷ 15 ∷ 15 ∷ [])) }
 
 -- a key file that load accepts, with g = (x + 4)·(x + 15)
 unfoldable pub factored-file : List ℕ
 factored-file = file 9 2 (12 ∷ 3 ∷ 8 ∷ 9 ∷ 1 ∷ 14 ∷ 6 ∷ 0 ∷ 13 ∷ []) (9 ∷ 11 ∷ [])
 
--- a station with its key, and one with a key of the same g that load does not accept: the last element stands twice
-unfoldable pub factored : State → Station
+-- a slot with its key, and one with a key of the same g that load does not accept: the last element stands twice
+unfoldable pub factored : State → Slot
 factored s = record { state = s; key = parse factored-file }
 
-unfoldable pub bad-factored : State → Station
+unfoldable pub bad-factored : State → Slot
 bad-factored s = record { state = s; key = parse (file 9 2 (12 ∷ 3 ∷ 8 ∷ 9 ∷ 1 ∷ 14 ∷ 6 ∷ 0 ∷ 0 ∷ []) (9 ∷ 11 ∷ [])) }
 
 -- which of two numbers comes first, in the documents' order of the calls; load and read have no 34
@@ -244,7 +244,7 @@ remains =
     (frees (run step fresh (load (key-file K3) ∷ [])) (publish (systematic (zeros 4) (zeros 4))), free 4) ∷ []
 
 -- A key with capsules of two bytes, published: of width 12, with g the unknown itself.
-unfoldable pub two-bytes : Station
+unfoldable pub two-bytes : Slot
 two-bytes = record { state = published; key = record { m = 12; n = 13; t = 1; support = from 1 13; g = 0 ∷ [] } }
 
 -- Reports: of document 01's three capsules, and of none; of a capsule with filler set and a short tail; the counts, also on refusal.
@@ -262,7 +262,7 @@ reports =
     (counts two-bytes (ask (report (0x00 ∷ 0x10 ∷ 0x00 ∷ []) (zeros 2))), numbers 256 (0 ∷ 1 ∷ 1 ∷ 0 ∷ [])) ∷ []
 
 -- A list of calls with each call's answer; the first key that is published has the element 0.
-unfoldable pub answers : Station → List Call → List Answer
+unfoldable pub answers : Slot → List Call → List Answer
 answers s [] = []
 answers s (c ∷ cs) = answerOf (step s c) ∷ answers (step s c .station) cs
 

@@ -5,7 +5,7 @@ use mathlib.Core.Bool.{Bool, not, cond}
 use mathlib.Core.List.{List, [], _∷_}
 use lib.ListN.{replicate}
 use Rattle.field.specs.Numbers.{firstOf}
-use Rattle.ledger.specs.Station.{loaded, published, Station, fresh, Held, isEmpty, heldBy, Outcome, Result}
+use Rattle.ledger.specs.Slot.{loaded, published, Slot, fresh, Held, isEmpty, heldBy, Outcome, Result}
 use Rattle.ledger.specs.Loading.{Loading, loadingConditions, loadedKey}
 use Rattle.ledger.specs.Publishing.{Publishing, publicBuffer, publishingConditions, publication, freedBytes}
 use Rattle.ledger.specs.Questions.{Question, answerBuffer, questionConditions, Given, given, answerSize}
@@ -39,8 +39,8 @@ noAnswer (ask q) = replicate (answerSize q) 0
 noAnswer drop-key = []
 
 -- What an accepted call hands back. Load: the key is kept, and is not published. Publish: the key is published; the workspace is
--- free once 21 and its form's checks have passed. A question leaves the station. Drop: the station is fresh.
-unfoldable pub made : Station → Call → Result
+-- free once 21 and its form's checks have passed. A question leaves the slot. Drop: the slot is fresh.
+unfoldable pub made : Slot → Call → Result
 made s (load f) =
     record { station = record { state = loaded; key = loadedKey f }; number = 0; output = []; count = 0; answer = []; free = 0 }
 made s (publish p) =
@@ -58,13 +58,13 @@ made s (ask q) =
 made s drop-key = record { station = fresh; number = 0; output = []; count = 0; answer = []; free = 0 }
 
 -- a refusal returns its number and changes nothing
-unfoldable pub unless : ℕ → Station → Call → Result → Result
+unfoldable pub unless : ℕ → Slot → Call → Result → Result
 unless zero s c r = r
 unless (suc n) s c r =
     record { station = s; number = suc n; output = outputOf c; count = 0; answer = noAnswer c; free = r .free }
 
 -- one call
-unfoldable pub step : Station → Call → Result
+unfoldable pub step : Slot → Call → Result
 step s c = unless (firstOf (conditionsOf (heldBy s) c)) s c (made s c)
 
 -- Lists of calls, whatever a call and a station are: the station after the list,

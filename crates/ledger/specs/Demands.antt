@@ -1,5 +1,6 @@
 -- The three demands, as statements about a system of calls: for every station, call, pattern, code word and list of calls.
--- The definitions are such a system, and the code's calls are (`code` of crate station). Assumes nothing.
+-- The definitions are such a system, and the code's calls are: a slot's (`code` of crate slot), and the station's that name one
+-- recipient (`recipient` of crate recipients). Assumes nothing.
 use Prim.Native.Nat.{ℕ, suc, _≤_}
 use mathlib.Core.Path.{_≡_}
 use mathlib.Core.Logic.{_↔_, _⊎_}
@@ -14,19 +15,19 @@ use Rattle.code.specs.Code.{inCode}
 use Rattle.code.specs.PublicKey.{Matrix, publicKey}
 use Rattle.code.specs.Lock.{locked, lockNumber, lock}
 use Rattle.code.specs.Publish.{capsuleBits, publicBytes, workBytes}
-use Rattle.ledger.specs.Station.{State, empty, loaded, published, Station, heldBy, Outcome}
+use Rattle.ledger.specs.Slot.{State, empty, loaded, published, Slot, heldBy, Outcome}
 use Rattle.ledger.specs.Publishing.{systematic}
 use Rattle.ledger.specs.Questions.{open-capsule, read-word}
 use Rattle.ledger.specs.Calls.{Call, publish, ask, conditionsOf, outputOf, noAnswer, run, answered}
 use Rattle.ledger.specs.Ledger.{Ledger, blank, ledgerAfter, expected}
 use Rattle.ledger.specs.Systems.{System}
 
--- the key that a station holds, or none
-unfoldable pub keyHeld : Station → Option Key
+-- the key that a slot holds, or none
+unfoldable pub keyHeld : Slot → Option Key
 keyHeld s = elim (s .state) [ empty ↦ none | loaded ↦ some (s .key) | published ↦ some (s .key) ]
 
--- a station in a state with a key
-unfoldable pub at : State → Key → Station
+-- a slot in a state with a key
+unfoldable pub at : State → Key → Slot
 at state k = record { state = state; key = k }
 
 -- lock under a key's shape and public key: the capsule, and the number with a buffer for it

@@ -8,7 +8,7 @@ use mathlib.Core.Option.{none, some}
 use lib.ListN.{length}
 use Rattle.bits.specs.Bits.{bytesFor, wellFormed}
 use Rattle.key.specs.Keys.{Key, fileOf, keyNumber, reducible}
-use Rattle.ledger.specs.Station.{loaded}
+use Rattle.ledger.specs.Slot.{loaded}
 use Rattle.ledger.specs.Loading.{key-file}
 use Rattle.ledger.specs.Publishing.{systematic}
 use Rattle.ledger.specs.Questions.{Question, open-capsule, read-word, report, session-key}

@@ -5,7 +5,7 @@ use mathlib.Core.List.{List, [], _∷_}
 use mathlib.Core.Option.{Option, none, some}
 use Rattle.field.specs.Numbers.{firstOf}
 use Rattle.key.specs.Keys.{Key}
-use Rattle.ledger.specs.Station.{Held, emptyKey}
+use Rattle.ledger.specs.Slot.{Held, emptyKey}
 use Rattle.ledger.specs.Loading.{loadedKey}
 use Rattle.ledger.specs.Calls.{Call, load, publish, ask, drop-key, conditionsOf}
 

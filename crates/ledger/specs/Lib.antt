@@ -1,4 +1,4 @@
-pub mod Station
+pub mod Slot
 pub mod Loading
 pub mod Publishing
 pub mod Questions

@@ -12,7 +12,7 @@ use Rattle.key.specs.Keys.{Key, keyNumber}
 use Rattle.code.specs.Code.{inCode}
 use Rattle.code.specs.Lock.{lockNumber, lockOutput}
 use Rattle.code.specs.Publish.{capsuleBits, publicBytes}
-use Rattle.ledger.specs.Station.{published}
+use Rattle.ledger.specs.Slot.{published}
 use Rattle.ledger.specs.Loading.{Loading, loadedKey}
 use Rattle.ledger.specs.Publishing.{Publishing, systematic}
 use Rattle.ledger.specs.Questions.{open-capsule, read-word}

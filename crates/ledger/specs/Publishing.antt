@@ -6,7 +6,7 @@ use Rattle.bits.specs.Bits.{over}
 use Rattle.key.specs.Keys.{Key}
 use Rattle.code.specs.PublicKey.{publicKey, written}
 use Rattle.code.specs.Publish.{publishConditions, freeBytes}
-use Rattle.ledger.specs.Station.{Held}
+use Rattle.ledger.specs.Slot.{Held}
 
 -- document 01's publish: output, workspace
 pub data Publishing : Type 0 where

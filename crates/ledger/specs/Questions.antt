@@ -11,7 +11,7 @@ use Rattle.decoder.specs.Reading.{reading, opening}
 use Rattle.decoder.specs.Calls.{found, openConditions, readConditions}
 use Rattle.records.specs.Records.{recordsOf, countsOf, reportConditions}
 use Rattle.session.specs.Session.{sessionKey, sessionConditions}
-use Rattle.ledger.specs.Station.{Held}
+use Rattle.ledger.specs.Slot.{Held}
 
 -- open: capsule, output; read: word, output; report: capsules back to back, record buffer; session key: capsule, secret
 pub data Question : Type 0 where

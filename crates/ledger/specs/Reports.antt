@@ -12,7 +12,7 @@ use Rattle.key.specs.Keys.{Key}
 use Rattle.code.specs.PublicKey.{Matrix, publicKey}
 use Rattle.code.specs.Publish.{capsuleBits}
 use Rattle.records.specs.Records.{countsOf, total}
-use Rattle.ledger.specs.Station.{Outcome}
+use Rattle.ledger.specs.Slot.{Outcome}
 use Rattle.ledger.specs.Questions.{open-capsule, report}
 use Rattle.ledger.specs.Calls.{ask}
 use Rattle.ledger.specs.Systems.{System}

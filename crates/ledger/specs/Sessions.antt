@@ -10,7 +10,7 @@ use lib.ListN.{length, take}
 use Rattle.bits.specs.Bits.{bytesFor, pack, wellFormed}
 use Rattle.code.specs.PublicKey.{Matrix, publicKey}
 use Rattle.keccak.specs.Shake.{shake256}
-use Rattle.ledger.specs.Station.{Outcome}
+use Rattle.ledger.specs.Slot.{Outcome}
 use Rattle.ledger.specs.Questions.{open-capsule, session-key}
 use Rattle.ledger.specs.Calls.{ask}
 use Rattle.ledger.specs.Systems.{System}

@@ -1,1 +1,1 @@
-// The station: its definitions, in specs/, and laws about them, in proofs/.
+// A slot and the ledger: their definitions, in specs/, and laws about them, in proofs/.

@@ -13,7 +13,7 @@ use Rattle.key.specs.Keys.{Key}
 use Rattle.code.specs.Publish.{capsuleBits}
 use Rattle.records.specs.Records.{cut, capsulesOf}
 use Rattle.records.proofs.Cut.{take-within, cut-next}
-use Rattle.ledger.specs.Station.{Station}
+use Rattle.ledger.specs.Slot.{Station}
 use Rattle.ledger.specs.Questions.{open-capsule}
 use Rattle.ledger.specs.Calls.{ask}
 use Rattle.station.specs.Replies.{view, handed}

@@ -22,7 +22,7 @@ use Rattle.decoder.proofs.Sanity.{Corrects, reading-sound}
 use Rattle.decoder.proofs.Openings.{exactly-some}
 use Rattle.records.specs.Records.{cut, capsulesOf}
 use Rattle.records.proofs.Cut.{cut-number}
-use Rattle.ledger.specs.Station.{Station, heldBy, Result}
+use Rattle.ledger.specs.Slot.{Station, heldBy, Result}
 use Rattle.ledger.specs.Questions.{open-capsule, questionConditions, gives, given}
 use Rattle.ledger.specs.Calls.{ask, conditionsOf, made, step}
 use Rattle.ledger.proofs.StepLaws.{step-number, step-made}

@@ -11,12 +11,12 @@ use lib.ListN.{take}
 use Rattle.field.specs.Numbers.{firstOf}
 use Rattle.key.specs.Keys.{parse, keyNumber}
 use Rattle.key.proofs.Parse.{accepted-key}
-use Rattle.ledger.specs.Station.{isEmpty, heldBy, fresh}
+use Rattle.ledger.specs.Slot.{isEmpty, heldBy, fresh}
 use Rattle.ledger.specs.Loading.{key-file, loadingConditions, loadedKey}
 use Rattle.ledger.specs.Publishing.{systematic}
 use Rattle.ledger.specs.Calls.{load, publish, conditionsOf, step}
 use Rattle.ledger.proofs.StepLaws.{step-number, load-station, publish-station}
-use Rattle.ledger.specs.Station as Definition
+use Rattle.ledger.specs.Slot as Definition
 use Rattle.station.specs.Replies.{view, freshStation, handed}
 use Rattle.station.specs.declared.Station.{Station}
 use Rattle.station.specs.declared.Reply.{Reply}

@@ -13,7 +13,7 @@ use Rattle.decoder.specs.Calls.{openConditions}
 use Rattle.records.specs.Records.{cut, capsulesOf, recordsOf, occurrences, reportConditions}
 use Rattle.records.proofs.Counts.{occurrences-most, counts-at}
 use Rattle.records.proofs.Values.{record-open, capsules-few}
-use Rattle.ledger.specs.Station.{Station, isEmpty, isUnpublished, heldBy, Result}
+use Rattle.ledger.specs.Slot.{Station, isEmpty, isUnpublished, heldBy, Result}
 use Rattle.ledger.specs.Questions.{open-capsule, report, questionConditions, given, answerSize}
 use Rattle.ledger.specs.Calls.{ask, conditionsOf, noAnswer, made, step}
 use Rattle.ledger.proofs.StepLaws.{callNumber, step-number, step-made, step-answer}

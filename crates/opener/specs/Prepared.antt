@@ -6,7 +6,7 @@ use lib.Dec.{eqb}
 use lib.ListN.{take}
 use Rattle.key.specs.Shapes.{inLimits}
 use Rattle.key.specs.Keys.{Key}
-use Rattle.ledger.specs.Station.{Station}
+use Rattle.ledger.specs.Slot.{Station}
 use Rattle.ledger.specs.Loading.{key-file}
 use Rattle.ledger.specs.Publishing.{systematic}
 use Rattle.ledger.specs.Calls.{load, publish}

@@ -7,7 +7,7 @@ use lib.Dec.{eqb, ltb}
 use lib.ListN.{length, getD, take, replicate}
 use Rattle.bits.specs.Bits.{unpack}
 use Rattle.records.specs.Records.{capsulesOf, occurrences}
-use Rattle.ledger.specs.Station.{Station, fresh, Result}
+use Rattle.ledger.specs.Slot.{Station, fresh, Result}
 use Rattle.ledger.specs.Loading.{key-file}
 use Rattle.ledger.specs.Publishing.{systematic}
 use Rattle.ledger.specs.Questions.{open-capsule}

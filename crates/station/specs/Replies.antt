@@ -1,103 +1,50 @@
--- What the calls hand back: the numbers, answers and bytes of the station's definitions, and the new station with its arrays.
--- Assumes nothing.
-use Prim.Native.Nat.{ℕ, zero, suc}
-use mathlib.Core.List.{List}
-use Rattle.key.specs.Kept.{kept, keep, noKey}
-use Rattle.reading.specs.declared.calls.Answer.{Answer}
-use Rattle.reading.specs.declared.calls.Answer.the-variants as answers
-use Rattle.ledger.specs.Station.{Outcome}
-use Rattle.ledger.specs.Station as Definition
-use Rattle.ledger.specs.Loading.{loadedKey}
-use Rattle.ledger.specs.Calls.{Call, load, publish, ask, drop-key, step}
-use Rattle.ledger.specs.Systems.{System}
+-- What the calls of the station hand back: those of the slot that is named, with that slot put back. Assumes nothing.
+use Rattle.ledger.specs.Slot.{Outcome}
+use Rattle.slot.specs.Replies.{freshSlot}
+use Rattle.slot.specs.Replies as Slots
+use Rattle.slot.specs.declared.Slot.{Slot}
+use Rattle.recipients.specs.Names.{Name, A, B, NamedCall}
+use Rattle.recipients.specs.Recipients.{called, Recipients}
 use Rattle.station.specs.declared.Station.{Station}
 use Rattle.station.specs.declared.Reply.{Reply}
 use Rattle.station.specs.declared.Reported.{Reported}
 use Rattle.station.specs.declared.Derived.{Derived}
 
--- the state of a state byte: 0 empty, 1 loaded, any other published
-unfoldable pub stateOf : ℕ → Definition.State
-stateOf zero = Definition.empty
-stateOf (suc zero) = Definition.loaded
-stateOf (suc (suc b)) = Definition.published
+-- the slot of a name, and a slot put in its place
+unfoldable pub slotOf : Name → Station → Slot
+slotOf A s = s .a
+slotOf B s = s .b
 
--- the byte that a call writes for a state
-unfoldable pub byteOf : Definition.State → ℕ
-byteOf Definition.empty = 0
-byteOf Definition.loaded = 1
-byteOf Definition.published = 2
+unfoldable pub put : Name → Slot → Station → Station
+put A t s = record { a = t; b = s .b }
+put B t s = record { a = s .a; b = t }
 
--- the station of the definitions: the state, and the key without what lies past n and t
-unfoldable pub view : Station → Definition.Station
-view s = record { state = stateOf (s .state); key = kept (s .key) }
-
--- the number of a refusal to open or read, and 0 where the pattern is written
-unfoldable pub answerNumber : Answer → ℕ
-answerNumber (answers.Ones w) = 0
-answerNumber (answers.Refused n) = n
-
--- the empty station, with zeros only
+-- both slots are empty, with zeros only
 unfoldable pub freshStation : Station
-freshStation = record { state = byteOf Definition.empty; key = noKey }
-
--- the station after a call that is accepted
-unfoldable pub moved : Station → Call → Station
-moved s (load f) = record { state = byteOf Definition.loaded; key = keep (loadedKey f) }
-moved s (publish p) = record { state = byteOf Definition.published; key = s .key }
-moved s (ask q) = s
-moved s drop-key = freshStation
-
--- refused: the station as it was
-unfoldable pub refusal : Station → ℕ → Reply
-refusal s n = record { station = s; refused = n; ones = 0 }
-
-unfoldable pub acceptance : Station → ℕ → Reply
-acceptance s w = record { station = s; refused = 0; ones = w }
-
-unfoldable pub replyOf : ℕ → Station → Station → ℕ → Reply
-replyOf zero s next w = acceptance next w
-replyOf (suc n) s next w = refusal s (suc n)
-
--- What a call leaves: its reply, what its form answers besides, the output buffer, and how many of the first bytes of publish's
--- workspace have free contents.
-pub record Handed : Type 0 where
-  pub reply : Reply
-  pub answer : List ℕ
-  pub output : List ℕ
-  pub free : ℕ
+freshStation = record { a = freshSlot; b = freshSlot }
 
 -- a call on a station
-unfoldable pub handed : Station → Call → Handed
-handed s c =
-    let r : Definition.Result = step (view s) c in
-    record { reply = replyOf (r .number) s (moved s c) (r .count); answer = r .answer; output = r .output; free = r .free }
+unfoldable pub handed : Station → NamedCall → Outcome Station
+handed = called slotOf put (Slots.code .call)
 
--- the reply to a report: its answer is the counts
-unfoldable pub reportedOf : Handed → Reported
-reportedOf h = record { station = h .reply .station; refused = h .reply .refused; counts = h .answer }
+-- the reply to a call; to a report, whose answer is the counts; to a session key's call, whose answer is the key
+unfoldable pub replyOf : Outcome Station → Reply
+replyOf r = record { station = r .station; refused = r .number; ones = r .count }
 
--- the reply to a session key's call: its answer is the key
-unfoldable pub derivedOf : Handed → Derived
-derivedOf h = record { station = h .reply .station; refused = h .reply .refused; key = h .answer }
+unfoldable pub reportedOf : Outcome Station → Reported
+reportedOf r = record { station = r .station; refused = r .number; counts = r .answer }
 
--- The code's calls as a system: its stations are the structs with their arrays. The demands are about it.
-unfoldable pub outcomeOf : Handed → Outcome Station
-outcomeOf h =
-    record {
-      station = h .reply .station;
-      number = h .reply .refused;
-      output = h .output;
-      count = h .reply .ones;
-      answer = h .answer;
-      free = h .free;
-    }
+unfoldable pub derivedOf : Outcome Station → Derived
+derivedOf r = record { station = r .station; refused = r .number; key = r .answer }
 
-abbrev pub code : System
+-- The code's calls as two recipients: its stations are the structs with their arrays. The demands are about it.
+abbrev pub code : Recipients
 code =
     record {
+      slots = Slots.code;
       Stations = Station;
       fresh = freshStation;
-      view = view;
-      marked = λ s. record { state = byteOf Definition.published; key = s .key };
-      call = λ s c. outcomeOf (handed s c);
+      slot = slotOf;
+      put = put;
+      call = handed;
     }

@@ -1,0 +1,93 @@
+-- The state, then the lower call. Assumes nothing.
+use mathlib.Core.Path.{refl, sym, ap, _∙_}
+use borrow.Author.Needs.{needs}
+use Rattle.ledger.specs.Publishing.{systematic, publicBuffer}
+use Rattle.ledger.specs.Calls.{publish, outputOf}
+use Rattle.slot.specs.Replies.{byteOf, refusal, acceptance}
+use Rattle.slot.proofs.ReplyLaws.{stop, stopped}
+use Rattle.slot.proofs.LowerLaws.{publish-refused, publish-done, publish-output, publish-work}
+use Rattle.slot.proofs.Slot.publish.Statement.{statement}
+use Rattle.slot.proofs.Slot.publish.Tie as tie
+
+is-empty-requires : tie.Need-is-empty-requires
+is-empty-requires c κs = tt
+
+refuse-requires : tie.Need-refuse-requires
+refuse-requires c κs = tt
+
+returns : tie.Need-returns
+unfolding stop outputOf publicBuffer
+returns c =
+    let i = c .before .before in
+    let a = i .before .before .before .args in
+    let t = stopped (a .t1) (publish (systematic (a .out .now) (a .work .now))) (sym (i .is-empty .ensures) ∙ c .before .if1 .taken) in
+    (c .refuse .ensures ∙ t .0, (t .1, refl))
+
+publish-requires : tie.Need-publish-requires
+publish-requires c κs = tt
+
+enum-told : tie.Need-enum-told
+enum-told c = search needs
+
+enum-told-2 : tie.Need-enum-told-2
+enum-told-2 c = search needs
+
+number-requires : tie.Need-number-requires
+number-requires c κs = tt
+
+refuse-requires-2 : tie.Need-refuse-requires-2
+refuse-requires-2 c κs = tt
+
+same-length : tie.Need-same-length
+same-length c = search needs
+
+same-length-2 : tie.Need-same-length-2
+same-length-2 c = search needs
+
+returns-2 : tie.Need-returns-2
+returns-2 c =
+    let p = c .before .before .before .before .before .before .before .before in
+    let l = p .before .before .before .before .before .before in
+    let a = l .before .before .before .before .args in
+    let k = sym (l .before .is-empty .ensures) ∙ l .if1 .left in (
+      c .refuse2 .ensures
+          ∙ ap (refusal (a .t1)) (c .before .number .ensures)
+          ∙ publish-refused (a .t1) (a .out .now) (a .work .now) k _ (p .publish .ensures .0) (c .before .before .enum-told2 .given .1),
+      (p .publish .ensures .1 .0 ∙ publish-output (a .t1) (a .out .now) (a .work .now) k, publish-work (a .t1) (a .out .now) (a .work .now) k _ _ (p .publish .ensures .1 .1)),
+    )
+
+same-length-3 : tie.Need-same-length-3
+same-length-3 c = search needs
+
+same-length-4 : tie.Need-same-length-4
+same-length-4 c = search needs
+
+returns-3 : tie.Need-returns-3
+unfolding acceptance byteOf
+returns-3 c =
+    let p = c .before .before .before .before .before .before .before in
+    let l = p .before .before .before .before .before .before in
+    let a = l .before .before .before .before .args in
+    let k = sym (l .before .is-empty .ensures) ∙ l .if1 .left in (
+      publish-done (a .t1) (a .out .now) (a .work .now) k _ (p .publish .ensures .0) (c .before .enum-told .given .1),
+      (p .publish .ensures .1 .0 ∙ publish-output (a .t1) (a .out .now) (a .work .now) k, publish-work (a .t1) (a .out .now) (a .work .now) k _ _ (p .publish .ensures .1 .1)),
+    )
+
+pub publish-spec : {M : Type 1} → statement M
+publish-spec =
+    tie.close
+    (tie.spec
+    is-empty-requires
+    refuse-requires
+    returns
+    publish-requires
+    enum-told
+    enum-told-2
+    number-requires
+    refuse-requires-2
+    same-length
+    same-length-2
+    returns-2
+    same-length-3
+    same-length-4
+    returns-3)

@@ -1,0 +1,52 @@
+-- The state, then the lower call. Assumes nothing.
+use mathlib.Core.Path.{refl, sym, ap, _∙_}
+use borrow.Author.Needs.{needs}
+use Rattle.reporting.specs.Answers.{reportAnswer}
+use Rattle.reporting.specs.declared.Counted.{Counted}
+use Rattle.ledger.specs.Questions.{answerSize}
+use Rattle.ledger.specs.Calls.{noAnswer}
+use Rattle.slot.proofs.ReportLaws.{report-stopped, report-lower, report-output}
+use Rattle.slot.proofs.Slot.report.Statement.{statement}
+use Rattle.slot.proofs.Slot.report.Tie as tie
+
+is-empty-requires : tie.Need-is-empty-requires
+is-empty-requires c κs = tt
+
+returns : tie.Need-returns
+unfolding noAnswer answerSize
+returns c =
+    let a = c .before .before .before .before .args in
+    report-stopped (a .t1) (a .capsules .now) (a .records .now) (sym (c .before .is-empty .ensures) ∙ c .if1 .taken) refl
+
+is-published-requires : tie.Need-is-published-requires
+is-published-requires c κs = tt
+
+report-requires : tie.Need-report-requires
+report-requires c κs = tt
+
+same-length : tie.Need-same-length
+same-length c = search needs
+
+returns-2 : tie.Need-returns-2
+unfolding reportAnswer
+returns-2 c =
+    let p = c .before .before .before in
+    let b = p .before .before .before .before .before in
+    let l = b .before in
+    let a = l .before .before .before .before .args in
+    let k = sym (l .before .is-empty .ensures) ∙ l .if1 .left in (
+      ap (λ (x : Counted). record { slot = a .t1; refused = x .refused; counts = x .counts }) (p .report .ensures .0)
+          ∙ report-lower (a .t1) (a .capsules .now) (a .records .now) k _ (b .is-published .ensures),
+      p .report .ensures .1 ∙ report-output (a .t1) (a .capsules .now) (a .records .now) k _ (b .is-published .ensures),
+    )
+
+pub report-spec : {M : Type 1} → statement M
+report-spec =
+    tie.close
+    (tie.spec
+    is-empty-requires
+    returns
+    is-published-requires
+    report-requires
+    same-length
+    returns-2)
