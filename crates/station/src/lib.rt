@@ -8,7 +8,8 @@ ghost use Rattle.ledger.specs.Publishing.{systematic};
 ghost use Rattle.ledger.specs.Questions.{open-capsule, read-word, report, session-key};
 ghost use Rattle.ledger.specs.Calls.{load, publish, ask, drop-key};
 ghost use Rattle.recipients.specs.Names.{named};
-ghost use Rattle.station.specs.Replies.{freshStation, handed, replyOf, reportedOf, derivedOf};
+ghost use Rattle.station.specs.Replies.{slotOf, put, freshStation, handed, replyOf, reportedOf, derivedOf};
+ghost use Rattle.station.specs.Chosen.{known, chosen, refusal, placed};
 
 // The slots of A and B.
 #[repr(C)]
@@ -40,4 +41,188 @@ pub struct Derived {
     pub station: Station,
     pub refused: u8,
     pub key: [u8; 32],
+}
+
+// The byte is a name.
+fn is_name(name: u8) -> bool
+    ensures { λ r. ⌜ r ≡ known name ⌝ }
+{
+    name == Station::A || name == Station::B
+}
+
+impl Station {
+    // The names.
+    pub const A: u8 = 1;
+
+    pub const B: u8 = 2;
+
+    // The limit on t, 128.
+    pub const MOST_ERRORS: usize = Slot::MOST_ERRORS;
+
+    // The limit on the register's list, 256.
+    pub const LONGEST: usize = Slot::LONGEST;
+
+    // The station with two empty slots.
+    pub fn fresh() -> Station
+        ensures { λ r. ⌜ r ≡ freshStation ⌝ }
+    {
+        let a = Slot::fresh();
+        Station { a, b: a }
+    }
+
+    // The slot of a name: A's for 1, else B's.
+    fn slot(self, name: u8) -> Slot
+        ensures { λ r. ⌜ r ≡ slotOf (chosen name) self ⌝ }
+    {
+        if name == Station::A {
+            return self.a;
+        }
+        self.b
+    }
+
+    // The station with a slot put in the place of a name.
+    fn with(self, name: u8, slot: Slot) -> Station
+        ensures { λ r. ⌜ r ≡ put (chosen name) slot self ⌝ }
+    {
+        let mut station = self;
+        if name == Station::A {
+            station.a = slot;
+        } else {
+            station.b = slot;
+        }
+        station
+    }
+
+    // A refusal changes nothing.
+    fn refuse(self, number: u8) -> Reply
+        ensures { λ r. ⌜ r ≡ refusal self number ⌝ }
+    {
+        Reply {
+            station: self,
+            refused: number,
+            ones: 0,
+        }
+    }
+
+    // What the slot's call handed back, with its slot in its place.
+    fn place(self, name: u8, reply: slot::Reply) -> Reply
+        ensures { λ r. ⌜ r ≡ placed (chosen name) self reply ⌝ }
+    {
+        Reply {
+            station: self.with(name, reply.slot),
+            refused: reply.refused,
+            ones: reply.ones,
+        }
+    }
+
+    // The file's key is kept; 35, 22, 1, 2, 3, 4, 5, 6 or 7 on refusal.
+    pub fn load(self, name: u8, file: &[u8]) -> Reply
+        ensures { λ r. ⌜ r ≡ replyOf (handed self (named name (load (key-file (now (file .entry)))))) ⌝ }
+    {
+        if !is_name(name) {
+            return self.refuse(35);
+        }
+        let loaded = self.slot(name).load(file);
+        self.place(name, loaded)
+    }
+
+    // T is written from the output's start, made in the first m·t × ceil(n/8) bytes of work; 35, 21, 25, 34, 10, 11 or 23 on refusal.
+    // All other bytes of work keep their contents, and these too under 35, 21, 25, 34, 10 and 11.
+    pub fn publish(self, name: u8, out: &mut [u8], work: &mut [u8]) -> Reply
+        ensures reply { λ r. ⌜ r ≡ replyOf (handed self (named name (publish (systematic (now (out .entry)) (now (work .entry)))))) ⌝ }
+        ensures output { λ _. ⌜ now (out .exit) ≡ handed self (named name (publish (systematic (now (out .entry)) (now (work .entry))))) .output ⌝ }
+        ensures workspace { λ _. ⌜ (let f = handed self (named name (publish (systematic (now (out .entry)) (now (work .entry))))) .free in
+            drop f (now (work .exit)) ≡ drop f (now (work .entry))) ⌝ }
+    {
+        if !is_name(name) {
+            return self.refuse(35);
+        }
+        let published = self.slot(name).publish(out, work);
+        self.place(name, published)
+    }
+
+    // The pattern of a capsule is written from the output's start; 35, 21, 25, 34, 24, 8, 9, 10 or 13 on refusal.
+    pub fn open(self, name: u8, capsule: &[u8], out: &mut [u8]) -> Reply
+        ensures reply { λ r. ⌜ r ≡ replyOf (handed self (named name (ask (open-capsule (now (capsule .entry)) (now (out .entry)))))) ⌝ }
+        ensures output { λ _. ⌜ now (out .exit) ≡ handed self (named name (ask (open-capsule (now (capsule .entry)) (now (out .entry))))) .output ⌝ }
+    {
+        if !is_name(name) {
+            return self.refuse(35);
+        }
+        let opened = self.slot(name).open(capsule, out);
+        Reply {
+            station: self,
+            refused: opened.refused,
+            ones: opened.ones,
+        }
+    }
+
+    // The pattern of a word is written from the output's start; 35, 21, 25, 8, 9, 10 or 14 on refusal.
+    pub fn read(self, name: u8, word: &[u8], out: &mut [u8]) -> Reply
+        ensures reply { λ r. ⌜ r ≡ replyOf (handed self (named name (ask (read-word (now (word .entry)) (now (out .entry)))))) ⌝ }
+        ensures output { λ _. ⌜ now (out .exit) ≡ handed self (named name (ask (read-word (now (word .entry)) (now (out .entry))))) .output ⌝ }
+    {
+        if !is_name(name) {
+            return self.refuse(35);
+        }
+        let found = self.slot(name).read(word, out);
+        Reply {
+            station: self,
+            refused: found.refused,
+            ones: found.ones,
+        }
+    }
+
+    // The record of each capsule is written from the record buffer's start: 0 where it is opened, else its refusal's number, and
+    // the records are counted by their value; 35, 21, 25, 34, 24 or 31 on refusal.
+    pub fn report(self, name: u8, capsules: &[u8], records: &mut [u8]) -> Reported
+        ensures reply { λ r. ⌜ r ≡ reportedOf (handed self (named name (ask (report (now (capsules .entry)) (now (records .entry)))))) ⌝ }
+        ensures output { λ _. ⌜ now (records .exit) ≡ handed self (named name (ask (report (now (capsules .entry)) (now (records .entry))))) .output ⌝ }
+    {
+        if !is_name(name) {
+            return Reported {
+                station: self,
+                refused: 35,
+                counts: [0; 256],
+            };
+        }
+        let reported = self.slot(name).report(capsules, records);
+        let counts = reported.counts;
+        Reported {
+            station: self,
+            refused: reported.refused,
+            counts,
+        }
+    }
+
+    // The session key of a capsule, with the secret for one that open refuses with 13; 35, 21, 25, 34, 24, 8, 9 or 33 on refusal.
+    pub fn session(self, name: u8, capsule: &[u8], secret: &[u8]) -> Derived
+        ensures { λ r. ⌜ r ≡ derivedOf (handed self (named name (ask (session-key (now (capsule .entry)) (now (secret .entry)))))) ⌝ }
+    {
+        if !is_name(name) {
+            return Derived {
+                station: self,
+                refused: 35,
+                key: [0; 32],
+            };
+        }
+        let derived = self.slot(name).session(capsule, secret);
+        let key = derived.key;
+        Derived {
+            station: self,
+            refused: derived.refused,
+            key,
+        }
+    }
+
+    // Afterwards the slot that is named is a fresh one; 35 or 21 on refusal.
+    pub fn drop(self, name: u8) -> Reply
+        ensures { λ r. ⌜ r ≡ replyOf (handed self (named name drop-key)) ⌝ }
+    {
+        if !is_name(name) {
+            return self.refuse(35);
+        }
+        let dropped = self.slot(name).drop();
+        self.place(name, dropped)
+    }
 }

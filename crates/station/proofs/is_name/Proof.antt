@@ -1,0 +1,13 @@
+-- `station::is_name` meets its contract. Assumes nothing.
+use Rattle.station.proofs.Named.{known-first, known-second}
+use Rattle.station.proofs.is_name.Statement.{statement}
+use Rattle.station.proofs.is_name.Tie as tie
+
+returns : tie.Need-returns
+returns c = known-first _ (c .if1 .taken)
+
+returns-2 : tie.Need-returns-2
+returns-2 c = known-second _ (c .if1 .left)
+
+pub is-name-spec : {M : Type 1} → statement M
+is-name-spec = tie.close (tie.spec returns returns-2)
