@@ -32,7 +32,8 @@ use Rattle.ledger.specs.Publishing.{systematic, publicBuffer, publishingConditi
 use Rattle.ledger.specs.Questions.{open-capsule, read-word, answerBuffer, questionConditions, gives, given}
 use Rattle.ledger.specs.Calls.{Call, load, publish, ask, outputOf, made}
 use Rattle.ledger.proofs.StepLaws.{step-free}
-use Rattle.slot.specs.Replies.{stateOf, byteOf, view, answerNumber, refusal, acceptance, moved, handed}
+use Rattle.slot.specs.Replies.{stateOf, byteOf, view, answerNumber, Reply, refusal, acceptance, moved, handed}
+use Rattle.slot.specs.Parts.{answeredOf}
 use Rattle.slot.specs.declared.Slot.{Slot}
 use Rattle.slot.proofs.ReplyLaws.{stop, lower, lower-refused, lower-accepted, lower-output}
 
@@ -111,7 +112,12 @@ module _ (s : Slot) (out work : List ℕ) (keyed : isEmpty (stateOf (s .state)) 
       subst (λ (f : ℕ). drop f after ≡ drop f before)
       (sym (step-free (view s) (publish (systematic out work)) ∙ ap (λ (b : Bool). cond b 0 (freeBytes (kept (s .key)) out work)) keyed))
 
--- open and read, with a key
+-- open and read: the number and the ones of the reply
+pub answered : (s : Slot) (c : Call) {r : Reply} → r ≡ handed s c .reply → record { refused = r .refused; ones = r .ones } ≡ answeredOf (handed s c)
+unfolding answeredOf
+answered s c e = ap (λ (r : Reply). record { refused = r .refused; ones = r .ones }) e
+
+-- with a key
 answer-number : (q w : ℕ) → answerNumber (answerOf q w) ≡ q
 unfolding answerNumber answerOf
 answer-number zero w = refl

@@ -8,19 +8,19 @@ use Rattle.records.specs.Records.{reportNumber, reportOutput, reportCounts}
 use Rattle.ledger.specs.Slot.{isEmpty, isUnpublished, heldBy}
 use Rattle.ledger.specs.Questions.{report, answerBuffer, questionConditions, given, answerSize}
 use Rattle.ledger.specs.Calls.{Call, ask, outputOf, noAnswer, made}
-use Rattle.slot.specs.Replies.{stateOf, view, handed, reportedOf}
+use Rattle.reporting.specs.declared.Counted.{Counted}
+use Rattle.slot.specs.Replies.{stateOf, view, handed}
+use Rattle.slot.specs.Parts.{countedOf}
 use Rattle.slot.specs.declared.Slot.{Slot}
-use Rattle.slot.specs.declared.Reported.{Reported}
 use Rattle.slot.proofs.ReplyLaws.{stop, lower, stopped, lower-output}
 use Rattle.slot.proofs.QuestionLaws.{question-stopped, question-lower, not-published}
-use Rattle.slot.proofs.StepView.{question-left}
 
--- the reply, part by part
-reported : (s : Slot) (capsules records : List ℕ) {n : ℕ} {counts : List ℕ} → (let c = ask (report capsules records) in
+-- the answer, part by part
+counted : (s : Slot) (capsules records : List ℕ) {n : ℕ} {counts : List ℕ} → (let c = ask (report capsules records) in
     n ≡ handed s c .reply .refused → counts ≡ handed s c .answer
-    → _≡_ {A = Reported} (record { slot = s; refused = n; counts = counts }) (reportedOf (handed s c)))
-unfolding reportedOf
-reported s capsules records e f = rw (e, f, question-left s (report capsules records))
+    → _≡_ {A = Counted} (record { refused = n; counts = counts }) (countedOf (handed s c)))
+unfolding countedOf
+counted s capsules records e f = rw (e, f)
 
 module _ (s : Slot) (capsules records : List ℕ) where
   c : Call
@@ -28,11 +28,11 @@ module _ (s : Slot) (capsules records : List ℕ) where
 
   -- without a key
   pub report-stopped : isEmpty (stateOf (s .state)) ≡ true → {counts : List ℕ} → counts ≡ noAnswer (ask (report capsules records))
-      → (record { slot = s; refused = 21; counts = counts } ≡ reportedOf (handed s (ask (report capsules records)))) × (records ≡ handed s (ask (report capsules records)) .output)
+      → (record { refused = 21; counts = counts } ≡ countedOf (handed s (ask (report capsules records)))) × (records ≡ handed s (ask (report capsules records)) .output)
   unfolding c stop outputOf answerBuffer
   report-stopped h e =
       let t = question-stopped s (report capsules records) h in
-      (reported s capsules records (t .0) (e ∙ t .1), stopped s c h .1)
+      (counted s capsules records (t .0) (e ∙ t .1), stopped s c h .1)
 
   -- with a key: published or not by b
   module _ (keyed : isEmpty (stateOf (s .state)) ≡ false) (b : Bool) (e : b ≡ not (isUnpublished (stateOf (s .state)))) where
@@ -40,13 +40,13 @@ module _ (s : Slot) (capsules records : List ℕ) where
     unfolding c stop
     passes = keyed
 
-    pub report-lower : record { slot = s; refused = reportNumber (not b) (kept (s .key)) capsules records; counts = reportCounts (not b) (kept (s .key)) capsules records }
-        ≡ reportedOf (handed s (ask (report capsules records)))
+    pub report-lower : record { refused = reportNumber (not b) (kept (s .key)) capsules records; counts = reportCounts (not b) (kept (s .key)) capsules records }
+        ≡ countedOf (handed s (ask (report capsules records)))
     unfolding c lower questionConditions heldBy view reportNumber reportCounts made given noAnswer answerSize
     report-lower =
         let m = not-published s b e in
         let l = question-lower s (report capsules records) keyed in
-        reported s capsules records (ap (λ (u : Bool). reportNumber u (kept (s .key)) capsules records) m ∙ l .0)
+        counted s capsules records (ap (λ (u : Bool). reportNumber u (kept (s .key)) capsules records) m ∙ l .0)
         (ap (λ (u : Bool). reportCounts u (kept (s .key)) capsules records) m ∙ l .1)
 
     pub report-output : reportOutput (not b) (kept (s .key)) capsules records ≡ handed s (ask (report capsules records)) .output

@@ -7,16 +7,17 @@ use Rattle.key.specs.Keys.{Key, parse}
 use Rattle.key.specs.Kept.{kept, keep, noKey}
 use Rattle.key.proofs.Parse.{length-elements}
 use Rattle.key.proofs.Filled.{kept-keep}
-use Rattle.ledger.specs.Slot.{loaded, emptyKey, fresh, Result}
+use Rattle.field.specs.Numbers.{firstOf}
+use Rattle.ledger.specs.Slot.{loaded, emptyKey, fresh, heldBy, Result}
 use Rattle.ledger.specs.Loading.{Loading, key-file, loadedKey}
 use Rattle.ledger.specs.Questions.{Question}
-use Rattle.ledger.specs.Calls.{Call, load, publish, ask, drop-key, made, step}
+use Rattle.ledger.specs.Calls.{Call, load, publish, ask, drop-key, conditionsOf, made, step}
 use Rattle.ledger.proofs.StepLaws.{outcome}
 use Rattle.ledger.proofs.StepLaws as Step
 use Rattle.ledger.proofs.Simulation.{seen, Simulates}
-use Rattle.slot.specs.Replies.{stateOf, byteOf, view, freshSlot, refusal, acceptance, moved, replyOf, handed, outcomeOf, code}
+use Rattle.slot.specs.Replies.{stateOf, byteOf, view, freshSlot, Reply, refusal, acceptance, moved, replyOf, handed, outcomeOf, code}
+use Rattle.slot.specs.Parts.{keyless}
 use Rattle.slot.specs.declared.Slot.{Slot}
-use Rattle.slot.specs.declared.Reply.{Reply}
 use Rattle.slot.proofs.ReplyLaws.{reply-refused, reply-accepted}
 
 -- the key that is kept of a file is the file's
@@ -60,6 +61,21 @@ same s c = go (step (view s) c .number) refl
 pub refused-reply : (s : Slot) (c : Call) (n : ℕ) → handed s c .reply .refused ≡ suc n → handed s c .reply ≡ refusal s (suc n)
 refused-reply s c n e =
     sym (reply-refused s c (suc n) (sym e ∙ same s c .number ∙ Step.step-number (view s) c) (λ z. omega arith))
+
+-- an accepted call's reply, where no ones are counted
+pub accepted-reply : (s : Slot) (c : Call) → made (view s) c .count ≡ 0 → handed s c .reply .refused ≡ 0 → handed s c .reply ≡ acceptance (moved s c) 0
+accepted-reply s c none e =
+    let n = sym (same s c .number) ∙ e in
+    sym (reply-accepted s c (sym (Step.step-number (view s) c) ∙ n) (sym (ap (λ (r : Result). r .count) (Step.step-made (view s) c n) ∙ none)))
+
+-- a call whose conditions ask for nothing but the state
+pub state-number : (s : Slot) (c : Call) → conditionsOf (heldBy (view (keyless (s .state)))) c ≡ conditionsOf (heldBy (view s)) c
+    → handed (keyless (s .state)) c .reply .refused ≡ handed s c .reply .refused
+state-number s c e =
+    same (keyless (s .state)) c .number
+    ∙ Step.step-number (view (keyless (s .state))) c
+    ∙ ap firstOf e
+    ∙ sym (same s c .number ∙ Step.step-number (view s) c)
 
 -- an accepted call's slot
 accepted-slot : (s : Slot) (c : Call) → handed s c .reply .refused ≡ 0 → handed s c .reply .slot ≡ moved s c

@@ -11,9 +11,6 @@ use Rattle.ledger.specs.Loading.{loadedKey}
 use Rattle.ledger.specs.Calls.{Call, load, publish, ask, drop-key, step}
 use Rattle.ledger.specs.Systems.{System}
 use Rattle.slot.specs.declared.Slot.{Slot}
-use Rattle.slot.specs.declared.Reply.{Reply}
-use Rattle.slot.specs.declared.Reported.{Reported}
-use Rattle.slot.specs.declared.Derived.{Derived}
 
 -- the state of a state byte: 0 empty, 1 loaded, any other published
 unfoldable pub stateOf : ℕ → Definition.State
@@ -47,6 +44,12 @@ moved s (publish p) = record { state = byteOf Definition.published; key = s .key
 moved s (ask q) = s
 moved s drop-key = freshSlot
 
+-- the new slot, the number of the refusal, 0 for none, and the number of ones written
+pub record Reply : Type 0 where
+  pub slot : Slot
+  pub refused : ℕ
+  pub ones : ℕ
+
 -- refused: the slot as it was
 unfoldable pub refusal : Slot → ℕ → Reply
 refusal s n = record { slot = s; refused = n; ones = 0 }
@@ -71,14 +74,6 @@ unfoldable pub handed : Slot → Call → Handed
 handed s c =
     let r : Definition.Result = step (view s) c in
     record { reply = replyOf (r .number) s (moved s c) (r .count); answer = r .answer; output = r .output; free = r .free }
-
--- the reply to a report: its answer is the counts
-unfoldable pub reportedOf : Handed → Reported
-reportedOf h = record { slot = h .reply .slot; refused = h .reply .refused; counts = h .answer }
-
--- the reply to a session key's call: its answer is the key
-unfoldable pub derivedOf : Handed → Derived
-derivedOf h = record { slot = h .reply .slot; refused = h .reply .refused; key = h .answer }
 
 -- The code's calls as a system: its slots are the structs with their arrays. The demands are about it.
 unfoldable pub outcomeOf : Handed → Outcome Slot

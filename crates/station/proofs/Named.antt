@@ -1,27 +1,28 @@
 -- What a call hands back, by its byte: 35 where that is no name, else what the slot's call hands back. Assumes nothing.
 use Prim.Native.Nat.{ℕ, zero, suc}
 use mathlib.Core.Path.{_≡_, refl, sym, ap, _∙_}
-use mathlib.Core.Bool.{true, false, true≢false, cond, _||_}
+use mathlib.Core.Bool.{true, false, true≢false}
 use mathlib.Core.List.{List}
 use native.Mathlib.Omega.{arith}
 use borrow.Author.Tests.{ne-eqb}
-use lib.Dec.{eqb}
 use lib.ListN.{drop}
-use Rattle.ledger.specs.Slot.{Outcome}
-use Rattle.ledger.specs.Questions.{Question, report, session-key, answerSize}
-use Rattle.ledger.specs.Calls.{Call, ask, outputOf, noAnswer}
-use Rattle.slot.specs.Replies.{outcomeOf}
+use Rattle.ledger.specs.Slot.{heldBy, Outcome}
+use Rattle.ledger.specs.Loading.{Loading}
+use Rattle.ledger.specs.Publishing.{Publishing}
+use Rattle.ledger.specs.Questions.{Question}
+use Rattle.ledger.specs.Calls.{Call, load, publish, ask, drop-key, conditionsOf, outputOf, noAnswer, made}
+use Rattle.slot.specs.Replies.{view, Reply as SlotReply, refusal as slotRefusal, acceptance, moved, outcomeOf}
 use Rattle.slot.specs.Replies as Slots
+use Rattle.slot.specs.Parts.{keyless, loadedOf}
 use Rattle.slot.specs.declared.Slot.{Slot}
-use Rattle.slot.proofs.StepView.{question-left}
+use Rattle.slot.specs.declared.Loaded.{Loaded}
+use Rattle.slot.proofs.StepView.{refused-reply, accepted-reply, state-number, question-left}
 use Rattle.recipients.specs.Names.{Name, A, B, nameOf, named}
 use Rattle.recipients.specs.Recipients.{unknown, within, called}
 use Rattle.station.specs.Replies.{slotOf, put, handed, replyOf, reportedOf, derivedOf}
-use Rattle.station.specs.Chosen.{known, chosen, refusal, placed}
+use Rattle.station.specs.Chosen.{known, pick, chosen, refusal, placed, marked}
 use Rattle.station.specs.declared.Station.{Station}
 use Rattle.station.specs.declared.Reply.{Reply}
-use Rattle.station.specs.declared.Reported.{Reported}
-use Rattle.station.specs.declared.Derived.{Derived}
 
 -- the slot that is there, put back
 pub put-same : (x : Name) (s : Station) → put x (slotOf x s) s ≡ s
@@ -29,39 +30,13 @@ unfolding put slotOf
 put-same A s = refl
 put-same B s = refl
 
--- the byte is 1, or not
-module _ (b : ℕ) where
-  pub known-first : b ≡ 1 → eqb b 1 ≡ known b
-  unfolding known
-  known-first e = rw e refl
-
-  pub known-second : (b ≡ 1 → ⊥) → eqb b 2 ≡ known b
-  unfolding known
-  known-second e = rw (ne-eqb b 1 e) refl
-
-  pub slot-first : b ≡ 1 → (s : Station) → s .a ≡ slotOf (chosen b) s
-  unfolding slotOf chosen
-  slot-first e s = rw e refl
-
-  pub slot-second : (b ≡ 1 → ⊥) → (s : Station) → s .b ≡ slotOf (chosen b) s
-  unfolding slotOf chosen
-  slot-second e s = rw (ne-eqb b 1 e) refl
-
-  pub put-first : b ≡ 1 → (t : Slot) (s : Station) → record { a = t; b = s .b } ≡ put (chosen b) t s
-  unfolding put chosen
-  put-first e t s = rw e refl
-
-  pub put-second : (b ≡ 1 → ⊥) → (t : Slot) (s : Station) → record { a = s .a; b = t } ≡ put (chosen b) t s
-  unfolding put chosen
-  put-second e t s = rw (ne-eqb b 1 e) refl
-
 known-other : (b : ℕ) → known (suc (suc (suc b))) ≡ false
 unfolding known
 known-other b = rw (ne-eqb (suc (suc (suc b))) 1 (λ z. omega arith), ne-eqb (suc (suc (suc b))) 2 (λ z. omega arith)) refl
 
 module _ (s : Station) (b : ℕ) (c : Call) where
   -- no name
-  pub handed-unknown : known b ≡ false → handed s (named b c) ≡ unknown s c
+  handed-unknown : known b ≡ false → handed s (named b c) ≡ unknown s c
   unfolding handed called nameOf known
   handed-unknown h = go b h
     where
@@ -71,19 +46,8 @@ module _ (s : Station) (b : ℕ) (c : Call) where
       go (suc (suc zero)) h = absurd (true≢false h)
       go (suc (suc (suc b))) h = refl
 
-  -- a name
-  pub handed-known : known b ≡ true → handed s (named b c) ≡ within (λ t. put (chosen b) t s) (outcomeOf (Slots.handed (slotOf (chosen b) s) c))
-  unfolding handed called nameOf known chosen
-  handed-known h = go b h
-    where
-      go : (b : ℕ) → known b ≡ true → handed s (named b c) ≡ within (λ t. put (chosen b) t s) (outcomeOf (Slots.handed (slotOf (chosen b) s) c))
-      go zero h = absurd (true≢false (sym h))
-      go (suc zero) h = refl
-      go (suc (suc zero)) h = refl
-      go (suc (suc (suc b))) h = absurd (true≢false (sym h ∙ known-other b))
-
   pub reply-unknown : known b ≡ false → refusal s 35 ≡ replyOf (handed s (named b c))
-  unfolding refusal replyOf unknown
+  unfolding replyOf unknown
   reply-unknown h = ap replyOf (sym (handed-unknown h))
 
   pub reported-unknown : known b ≡ false → record { station = s; refused = 35; counts = noAnswer c } ≡ reportedOf (handed s (named b c))
@@ -98,9 +62,16 @@ module _ (s : Station) (b : ℕ) (c : Call) where
   unfolding unknown
   output-unknown h = ap (λ (r : Outcome Station). r .output) (sym (handed-unknown h))
 
-  pub free-unknown : known b ≡ false → 0 ≡ handed s (named b c) .free
-  unfolding unknown
-  free-unknown h = ap (λ (r : Outcome Station). r .free) (sym (handed-unknown h))
+  -- a name
+  handed-known : known b ≡ true → handed s (named b c) ≡ within (λ t. put (chosen b) t s) (outcomeOf (Slots.handed (slotOf (chosen b) s) c))
+  unfolding handed called nameOf known pick
+  handed-known h = go b h
+    where
+      go : (b : ℕ) → known b ≡ true → handed s (named b c) ≡ within (λ t. put (chosen b) t s) (outcomeOf (Slots.handed (slotOf (chosen b) s) c))
+      go zero h = absurd (true≢false (sym h))
+      go (suc zero) h = refl
+      go (suc (suc zero)) h = refl
+      go (suc (suc (suc b))) h = absurd (true≢false (sym h ∙ known-other b))
 
   pub output-known : known b ≡ true → Slots.handed (slotOf (chosen b) s) c .output ≡ handed s (named b c) .output
   unfolding within outcomeOf
@@ -110,16 +81,78 @@ module _ (s : Station) (b : ℕ) (c : Call) where
   unfolding within outcomeOf
   free-known h = ap (λ (r : Outcome Station). r .free) (sym (handed-known h))
 
-  -- the slot's reply, its slot in its place
-  pub reply-placed : known b ≡ true → placed (chosen b) s (Slots.handed (slotOf (chosen b) s) c .reply) ≡ replyOf (handed s (named b c))
-  unfolding placed replyOf within outcomeOf
-  reply-placed h = ap replyOf (sym (handed-known h))
+  -- what the slot's reply is, in the reply
+  reply-known : known b ≡ true → {r : SlotReply} → Slots.handed (slotOf (chosen b) s) c .reply ≡ r
+      → record { station = put (chosen b) (r .slot) s; refused = r .refused; ones = r .ones } ≡ replyOf (handed s (named b c))
+  unfolding replyOf within outcomeOf
+  reply-known h e =
+      ap (λ (r : SlotReply). record { station = put (chosen b) (r .slot) s; refused = r .refused; ones = r .ones }) (sym e)
+      ∙ ap replyOf (sym (handed-known h))
+
+  -- refused: the station as it was
+  pub reply-refused : known b ≡ true → {n : ℕ} → n ≡ Slots.handed (slotOf (chosen b) s) c .reply .refused → (n ≡ 0 → ⊥)
+      → refusal s n ≡ replyOf (handed s (named b c))
+  unfolding slotRefusal
+  reply-refused h {n} e some = go n e some
+    where
+      go : (n : ℕ) → n ≡ Slots.handed (slotOf (chosen b) s) c .reply .refused → (n ≡ 0 → ⊥) → refusal s n ≡ replyOf (handed s (named b c))
+      go zero e some = absurd (some refl)
+      go (suc n) e some =
+          ap (λ (t : Station). refusal t (suc n)) (sym (put-same (chosen b) s)) ∙ reply-known h (refused-reply (slotOf (chosen b) s) c n (sym e))
+
+  -- accepted, where no ones are counted: the slot after the call in the place of the name
+  reply-accepted : known b ≡ true → made (view (slotOf (chosen b) s)) c .count ≡ 0 → Slots.handed (slotOf (chosen b) s) c .reply .refused ≡ 0
+      → placed b (moved (slotOf (chosen b) s) c) s ≡ replyOf (handed s (named b c))
+  unfolding acceptance
+  reply-accepted h none e = reply-known h (accepted-reply (slotOf (chosen b) s) c none e)
+
+-- Load and drop ask for the state alone.
+module _ (s : Station) (b : ℕ) (h : known b ≡ true) {state : ℕ} (at : state ≡ slotOf (chosen b) s .state) where
+  module _ (f : Loading) {r : Loaded} (e : r ≡ loadedOf (Slots.handed (keyless state) (load f))) where
+    load-number : r .refused ≡ Slots.handed (slotOf (chosen b) s) (load f) .reply .refused
+    unfolding loadedOf conditionsOf heldBy view
+    load-number =
+        ap (λ (l : Loaded). l .refused) e
+        ∙ ap (λ (n : ℕ). Slots.handed (keyless n) (load f) .reply .refused) at
+        ∙ state-number (slotOf (chosen b) s) (load f) refl
+
+    pub load-refused : (r .refused ≡ 0 → ⊥) → refusal s (r .refused) ≡ replyOf (handed s (named b (load f)))
+    load-refused some = reply-refused s b (load f) h load-number some
+
+    pub load-placed : r .refused ≡ 0 → placed b (r .slot) s ≡ replyOf (handed s (named b (load f)))
+    unfolding loadedOf made moved acceptance
+    load-placed z =
+        let n = sym (ap (λ (l : Loaded). l .refused) e) ∙ z in
+        ap (λ (t : Slot). placed b t s)
+        (ap (λ (l : Loaded). l .slot) e ∙ ap (λ (q : SlotReply). q .slot) (accepted-reply (keyless state) (load f) refl n))
+        ∙ reply-accepted s b (load f) h refl (sym load-number ∙ z)
+
+  module _ {n : ℕ} (e : n ≡ Slots.handed (keyless state) drop-key .reply .refused) where
+    drop-number : n ≡ Slots.handed (slotOf (chosen b) s) drop-key .reply .refused
+    unfolding conditionsOf heldBy view
+    drop-number =
+        e
+        ∙ ap (λ (n : ℕ). Slots.handed (keyless n) drop-key .reply .refused) at
+        ∙ state-number (slotOf (chosen b) s) drop-key refl
+
+    pub drop-refused : (n ≡ 0 → ⊥) → refusal s n ≡ replyOf (handed s (named b drop-key))
+    drop-refused some = reply-refused s b drop-key h drop-number some
+
+    pub drop-placed : n ≡ 0 → placed b Slots.freshSlot s ≡ replyOf (handed s (named b drop-key))
+    unfolding made moved
+    drop-placed z = reply-accepted s b drop-key h refl (sym drop-number ∙ z)
+
+-- Publish marks the slot.
+pub publish-marked : (s : Station) (b : ℕ) (p : Publishing) → known b ≡ true → Slots.handed (slotOf (chosen b) s) (publish p) .reply .refused ≡ 0
+    → marked b s ≡ replyOf (handed s (named b (publish p)))
+unfolding made moved
+publish-marked s b p h e = reply-accepted s b (publish p) h refl e
 
 -- the free bytes are as many
 pub same-rest : (x y : List ℕ) {f g : ℕ} → f ≡ g → drop f x ≡ drop f y → drop g x ≡ drop g y
 same-rest x y e h = rw (← e) h
 
--- a question leaves the station
+-- A question leaves the station.
 module _ (s : Station) (b : ℕ) (q : Question) (h : known b ≡ true) where
   handed-left : handed s (named b (ask q)) ≡ within (λ t. s) (outcomeOf (Slots.handed (slotOf (chosen b) s) (ask q)))
   unfolding within outcomeOf

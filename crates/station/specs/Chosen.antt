@@ -2,9 +2,11 @@
 use Prim.Native.Nat.{ℕ}
 use mathlib.Core.Bool.{Bool, cond, _||_}
 use lib.Dec.{eqb}
-use Rattle.slot.specs.declared.Reply as Slots
+use Rattle.ledger.specs.Slot.{published}
+use Rattle.slot.specs.Replies.{byteOf}
+use Rattle.slot.specs.declared.Slot.{Slot}
 use Rattle.recipients.specs.Names.{Name, A, B}
-use Rattle.station.specs.Replies.{put}
+use Rattle.station.specs.Replies.{slotOf, put}
 use Rattle.station.specs.declared.Station.{Station}
 use Rattle.station.specs.declared.Reply.{Reply}
 
@@ -12,14 +14,22 @@ use Rattle.station.specs.declared.Reply.{Reply}
 unfoldable pub known : ℕ → Bool
 known b = eqb b 1 || eqb b 2
 
--- A for 1, else B
-unfoldable pub chosen : ℕ → Name
-chosen b = cond (eqb b 1) A B
+-- of two parts, A's and B's: A's for 1, else B's
+unfoldable pub pick : {X : Type 0} → ℕ → X → X → X
+pick b x y = cond (eqb b 1) x y
+
+-- the name likewise
+abbrev pub chosen : ℕ → Name
+chosen b = pick b A B
 
 -- refused: the station as it was
-unfoldable pub refusal : Station → ℕ → Reply
+abbrev pub refusal : Station → ℕ → Reply
 refusal s n = record { station = s; refused = n; ones = 0 }
 
--- a slot's reply, its slot in the place of x
-unfoldable pub placed : Name → Station → Slots.Reply → Reply
-placed x s r = record { station = put x (r .slot) s; refused = r .refused; ones = r .ones }
+-- accepted: a slot in the place of the name
+abbrev pub placed : ℕ → Slot → Station → Reply
+placed b t s = record { station = put (chosen b) t s; refused = 0; ones = 0 }
+
+-- accepted: the slot of the name is published
+abbrev pub marked : ℕ → Station → Reply
+marked b s = placed b (record { state = byteOf published; key = slotOf (chosen b) s .key }) s

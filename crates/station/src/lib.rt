@@ -1,5 +1,6 @@
 // The station: a slot for each of two recipients, A and B (request L6). Each call names one by a byte and is that slot's call; a
-// byte other than 1 and 2 is refused with 35, before all else.
+// byte other than 1 and 2 is refused with 35, before all else. The slot that is named is lent part by part, so that it is not copied.
+use key::kept::Key;
 use slot::Slot;
 ghost use mathlib.Core.Path.{_≡_};
 ghost use lib.ListN.{drop};
@@ -8,8 +9,8 @@ ghost use Rattle.ledger.specs.Publishing.{systematic};
 ghost use Rattle.ledger.specs.Questions.{open-capsule, read-word, report, session-key};
 ghost use Rattle.ledger.specs.Calls.{load, publish, ask, drop-key};
 ghost use Rattle.recipients.specs.Names.{named};
-ghost use Rattle.station.specs.Replies.{slotOf, put, freshStation, handed, replyOf, reportedOf, derivedOf};
-ghost use Rattle.station.specs.Chosen.{known, chosen, refusal, placed};
+ghost use Rattle.station.specs.Replies.{freshStation, handed, replyOf, reportedOf, derivedOf};
+ghost use Rattle.station.specs.Chosen.{known, pick, refusal, placed, marked};
 
 // The slots of A and B.
 #[repr(C)]
@@ -50,6 +51,51 @@ fn is_name(name: u8) -> bool
     name == Station::A || name == Station::B
 }
 
+// Of two parts, one of A's slot and one of B's, that of the name: the first for 1, else the second.
+fn byte(name: u8, a: u8, b: u8) -> u8
+    ensures { λ r. ⌜ r ≡ pick name a b ⌝ }
+{
+    if name == Station::A {
+        return a;
+    }
+    b
+}
+
+fn number(name: u8, a: u16, b: u16) -> u16
+    ensures { λ r. ⌜ r ≡ pick name a b ⌝ }
+{
+    if name == Station::A {
+        return a;
+    }
+    b
+}
+
+fn places<'a>(
+    name: u8,
+    a: &'a [u16; Key::MOST_PLACES],
+    b: &'a [u16; Key::MOST_PLACES],
+) -> &'a [u16; Key::MOST_PLACES]
+    ensures { λ r. ⌜ now r ≡ pick name (now (a .entry)) (now (b .entry)) ⌝ }
+{
+    if name == Station::A {
+        return a;
+    }
+    b
+}
+
+fn coefficients<'a>(
+    name: u8,
+    a: &'a [u16; Key::MOST_ERRORS],
+    b: &'a [u16; Key::MOST_ERRORS],
+) -> &'a [u16; Key::MOST_ERRORS]
+    ensures { λ r. ⌜ now r ≡ pick name (now (a .entry)) (now (b .entry)) ⌝ }
+{
+    if name == Station::A {
+        return a;
+    }
+    b
+}
+
 impl Station {
     // The names.
     pub const A: u8 = 1;
@@ -70,29 +116,6 @@ impl Station {
         Station { a, b: a }
     }
 
-    // The slot of a name: A's for 1, else B's.
-    fn slot(self, name: u8) -> Slot
-        ensures { λ r. ⌜ r ≡ slotOf (chosen name) self ⌝ }
-    {
-        if name == Station::A {
-            return self.a;
-        }
-        self.b
-    }
-
-    // The station with a slot put in the place of a name.
-    fn with(self, name: u8, slot: Slot) -> Station
-        ensures { λ r. ⌜ r ≡ put (chosen name) slot self ⌝ }
-    {
-        let mut station = self;
-        if name == Station::A {
-            station.a = slot;
-        } else {
-            station.b = slot;
-        }
-        station
-    }
-
     // A refusal changes nothing.
     fn refuse(self, number: u8) -> Reply
         ensures { λ r. ⌜ r ≡ refusal self number ⌝ }
@@ -104,14 +127,37 @@ impl Station {
         }
     }
 
-    // What the slot's call handed back, with its slot in its place.
-    fn place(self, name: u8, reply: slot::Reply) -> Reply
-        ensures { λ r. ⌜ r ≡ placed (chosen name) self reply ⌝ }
+    // Accepted, with a slot put in the place of the name.
+    fn place(self, name: u8, slot: Slot) -> Reply
+        ensures { λ r. ⌜ r ≡ placed name slot self ⌝ }
     {
+        let mut station = self;
+        if name == Station::A {
+            station.a = slot;
+        } else {
+            station.b = slot;
+        }
         Reply {
-            station: self.with(name, reply.slot),
-            refused: reply.refused,
-            ones: reply.ones,
+            station,
+            refused: 0,
+            ones: 0,
+        }
+    }
+
+    // Accepted, with the slot of the name published.
+    fn mark(self, name: u8) -> Reply
+        ensures { λ r. ⌜ r ≡ marked name self ⌝ }
+    {
+        let mut station = self;
+        if name == Station::A {
+            station.a.state = Slot::PUBLISHED;
+        } else {
+            station.b.state = Slot::PUBLISHED;
+        }
+        Reply {
+            station,
+            refused: 0,
+            ones: 0,
         }
     }
 
@@ -122,8 +168,12 @@ impl Station {
         if !is_name(name) {
             return self.refuse(35);
         }
-        let loaded = self.slot(name).load(file);
-        self.place(name, loaded)
+        let loaded = slot::load(byte(name, self.a.state, self.b.state), file);
+        if loaded.refused != 0 {
+            return self.refuse(loaded.refused);
+        }
+        let slot = loaded.slot;
+        self.place(name, slot)
     }
 
     // T is written from the output's start, made in the first m·t × ceil(n/8) bytes of work; 35, 21, 25, 34, 10, 11 or 23 on refusal.
@@ -137,8 +187,20 @@ impl Station {
         if !is_name(name) {
             return self.refuse(35);
         }
-        let published = self.slot(name).publish(out, work);
-        self.place(name, published)
+        let refused = slot::publish(
+            byte(name, self.a.state, self.b.state),
+            byte(name, self.a.key.m, self.b.key.m),
+            number(name, self.a.key.n, self.b.key.n),
+            number(name, self.a.key.t, self.b.key.t),
+            places(name, &self.a.key.support, &self.b.key.support),
+            coefficients(name, &self.a.key.g, &self.b.key.g),
+            out,
+            work,
+        );
+        if refused != 0 {
+            return self.refuse(refused);
+        }
+        self.mark(name)
     }
 
     // The pattern of a capsule is written from the output's start; 35, 21, 25, 34, 24, 8, 9, 10 or 13 on refusal.
@@ -149,7 +211,16 @@ impl Station {
         if !is_name(name) {
             return self.refuse(35);
         }
-        let opened = self.slot(name).open(capsule, out);
+        let opened = slot::open(
+            byte(name, self.a.state, self.b.state),
+            byte(name, self.a.key.m, self.b.key.m),
+            number(name, self.a.key.n, self.b.key.n),
+            number(name, self.a.key.t, self.b.key.t),
+            places(name, &self.a.key.support, &self.b.key.support),
+            coefficients(name, &self.a.key.g, &self.b.key.g),
+            capsule,
+            out,
+        );
         Reply {
             station: self,
             refused: opened.refused,
@@ -165,7 +236,16 @@ impl Station {
         if !is_name(name) {
             return self.refuse(35);
         }
-        let found = self.slot(name).read(word, out);
+        let found = slot::read(
+            byte(name, self.a.state, self.b.state),
+            byte(name, self.a.key.m, self.b.key.m),
+            number(name, self.a.key.n, self.b.key.n),
+            number(name, self.a.key.t, self.b.key.t),
+            places(name, &self.a.key.support, &self.b.key.support),
+            coefficients(name, &self.a.key.g, &self.b.key.g),
+            word,
+            out,
+        );
         Reply {
             station: self,
             refused: found.refused,
@@ -186,11 +266,20 @@ impl Station {
                 counts: [0; 256],
             };
         }
-        let reported = self.slot(name).report(capsules, records);
-        let counts = reported.counts;
+        let counted = slot::report(
+            byte(name, self.a.state, self.b.state),
+            byte(name, self.a.key.m, self.b.key.m),
+            number(name, self.a.key.n, self.b.key.n),
+            number(name, self.a.key.t, self.b.key.t),
+            places(name, &self.a.key.support, &self.b.key.support),
+            coefficients(name, &self.a.key.g, &self.b.key.g),
+            capsules,
+            records,
+        );
+        let counts = counted.counts;
         Reported {
             station: self,
-            refused: reported.refused,
+            refused: counted.refused,
             counts,
         }
     }
@@ -206,7 +295,16 @@ impl Station {
                 key: [0; 32],
             };
         }
-        let derived = self.slot(name).session(capsule, secret);
+        let derived = slot::session(
+            byte(name, self.a.state, self.b.state),
+            byte(name, self.a.key.m, self.b.key.m),
+            number(name, self.a.key.n, self.b.key.n),
+            number(name, self.a.key.t, self.b.key.t),
+            places(name, &self.a.key.support, &self.b.key.support),
+            coefficients(name, &self.a.key.g, &self.b.key.g),
+            capsule,
+            secret,
+        );
         let key = derived.key;
         Derived {
             station: self,
@@ -222,7 +320,10 @@ impl Station {
         if !is_name(name) {
             return self.refuse(35);
         }
-        let dropped = self.slot(name).drop();
-        self.place(name, dropped)
+        let refused = slot::drop(byte(name, self.a.state, self.b.state));
+        if refused != 0 {
+            return self.refuse(refused);
+        }
+        self.place(name, Slot::fresh())
     }
 }

@@ -1,5 +1,5 @@
 -- `station::is_name` meets its contract. Assumes nothing.
-use Rattle.station.proofs.Named.{known-first, known-second}
+use Rattle.station.proofs.Picked.{known-first, known-second}
 use Rattle.station.proofs.is_name.Statement.{statement}
 use Rattle.station.proofs.is_name.Tie as tie
 

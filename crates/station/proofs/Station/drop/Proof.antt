@@ -2,10 +2,10 @@
 use mathlib.Core.Path.{sym, ap, _∙_}
 use borrow.Author.Tests.{not-true, not-false}
 use Rattle.ledger.specs.Calls.{drop-key}
-use Rattle.slot.specs.Replies.{handed}
 use Rattle.slot.specs.declared.Slot.{Slot}
-use Rattle.station.specs.Chosen.{chosen, placed}
-use Rattle.station.proofs.Named.{reply-unknown, reply-placed}
+use Rattle.station.specs.Chosen.{placed}
+use Rattle.station.proofs.Picked.{slot-state}
+use Rattle.station.proofs.Named.{reply-unknown, drop-refused, drop-placed}
 use Rattle.station.proofs.Station.drop.Statement.{statement}
 use Rattle.station.proofs.Station.drop.Tie as tie
 
@@ -21,24 +21,40 @@ returns c =
     let a = i .before .args in
     c .refuse .ensures ∙ reply-unknown (a .self) (a .name) drop-key (sym (i .is-name .ensures) ∙ not-true _ (c .before .if1 .taken))
 
-slot-requires : tie.Need-slot-requires
-slot-requires c κs = tt
+byte-requires : tie.Need-byte-requires
+byte-requires c κs = tt
 
 drop-requires : tie.Need-drop-requires
 drop-requires c κs = tt
 
-place-requires : tie.Need-place-requires
-place-requires c κs = tt
+refuse-requires-2 : tie.Need-refuse-requires-2
+refuse-requires-2 c κs = tt
 
 returns-2 : tie.Need-returns-2
 returns-2 c =
-    let d = c .before in
+    let d = c .before .before in
     let e = d .before .before in
     let i = e .before in
     let a = i .before .args in
+    let k = sym (i .is-name .ensures) ∙ not-false _ (e .if1 .left) in
+    c .refuse2 .ensures ∙ drop-refused (a .self) (a .name) k (d .before .byte .ensures ∙ slot-state (a .name) (a .self)) (d .drop .ensures) (c .before .if2 .taken)
+
+fresh-requires : tie.Need-fresh-requires
+fresh-requires c κs = tt
+
+place-requires : tie.Need-place-requires
+place-requires c κs = tt
+
+returns-3 : tie.Need-returns-3
+returns-3 c =
+    let d = c .before .before .before in
+    let e = d .before .before in
+    let i = e .before in
+    let a = i .before .args in
+    let k = sym (i .is-name .ensures) ∙ not-false _ (e .if1 .left) in
     c .place .ensures
-    ∙ ap (placed (chosen (a .name)) (a .self)) (d .drop .ensures ∙ ap (λ (t : Slot). handed t drop-key .reply) (d .before .slot .ensures))
-    ∙ reply-placed (a .self) (a .name) drop-key (sym (i .is-name .ensures) ∙ not-false _ (e .if1 .left))
+    ∙ ap (λ (t : Slot). placed (a .name) t (a .self)) (c .before .fresh .ensures)
+    ∙ drop-placed (a .self) (a .name) k (d .before .byte .ensures ∙ slot-state (a .name) (a .self)) (d .drop .ensures) (c .before .before .if2 .left)
 
 pub drop-spec : {M : Type 1} → statement M
 drop-spec =
@@ -47,7 +63,10 @@ drop-spec =
     is-name-requires
     refuse-requires
     returns
-    slot-requires
+    byte-requires
     drop-requires
+    refuse-requires-2
+    returns-2
+    fresh-requires
     place-requires
-    returns-2)
+    returns-3)

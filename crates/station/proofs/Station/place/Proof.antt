@@ -1,18 +1,13 @@
 -- `station::Station::place` meets its contract. Assumes nothing.
-use mathlib.Core.Path.{ap}
-use Rattle.station.specs.Chosen.{placed}
-use Rattle.station.specs.declared.Station.{Station}
+use Rattle.station.proofs.Picked.{placed-first, placed-second}
 use Rattle.station.proofs.Station.place.Statement.{statement}
 use Rattle.station.proofs.Station.place.Tie as tie
 
-with-requires : tie.Need-with-requires
-with-requires c κs = tt
-
 returns : tie.Need-returns
-unfolding placed
-returns c =
-    let r = c .before .args .reply in
-    ap (λ (s : Station). record { station = s; refused = r .refused; ones = r .ones }) (c .with .ensures)
+returns c = placed-first _ _ _ (c .if1 .taken)
+
+returns-2 : tie.Need-returns-2
+returns-2 c = placed-second _ _ _ (c .if1 .left)
 
 pub place-spec : {M : Type 1} → statement M
-place-spec = tie.close (tie.spec with-requires returns)
+place-spec = tie.close (tie.spec returns returns-2)

@@ -1,11 +1,9 @@
 -- `station::Station::refuse` meets its contract. Assumes nothing.
 use mathlib.Core.Path.{refl}
-use Rattle.station.specs.Chosen.{refusal}
 use Rattle.station.proofs.Station.refuse.Statement.{statement}
 use Rattle.station.proofs.Station.refuse.Tie as tie
 
 returns : tie.Need-returns
-unfolding refusal
 returns c = refl
 
 pub refuse-spec : {M : Type 1} → statement M
