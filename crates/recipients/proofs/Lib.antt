@@ -1,3 +1,5 @@
 pub mod NameLaws
 pub mod Slotted
 pub mod Apart
+pub mod Simulation
+pub mod LedgersLaws
