@@ -3,3 +3,5 @@ pub mod Slotted
 pub mod Apart
 pub mod Simulation
 pub mod LedgersLaws
+pub mod Demands
+pub mod OneRecipient
