@@ -1,3 +1,4 @@
+pub mod Table
 pub mod NameLaws
 pub mod Slotted
 pub mod Apart
