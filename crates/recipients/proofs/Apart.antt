@@ -1,6 +1,6 @@
 -- Two recipients are apart: a slot, and the answers to the calls that name it, are those of that slot alone. Assumes nothing.
 use mathlib.Core.Path.{_≡_, refl, sym, ap, ap₂, _∙_}
-use mathlib.Core.Bool.{Bool, true, false, true≢false, not}
+use mathlib.Core.Bool.{true, false, true≢false, not}
 use mathlib.Core.List.{List, [], _∷_, map}
 use Rattle.ledger.specs.Slot.{Outcome}
 use Rattle.ledger.specs.Calls.{Call, run}
@@ -8,7 +8,7 @@ use Rattle.ledger.specs.Ledger.{ledgerAfter}
 use Rattle.ledger.specs.Demands.{keyHeld}
 use Rattle.recipients.specs.Names.{Name, NamedCall, naming, names, keep, leaveOut, callsOf}
 use Rattle.recipients.specs.Recipients.{unknown, Recipients}
-use Rattle.recipients.specs.Apart.{Answer, answerOf, transcript, transcriptOf, Alone, LeftOut, Apart}
+use Rattle.recipients.specs.Apart.{Answer, answerOf, transcript, transcriptOf, Apart}
 use Rattle.recipients.proofs.NameLaws.{by-bool, the-other, names-one, names-not, Addressed, one, nobody, addressed, keep-yes, keep-no, calls-named, calls-other, calls-left, calls-none}
 use Rattle.recipients.proofs.Slotted.{Slotted, named-slot, named-answer, nobody-call, other-slot}
 

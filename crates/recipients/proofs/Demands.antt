@@ -1,12 +1,12 @@
 -- Two recipients whose slots show what the definitions' do meet the demands. Assumes nothing.
 use Prim.Native.Nat.{ℕ, suc}
-use mathlib.Core.Path.{_≡_, refl, sym, ap, _∙_, subst}
+use mathlib.Core.Path.{_≡_, sym, ap, _∙_, subst}
 use mathlib.Core.Logic.{_↔_, inl, inr, ⊎-elim}
-use mathlib.Core.Bool.{Bool, true, false}
+use mathlib.Core.Bool.{Bool, true}
 use mathlib.Core.List.{List, [], _∷_}
-use mathlib.Core.Option.{Option, none, some}
+use mathlib.Core.Option.{none, some}
 use native.Mathlib.Omega.{arith}
-use Rattle.field.specs.Numbers.{firstOf, First, Clear}
+use Rattle.field.specs.Numbers.{First, Clear}
 use Rattle.field.specs.Numbers as Numbers
 use Rattle.key.specs.Keys.{Key}
 use Rattle.ledger.specs.Slot.{published, Slot, Held, heldBy, Outcome}
@@ -25,9 +25,9 @@ use Rattle.ledger.proofs.Reports.{import-report}
 use Rattle.ledger.proofs.Sessions.{session-keys}
 use Rattle.ledger.proofs.Exchange.{exchange-keys}
 use Rattle.recipients.specs.Names.{Name, nameOf, NamedCall, naming, callsOf}
-use Rattle.recipients.specs.Recipients.{namedConditions, unknown, Recipients, recipient, of, definitions}
+use Rattle.recipients.specs.Recipients.{unknown, Recipients, recipient, definitions}
 use Rattle.recipients.specs.Ledgers.{blanks}
-use Rattle.recipients.specs.Demands.{RefusesNamed, AfterNamed, AfterEveryNamedList, HoldsNamed, NamedDemands}
+use Rattle.recipients.specs.Demands.{RefusesNamed, AfterEveryNamedList, HoldsNamed, NamedDemands}
 use Rattle.recipients.proofs.NameLaws.{name-byte, Addressed, one, nobody, addressed}
 use Rattle.recipients.proofs.Slotted.{Slotted, definitions-slotted, of-both, nobody-call}
 use Rattle.recipients.proofs.Apart.{apart}

@@ -1,13 +1,12 @@
 -- The two ledgers: each is the ledger of the calls that name its recipient, and they agree with the slots. Assumes nothing.
-use Prim.Native.Nat.{ℕ}
 use mathlib.Core.Path.{_≡_, refl, sym, ap, ap₂, _∙_}
 use mathlib.Core.Bool.{true, false, true≢false}
 use mathlib.Core.List.{List, [], _∷_}
-use mathlib.Core.Option.{Option, none, some}
+use mathlib.Core.Option.{none, some}
 use Rattle.field.specs.Numbers.{firstOf}
 use Rattle.ledger.specs.Slot.{Held, Outcome}
 use Rattle.ledger.specs.Calls.{Call, conditionsOf, answered}
-use Rattle.ledger.specs.Ledger.{Ledger, heldIn, ledgerNumber, fed, ledgerAfter}
+use Rattle.ledger.specs.Ledger.{Ledger, heldIn, ledgerNumber, ledgerAfter}
 use Rattle.ledger.proofs.StepLaws.{step-number}
 use Rattle.ledger.proofs.LedgerLaws.{ledgerNext}
 use Rattle.ledger.proofs.Agreement.{Agree, agree-number, agree-step}
@@ -22,11 +21,11 @@ use Rattle.recipients.proofs.Simulation.{recipient-simulates}
 -- the conditions of a call that names x, and of one that names nobody
 pub conditions-one : (h : Name → Held) (x : Name) (d : Call) → namedConditions h (naming x d) ≡ (false, 35) ∷ conditionsOf (h x) d
 unfolding namedConditions
-conditions-one h x d = ap (λ (o : Option Name). elim o [ none ↦ (true, 35) ∷ [] | some y ↦ (false, 35) ∷ conditionsOf (h y) d ]) (name-byte x)
+conditions-one h x d = rw (name-byte x, namedConditions) refl
 
 pub conditions-nobody : (h : Name → Held) (c : NamedCall) → nameOf (c .name) ≡ none → namedConditions h c ≡ (true, 35) ∷ []
 unfolding namedConditions
-conditions-nobody h c e = ap (λ (o : Option Name). elim o [ none ↦ (true, 35) ∷ [] | some y ↦ (false, 35) ∷ conditionsOf (h y) (c .call) ]) e
+conditions-nobody h c e = rw (e, namedConditions) refl
 
 -- a call's number by the ledgers
 number-one : (l : Ledgers) (x : Name) (d : Call) → namedNumber l (naming x d) ≡ ledgerNumber (of x l) d
@@ -40,11 +39,11 @@ number-nobody l c e = ap firstOf (conditions-nobody (λ y. heldIn (of y l)) c e)
 -- what a call feeds
 fed-some : (l : Ledgers) (c : NamedCall) (x : Name) → nameOf (c .name) ≡ some x → fedNamed l c ≡ put x (ledgerNext (of x l) (c .call)) l
 unfolding fedNamed
-fed-some l c x e = ap (λ (o : Option Name). elim o [ none ↦ l | some y ↦ put y (ledgerNext (of y l) (c .call)) l ]) e
+fed-some l c x e = rw (e, fedNamed) refl
 
 fed-none : (l : Ledgers) (c : NamedCall) → nameOf (c .name) ≡ none → fedNamed l c ≡ l
 unfolding fedNamed
-fed-none l c e = ap (λ (o : Option Name). elim o [ none ↦ l | some y ↦ put y (ledgerNext (of y l) (c .call)) l ]) e
+fed-none l c e = rw (e, fedNamed) refl
 
 -- the ledger of x after a call that names x, and after another
 fed-one : (x : Name) (l : Ledgers) (c : NamedCall) → names x c ≡ true → of x (fedNamed l c) ≡ ledgerNext (of x l) (c .call)

@@ -1,6 +1,6 @@
 -- Nothing of what was claimed about one key is lost: demand 3's claim about every list of a slot's calls follows, for each
 -- recipient, from the claim about every list of calls over both. Assumes nothing.
-use mathlib.Core.Path.{_≡_, refl, sym, ap, _∙_, subst}
+use mathlib.Core.Path.{_≡_, refl, subst}
 use mathlib.Core.List.{List, [], _∷_, map}
 use Rattle.ledger.specs.Slot.{Outcome}
 use Rattle.ledger.specs.Calls.{Call, run}

@@ -1,15 +1,11 @@
 -- The calls that name one recipient show what the definitions' calls hand back. Assumes nothing.
-use Prim.Native.Nat.{ℕ, suc}
 use mathlib.Core.Path.{_≡_, refl, sym, ap, _∙_}
 use mathlib.Core.List.{List}
-use Rattle.ledger.specs.Slot.{Slot, Outcome}
+use Rattle.ledger.specs.Slot.{Outcome}
 use Rattle.ledger.specs.Slot as Definition
-use Rattle.ledger.specs.Publishing.{Publishing}
-use Rattle.ledger.specs.Questions.{Question}
 use Rattle.ledger.specs.Calls.{Call, publish, ask, step, run}
-use Rattle.ledger.specs.Systems.{System}
 use Rattle.ledger.proofs.StepLaws.{outcome}
-use Rattle.ledger.proofs.Simulation.{Simulates, seen, same-station, same-number, same-output, same-count, same-answer, same-free, run-fresh}
+use Rattle.ledger.proofs.Simulation.{Simulates, seen, run-fresh}
 use Rattle.recipients.specs.Names.{Name, NamedCall, naming, callsOf}
 use Rattle.recipients.specs.Recipients.{within, Recipients, recipient}
 use Rattle.recipients.proofs.NameLaws.{names-one}

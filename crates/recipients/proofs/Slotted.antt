@@ -1,14 +1,13 @@
 -- What is asked of two recipients: a slot for each name, and calls that go to the slot that they name. Assumes nothing.
-use Prim.Native.Nat.{ℕ}
 use mathlib.Core.Path.{_≡_, refl, sym, ap, _∙_}
 use mathlib.Core.Bool.{true, false, true≢false}
-use mathlib.Core.Option.{Option, none, some}
+use mathlib.Core.Option.{none, some}
 use Rattle.ledger.specs.Slot.{Outcome}
 use Rattle.ledger.specs.Calls.{Call}
 use Rattle.recipients.specs.Names.{Name, A, B, nameOf, NamedCall, naming, names}
 use Rattle.recipients.specs.Recipients.{unknown, within, called, Recipients, Both, of, put, definitions}
-use Rattle.recipients.specs.Apart.{Answer, answerOf}
-use Rattle.recipients.proofs.NameLaws.{name-byte, names-name, names-one, Addressed, one, nobody, addressed}
+use Rattle.recipients.specs.Apart.{answerOf}
+use Rattle.recipients.proofs.NameLaws.{names-name, names-one, Addressed, one, nobody, addressed}
 
 -- the fresh station has fresh slots; a slot that was put is found, and the other stays; a call is `called`
 pub record Slotted (r : Recipients) : Type 0 where
@@ -57,11 +56,11 @@ definitions-slotted =
 module _ {S T : Type 0} (slot : Name → T → S) (replace : Name → S → T → T) (call : S → Call → Outcome S) (s : T) (c : NamedCall) where
   called-some : (x : Name) → nameOf (c .name) ≡ some x → called slot replace call s c ≡ within (λ t. replace x t s) (call (slot x s) (c .call))
   unfolding called
-  called-some x e = ap (λ (o : Option Name). elim o [ none ↦ unknown s (c .call) | some x ↦ within (λ t. replace x t s) (call (slot x s) (c .call)) ]) e
+  called-some x e = rw (e, called) refl
 
   called-none : nameOf (c .name) ≡ none → called slot replace call s c ≡ unknown s (c .call)
   unfolding called
-  called-none e = ap (λ (o : Option Name). elim o [ none ↦ unknown s (c .call) | some x ↦ within (λ t. replace x t s) (call (slot x s) (c .call)) ]) e
+  called-none e = rw (e, called) refl
 
 module _ (r : Recipients) (p : Slotted r) where
   module _ (s : r .Stations) (c : NamedCall) where

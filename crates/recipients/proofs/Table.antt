@@ -2,7 +2,7 @@
 -- definitions. Assumes nothing.
 use Prim.Native.Nat.{ℕ}
 use mathlib.Core.Path.{_≡_, refl}
-use mathlib.Core.Bool.{true, false}
+use mathlib.Core.Bool.{false}
 use mathlib.Core.List.{List, [], _∷_, _++_, map, flatMap, zipWith}
 use mathlib.Core.Option.{some}
 use Rattle.bits.specs.Xor.{_⊕_}
@@ -31,12 +31,12 @@ use Rattle.ledger.specs.Calls.{Call, load, publish, ask, drop-key, conditionsOf
 use Rattle.ledger.specs.Ledger.{blank, heldIn, ledgerNumber, entered, fed}
 use Rattle.ledger.proofs.Table.{Answer, accepted, refused, answerBy, answerOf, answers, zeros}
 use Rattle.recipients.specs.Names.{A, B, byteOf, nameOf, NamedCall, named, naming}
-use Rattle.recipients.specs.Recipients.{Recipients, namedConditions, unknown, within, called, of, put, definitions}
+use Rattle.recipients.specs.Recipients.{namedConditions, unknown, within, called, of, put, definitions}
 use Rattle.recipients.specs.Ledgers.{blanks, namedNumber, fedNamed, ledgersAfter, expectedNamed}
 
 -- A has K1, published; K3 cannot be published for B; B has K2, and is not published; dropping A's key leaves B's
-unfoldable pub story : List (NamedCall × Answer)
-story =
+unfoldable pub rows : List (NamedCall × Answer)
+rows =
     (naming A (load (key-file K1)), accepted [] 0) ∷
     (naming B (publish (systematic (zeros 4) (zeros 4))), refused 21) ∷
     (naming B drop-key, refused 21) ∷
@@ -57,9 +57,6 @@ story =
     (naming A (load (key-file K1)), accepted [] 0) ∷
     (naming A (ask (open-capsule (0x03 ∷ []) (zeros 1))), refused 24) ∷ []
 
-unfoldable pub calls : List NamedCall
-calls = map (λ r. r .0) story
-
 -- calls of each kind, such as would be refused by 21, 22, 8 or 10, or accepted, under a name; under bytes that are no names
 unfoldable pub kinds : List Call
 kinds =
@@ -75,18 +72,24 @@ kinds =
     ask (session-key [] []) ∷
     drop-key ∷ []
 
-unfoldable pub nameless : List NamedCall
-nameless = flatMap (λ (b : ℕ). map (named b) kinds) (0 ∷ 3 ∷ 255 ∷ [])
+unfoldable pub nameless : List (NamedCall × Answer)
+nameless = flatMap (λ (b : ℕ). map (λ (c : Call). (named b c, refused 35)) kinds) (0 ∷ 3 ∷ 255 ∷ [])
 
--- the answers, the ledgers' numbers and their end; 35 for every nameless call, on a fresh station and after the list
+-- the rows, with nameless calls on the fresh station and on the last one
+unfoldable pub story : List (NamedCall × Answer)
+story = nameless ++ (rows ++ nameless)
+
+unfoldable pub calls : List NamedCall
+calls = map (λ r. r .0) story
+
+-- the answers, the ledgers' numbers and their end
 abbrev pub Story : Type 0
 Story =
     (answers (definitions .call) (definitions .fresh) calls ≡ map (λ r. r .1) story) ×
-    (expectedNamed blanks calls ≡ 0 ∷ 21 ∷ 21 ∷ 22 ∷ 0 ∷ 0 ∷ 23 ∷ 0 ∷ 24 ∷ 0 ∷ 0 ∷ 24 ∷ 0 ∷ 8 ∷ 0 ∷ 21 ∷ 0 ∷ 0 ∷ 24 ∷ []) ×
-    (ledgersAfter blanks calls ≡ record { a = record { key = some (parse K1); mark = false }; b = record { key = some (parse K2); mark = false } }) ×
-    (answers (definitions .call) (definitions .fresh) (nameless ++ (calls ++ nameless))
-        ≡ map (λ c. refused 35) nameless ++ (map (λ r. r .1) story ++ map (λ c. refused 35) nameless))
+    (expectedNamed blanks calls
+    ≡ map (λ r. 35) nameless ++ ((0 ∷ 21 ∷ 21 ∷ 22 ∷ 0 ∷ 0 ∷ 23 ∷ 0 ∷ 24 ∷ 0 ∷ 0 ∷ 24 ∷ 0 ∷ 8 ∷ 0 ∷ 21 ∷ 0 ∷ 0 ∷ 24 ∷ []) ++ map (λ r. 35) nameless)) ×
+    (ledgersAfter blanks calls ≡ record { a = record { key = some (parse K1); mark = false }; b = record { key = some (parse K2); mark = false } })
 
 pub story-holds : Story
-unfolding _⊕_ from every bytesFor bitAt unpack number pack ones weight fillerClear wellFormed eachWith xorRow dot firstOf isWidth isElement modulusOf polyMul reduced mulMod mul power lastBelow inv value sum same monic product someBelow someList hasSquare hasFactor inLimits pair elements parse twoBytes fileOf distinct goppaAt conditions fileConditions keyNumber reducible K1 K2 K1-with K3 entry inCode parityRow parityRows withRow findPivot clear withPivot columns echelon publicKey dependent written orElse firstRow corrects reading filled exactly opening unsound emptyKey fresh isEmpty isUnpublished heldBy capsuleBits found isNone publishChecks publishConditions freeBytes openConditions readConditions cut capsulesOf capsuleConditions recordOf recordsOf occurrences countsOf reportConditions sessionConditions loadingConditions loadedKey publicBuffer publishingConditions publication freedBytes answerBuffer questionConditions gives given answerSize over conditionsOf outputOf noAnswer made unless step run blank heldIn ledgerNumber entered fed answerBy answerOf answers zeros byteOf nameOf namedConditions unknown within called of put namedNumber fedNamed ledgersAfter expectedNamed story calls kinds nameless flatMap zipWith
-story-holds = (refl, refl, refl, refl)
+unfolding _⊕_ from every bytesFor bitAt unpack number pack ones weight fillerClear wellFormed eachWith xorRow dot firstOf isWidth isElement modulusOf polyMul reduced mulMod mul power lastBelow inv value sum same monic product someBelow someList hasSquare hasFactor inLimits pair elements parse twoBytes fileOf distinct goppaAt conditions fileConditions keyNumber reducible K1 K2 K1-with K3 entry inCode parityRow parityRows withRow findPivot clear withPivot columns echelon publicKey dependent written orElse firstRow corrects reading filled exactly opening unsound emptyKey fresh isEmpty isUnpublished heldBy capsuleBits found isNone publishChecks publishConditions freeBytes openConditions readConditions cut capsulesOf capsuleConditions recordOf recordsOf occurrences countsOf reportConditions sessionConditions loadingConditions loadedKey publicBuffer publishingConditions publication freedBytes answerBuffer questionConditions gives given answerSize over conditionsOf outputOf noAnswer made unless step run blank heldIn ledgerNumber entered fed answerBy answerOf answers zeros byteOf nameOf namedConditions unknown within called of put namedNumber fedNamed ledgersAfter expectedNamed rows kinds nameless story calls flatMap zipWith
+story-holds = (refl, refl, refl)
