@@ -1,6 +1,7 @@
 -- Names and their bytes; a call names one recipient or none; the calls of a list that name one. Assumes nothing.
 use Prim.Native.Nat.{ℕ, zero, suc}
 use mathlib.Core.Path.{_≡_, refl, sym, ap, _∙_}
+use mathlib.Core.Logic.{_↔_}
 use mathlib.Core.Bool.{Bool, true, false, true≢false, not, cond}
 use mathlib.Core.List.{List, [], _∷_, map}
 use mathlib.Core.Option.{none, some}
@@ -20,7 +21,7 @@ unfolding nameOf byteOf
 name-byte A = refl
 name-byte B = refl
 
-pub byte-one : (x y : Name) → byteOf x ≡ byteOf y → x ≡ y
+byte-one : (x y : Name) → byteOf x ≡ byteOf y → x ≡ y
 byte-one x y e = let q : some x ≡ some y = sym (name-byte x) ∙ ap nameOf e ∙ name-byte y in cc
 
 -- there are two names: what is not x is y, where y is not x
@@ -32,27 +33,21 @@ the-other B A A h i = refl
 the-other B A B h i = absurd (i refl)
 the-other B B z h i = absurd (h refl)
 
--- a call names x exactly when its byte gives x
+-- a call that names x has the byte of x, so it is the call to x, and does not name another
 module _ (x : Name) where
   pub names-name : (c : NamedCall) → names x c ≡ true → nameOf (c .name) ≡ some x
   unfolding names
   names-name c e = ap nameOf (eqb-true (c .name) (byteOf x) e) ∙ name-byte x
 
+  names-as : (c : NamedCall) → names x c ≡ true → c ≡ naming x (c .call)
+  unfolding names
+  names-as c e = ap (λ (b : ℕ). named b (c .call)) (eqb-true (c .name) (byteOf x) e)
+
   pub names-one : (d : Call) → names x (naming x d) ≡ true
   unfolding names
   names-one d = eq-eqb (byteOf x) (byteOf x) refl
 
-  -- and is then the call to x
-  pub names-as : (c : NamedCall) → names x c ≡ true → c ≡ naming x (c .call)
-  unfolding names
-  names-as c e = ap (λ (b : ℕ). named b (c .call)) (eqb-true (c .name) (byteOf x) e)
-
-  -- a call whose byte is no name names nobody, and none names two
-  pub names-nobody : (c : NamedCall) → nameOf (c .name) ≡ none → names x c ≡ false
-  unfolding names
-  names-nobody c h = ne-eqb (c .name) (byteOf x) (λ e. let q : none ≡ some x = sym h ∙ ap nameOf e ∙ name-byte x in differ (cc))
-
-  pub names-other : (y : Name) → (x ≡ y → ⊥) → (d : Call) → names y (naming x d) ≡ false
+  names-other : (y : Name) → (x ≡ y → ⊥) → (d : Call) → names y (naming x d) ≡ false
   unfolding names
   names-other y h d = ne-eqb (byteOf x) (byteOf y) (λ e. h (byte-one x y e))
 
@@ -73,6 +68,14 @@ addressed c = go (c .name) (c .call)
     go (suc zero) d = one A d
     go (suc (suc zero)) d = one B d
     go (suc (suc (suc b))) d = nobody refl
+
+-- a call names x exactly when its byte gives x
+pub names-exactly : (x : Name) (c : NamedCall) → (names x c ≡ true) ↔ (nameOf (c .name) ≡ some x)
+names-exactly x c = (names-name x c, go (addressed c))
+  where
+    go : {c : NamedCall} → Addressed c → nameOf (c .name) ≡ some x → names x c ≡ true
+    go (one y d) e = let q : some y ≡ some x = sym (name-byte y) ∙ e in let i : y ≡ x = cc in ap (λ (z : Name). names x (naming z d)) i ∙ names-one x d
+    go (nobody h) e = let q : none ≡ some x = sym h ∙ e in differ (cc)
 
 -- What is kept of a list.
 module _ {X : Type 0} (p : X → Bool) where

@@ -13,27 +13,27 @@ use Rattle.recipients.proofs.Slotted.{Slotted, named-call}
 use Rattle.recipients.proofs.Apart.{run-named}
 
 module _ (r : Recipients) (p : Slotted r) (sim : Simulates (r .slots)) (x : Name) where
-  -- a call that names x
+  -- a call that names x is its slot's
   module _ (s : r .Stations) (c : Call) where
-    goes : r .call s (naming x c) ≡ within (λ t. r .put x t s) (r .slots .call (r .slot x s) c)
-    goes = named-call r p s (naming x c) x (names-one x c)
+    naming-call : r .call s (naming x c) ≡ within (λ t. r .put x t s) (r .slots .call (r .slot x s) c)
+    naming-call = named-call r p s (naming x c) x (names-one x c)
 
-    goes-number : r .call s (naming x c) .number ≡ r .slots .call (r .slot x s) c .number
+    naming-number : r .call s (naming x c) .number ≡ r .slots .call (r .slot x s) c .number
     unfolding within
-    goes-number = ap (λ (o : Outcome (r .Stations)). o .number) goes
+    naming-number = ap (λ (o : Outcome (r .Stations)). o .number) naming-call
 
-    goes-station : (t : r .slots .Stations) → r .slots .call (r .slot x s) c .station ≡ t → r .call s (naming x c) .station ≡ r .put x t s
+    naming-station : (t : r .slots .Stations) → r .slots .call (r .slot x s) c .station ≡ t → r .call s (naming x c) .station ≡ r .put x t s
     unfolding within
-    goes-station t e = ap (λ (o : Outcome (r .Stations)). o .station) goes ∙ ap (λ u. r .put x u s) e
+    naming-station t e = ap (λ (o : Outcome (r .Stations)). o .station) naming-call ∙ ap (λ u. r .put x u s) e
 
     -- where its slot stays, the station does
-    goes-stays : r .slots .call (r .slot x s) c .station ≡ r .slot x s → r .call s (naming x c) .station ≡ s
-    goes-stays e = goes-station (r .slot x s) e ∙ p .same x s
+    naming-stays : r .slots .call (r .slot x s) c .station ≡ r .slot x s → r .call s (naming x c) .station ≡ s
+    naming-stays e = naming-station (r .slot x s) e ∙ p .same x s
 
-    goes-seen : seen (recipient r x) (r .call s (naming x c)) ≡ seen (r .slots) (r .slots .call (r .slot x s) c)
+    naming-seen : seen (recipient r x) (r .call s (naming x c)) ≡ seen (r .slots) (r .slots .call (r .slot x s) c)
     unfolding seen within
-    goes-seen =
-        ap (λ (o : Outcome (r .Stations)). seen (recipient r x) o) goes
+    naming-seen =
+        ap (λ (o : Outcome (r .Stations)). seen (recipient r x) o) naming-call
         ∙ outcome (ap (r .slots .view) (p .got x (r .slots .call (r .slot x s) c .station) s)) refl refl refl refl refl
 
   pub recipient-simulates : Simulates (recipient r x)
@@ -41,10 +41,10 @@ module _ (r : Recipients) (p : Slotted r) (sim : Simulates (r .slots)) (x : Name
       record {
         fresh = ap (r .slots .view) (p .fresh x) ∙ sim .fresh;
         marked = λ s. ap (r .slots .view) (p .got x (r .slots .marked (r .slot x s)) s) ∙ sim .marked (r .slot x s);
-        steps = λ s c. goes-seen s c ∙ sim .steps (r .slot x s) c;
-        stays = λ s c n e. goes-stays s c (sim .stays (r .slot x s) c n (sym (goes-number s c) ∙ e));
-        marks = λ s f e. goes-station s (publish f) _ (sim .marks (r .slot x s) f (sym (goes-number s (publish f)) ∙ e));
-        leaves = λ s q. goes-stays s (ask q) (sim .leaves (r .slot x s) q);
+        steps = λ s c. naming-seen s c ∙ sim .steps (r .slot x s) c;
+        stays = λ s c n e. naming-stays s c (sim .stays (r .slot x s) c n (sym (naming-number s c) ∙ e));
+        marks = λ s f e. naming-station s (publish f) _ (sim .marks (r .slot x s) f (sym (naming-number s (publish f)) ∙ e));
+        leaves = λ s q. naming-stays s (ask q) (sim .leaves (r .slot x s) q);
       }
 
   -- after every list of calls over both, x has the definitions' slot after the calls that name x
