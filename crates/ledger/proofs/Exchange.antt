@@ -1,14 +1,13 @@
 -- Exchange keys: 34 at publish and at every question that opens, directly after 25, and nowhere else. Assumes nothing.
 use Prim.Native.Nat.{ℕ, suc, _<_}
 use mathlib.Core.Path.{_≡_, refl, sym, ap, _∙_}
-use mathlib.Core.Bool.{Bool, true, false, false≢true, true≢false, not, cond, _&&_}
+use mathlib.Core.Bool.{Bool, true, false, false≢true, true≢false, not, cond}
 use mathlib.Core.List.{List, [], _∷_}
 use mathlib.Core.Option.{none, some}
 use native.Mathlib.Nat.{mul-pos}
 use native.Mathlib.Omega.{arith}
-use lib.Dec.{eqb, ltb}
-use borrow.Author.Tests.{eqb-false, lt-ltb, not-true}
-use Rattle.bits.proofs.Lists.{and-left, and-right}
+use lib.Dec.{ltb}
+use borrow.Author.Tests.{lt-ltb}
 use Rattle.field.specs.Numbers.{firstOf}
 use Rattle.field.proofs.Numbers.{first-clear}
 use Rattle.key.specs.Keys.{Key, fileOf, conditions, fileConditions, keyNumber, reducible}
@@ -30,27 +29,13 @@ use Rattle.ledger.specs.Ledger.{Ledger, blank}
 use Rattle.ledger.specs.Systems.{System, definitions}
 use Rattle.ledger.specs.Demands.{at, keyHeld}
 use Rattle.ledger.specs.Exchange.{opens, exchanges, ExchangeKeys}
+use Rattle.ledger.proofs.Numbers.{without, without-first}
 use Rattle.ledger.proofs.StepLaws.{outcome, step-number, load-station}
 use Rattle.ledger.proofs.Agreement.{Agree, nothing, held, marked, sound-held, agree-run}
 use Rattle.ledger.proofs.Demand2.{at-held}
 use Rattle.ledger.proofs.Demand3.{differ}
 use Rattle.ledger.proofs.Simulation.{Simulates, definitions-simulate, same-number, same-station, run-fresh, demands}
 use Rattle.ledger.proofs.CodeWords.{reads}
-
--- no condition of the list has the number n, so that it is not the first that holds
-unfoldable without : ℕ → List (Bool × ℕ) → Bool
-without n [] = true
-without n (c ∷ cs) = not (eqb (c .1) n) && without n cs
-
-without-first : (n : ℕ) (cs : List (Bool × ℕ)) → without (suc n) cs ≡ true → firstOf cs ≡ suc n → ⊥
-unfolding without firstOf
-without-first n [] w e = omega arith
-without-first n (c ∷ cs) w e =
-    go (c .0) (c .1) (and-left (not (eqb (c .1) (suc n))) (without (suc n) cs) w) (without-first n cs (and-right (not (eqb (c .1) (suc n))) (without (suc n) cs) w)) e
-  where
-    go : (b : Bool) (k : ℕ) → not (eqb k (suc n)) ≡ true → (firstOf cs ≡ suc n → ⊥) → firstOf ((b, k) ∷ cs) ≡ suc n → ⊥
-    go true k h ih e = eqb-false k (suc n) (not-true _ h) e
-    go false k h ih e = ih e
 
 -- the calls that exchange begin with 21, 25, 34, and have 34 once
 record Begins (h : Held) (c : Call) : Type 0 where

@@ -1,5 +1,6 @@
 pub mod Table
 pub mod Forms
+pub mod Numbers
 pub mod StepLaws
 pub mod LedgerLaws
 pub mod Demand1

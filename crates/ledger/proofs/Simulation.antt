@@ -11,8 +11,9 @@ use Rattle.ledger.specs.Slot as Definition
 use Rattle.ledger.specs.Publishing.{Publishing, systematic}
 use Rattle.ledger.specs.Questions.{Question, open-capsule, read-word}
 use Rattle.ledger.specs.Calls.{Call, publish, ask, step, run, answered}
+use Rattle.ledger.specs.Ledger.{blank, ledgerAfter}
 use Rattle.ledger.specs.Systems.{System, definitions}
-use Rattle.ledger.specs.Demands.{capsuleOf, lockAnswer, Decides, Demand1, Demand2, RoundTrips, AfterEveryList, Demands}
+use Rattle.ledger.specs.Demands.{capsuleOf, lockAnswer, Decides, Demand1, Demand2, RoundTrips, After, AfterEveryList, Demands}
 use Rattle.ledger.proofs.StepLaws.{outcome, publish-station, question-station}
 use Rattle.ledger.proofs.StepLaws as Step
 use Rattle.ledger.proofs.Demand1 as Definitions1
@@ -143,16 +144,19 @@ module _ (sys : System) (sim : Simulates sys) where
             ∙ d .opened-locked (sys .view s) capsule out p bytes (sym (same-number s (ask (open-capsule capsule out))) ∙ e);
       }
 
-  after-every-list : AfterEveryList sys
-  after-every-list calls =
-      let s = run (sys .call) (sys .fresh) calls in
-      let a = rw (← run-fresh calls) at (Definitions3.after-every-list calls) in
+  -- after a list of calls, on every station that shows the definitions' slot after it
+  pub after-shown : (calls : List Call) (s : sys .Stations) → sys .view s ≡ run step Definition.fresh calls → After sys calls s (ledgerAfter blank calls)
+  after-shown calls s v =
+      let a = rw (← v) at (Definitions3.after-every-list calls) in
       record {
         key = a .key;
         numbers = same-answered (sys .fresh) calls ∙ ap (λ (t : Slot). answered step t calls) (sim .fresh) ∙ a .numbers;
         opening = λ k e m. let o = a .opening k e m in (o .0, o .1, o .2, λ capsule out w long. decides s (ask (open-capsule capsule out)) _ _ out (o .3 capsule out w long));
         reading = λ k word out e w long. decides s (ask (read-word word out)) _ _ out (a .reading k word out e w long);
       }
+
+  after-every-list : AfterEveryList sys
+  after-every-list calls = after-shown calls (run (sys .call) (sys .fresh) calls) (run-fresh calls)
 
   pub demands : Demands sys
   demands = record { demand-1 = demand-1; demand-2 = demand-2; after-every-list = after-every-list }

@@ -25,7 +25,7 @@ use Rattle.code.specs.Publish.{capsuleBits, publishChecks, publishConditions, f
 use Rattle.decoder.specs.Calls.{found, isNone, openConditions, readConditions}
 use Rattle.records.specs.Records.{cut, capsulesOf, capsuleConditions, recordOf, recordsOf, occurrences, countsOf, reportConditions}
 use Rattle.session.specs.Session.{sessionConditions}
-use Rattle.ledger.specs.Slot.{State, empty, loaded, published, Slot, emptyKey, fresh, isEmpty, isUnpublished, heldBy, Result}
+use Rattle.ledger.specs.Slot.{State, empty, loaded, published, Slot, emptyKey, fresh, isEmpty, isUnpublished, heldBy, Outcome}
 use Rattle.ledger.specs.Loading.{key-file, loadingConditions, loadedKey}
 use Rattle.ledger.specs.Publishing.{systematic, publicBuffer, publishingConditions, publication, freedBytes}
 use Rattle.ledger.specs.Questions.{open-capsule, read-word, report, session-key, answerBuffer, questionConditions, gives, given, answerSize}
@@ -56,7 +56,7 @@ unfoldable pub answerBy : ℕ → List ℕ → ℕ → Answer
 answerBy zero out count = accepted out count
 answerBy (suc n) out count = refused (suc n)
 
-unfoldable pub answerOf : Result → Answer
+unfoldable pub answerOf : {S : Type 0} → Outcome S → Answer
 answerOf r = answerBy (r .number) (r .output) (r .count)
 
 unfoldable pub lockAnswer : ℕ → ℕ → ℕ → List ℕ → List ℕ → List ℕ → Answer
@@ -262,9 +262,9 @@ reports =
     (counts two-bytes (ask (report (0x00 ∷ 0x10 ∷ 0x00 ∷ []) (zeros 2))), numbers 256 (0 ∷ 1 ∷ 1 ∷ 0 ∷ [])) ∷ []
 
 -- A list of calls with each call's answer; the first key that is published has the element 0.
-unfoldable pub answers : Slot → List Call → List Answer
-answers s [] = []
-answers s (c ∷ cs) = answerOf (step s c) ∷ answers (step s c .station) cs
+unfoldable pub answers : {S C : Type 0} → (S → C → Outcome S) → S → List C → List Answer
+answers call s [] = []
+answers call s (c ∷ cs) = answerOf (call s c) ∷ answers call (call s c .station) cs
 
 unfoldable pub story : List (Call × Answer)
 story =
@@ -306,7 +306,7 @@ calls = map (λ r. r .0) story
 -- the answers, the ledger's numbers and its end
 abbrev pub Story : Type 0
 Story =
-    (answers fresh calls ≡ map (λ r. r .1) story) ×
+    (answers step fresh calls ≡ map (λ r. r .1) story) ×
     (expected blank calls ≡ 21 ∷ 21 ∷ 21 ∷ 21 ∷ 0 ∷ 34 ∷ 34 ∷ 0 ∷ 34 ∷ 34 ∷ 0 ∷ 0 ∷ 10 ∷ 11 ∷ 0 ∷ 0 ∷ 10 ∷ 0 ∷ 14 ∷ 0 ∷ 13 ∷ 31 ∷ 0 ∷ 33 ∷ 0 ∷ 0 ∷ 0 ∷ 24 ∷ 24 ∷ 24 ∷ 0 ∷ []) ×
     (ledgerAfter blank calls ≡ record { key = some (parse K1); mark = true })
 
