@@ -1,5 +1,5 @@
 // The calls under C names; include/shearcotter.h declares them. What each call answers is what the crates below answer. Where a
-// call leaves the station or its key, the reply takes the caller's own: one copy less.
+// call leaves the station or its keys, the reply takes the caller's own: one copy less.
 use boundary::Element;
 use boundary::Shape;
 use boundary::as_element;
@@ -20,7 +20,8 @@ ghost use Rattle.ledger.specs.Loading.{key-file};
 ghost use Rattle.ledger.specs.Publishing.{systematic};
 ghost use Rattle.ledger.specs.Questions.{open-capsule, read-word, report, session-key};
 ghost use Rattle.ledger.specs.Calls.{load, publish, ask, drop-key};
-ghost use Rattle.station.specs.Replies.{freshStation, handed, reportedOf, derivedOf};
+ghost use Rattle.recipients.specs.Names.{named};
+ghost use Rattle.station.specs.Replies.{freshStation, handed, replyOf, reportedOf, derivedOf};
 ghost use Rattle.boundary.specs.Boundary.{asElement, asShape};
 
 // The sum of two elements; 1 or 4 on refusal.
@@ -91,7 +92,7 @@ pub extern "C" fn shearcotter_shake256(input: &[u8], out: &mut [u8])
     shake::shake256(input, out);
 }
 
-// The empty station.
+// The station with two empty slots.
 #[no_mangle]
 pub extern "C" fn shearcotter_fresh() -> Station
     ensures { λ r. ⌜ r ≡ freshStation ⌝ }
@@ -99,12 +100,12 @@ pub extern "C" fn shearcotter_fresh() -> Station
     Station::fresh()
 }
 
-// The file's key is kept; 22, 1, 2, 3, 4, 5, 6 or 7 on refusal.
+// The file's key is kept; 35, 22, 1, 2, 3, 4, 5, 6 or 7 on refusal.
 #[no_mangle]
-pub extern "C" fn shearcotter_load(own: Station, file: &[u8]) -> Reply
-    ensures { λ r. ⌜ r ≡ handed own (load (key-file (now (file .entry)))) .reply ⌝ }
+pub extern "C" fn shearcotter_load(own: Station, name: u8, file: &[u8]) -> Reply
+    ensures { λ r. ⌜ r ≡ replyOf (handed own (named name (load (key-file (now (file .entry)))))) ⌝ }
 {
-    let loaded = own.load(file);
+    let loaded = own.load(name, file);
     if loaded.refused != 0 {
         return Reply {
             station: own,
@@ -115,19 +116,25 @@ pub extern "C" fn shearcotter_load(own: Station, file: &[u8]) -> Reply
     loaded
 }
 
-// T is written from the output's start, made in the first m·t × ceil(n/8) bytes of work; 21, 25, 34, 10, 11 or 23 on refusal.
-// All other bytes of work keep their contents, and these too under 21, 25, 34, 10 and 11.
+// T is written from the output's start, made in the first m·t × ceil(n/8) bytes of work; 35, 21, 25, 34, 10, 11 or 23 on refusal.
+// All other bytes of work keep their contents, and these too under 35, 21, 25, 34, 10 and 11.
 #[no_mangle]
-pub extern "C" fn shearcotter_publish(own: Station, out: &mut [u8], work: &mut [u8]) -> Reply
-    ensures reply { λ r. ⌜ r ≡ handed own (publish (systematic (now (out .entry)) (now (work .entry)))) .reply ⌝ }
-    ensures output { λ _. ⌜ now (out .exit) ≡ handed own (publish (systematic (now (out .entry)) (now (work .entry)))) .output ⌝ }
-    ensures workspace { λ _. ⌜ (let f = handed own (publish (systematic (now (out .entry)) (now (work .entry)))) .free in
+pub extern "C" fn shearcotter_publish(
+    own: Station,
+    name: u8,
+    out: &mut [u8],
+    work: &mut [u8],
+) -> Reply
+    ensures reply { λ r. ⌜ r ≡ replyOf (handed own (named name (publish (systematic (now (out .entry)) (now (work .entry)))))) ⌝ }
+    ensures output { λ _. ⌜ now (out .exit) ≡ handed own (named name (publish (systematic (now (out .entry)) (now (work .entry))))) .output ⌝ }
+    ensures workspace { λ _. ⌜ (let f = handed own (named name (publish (systematic (now (out .entry)) (now (work .entry))))) .free in
         drop f (now (work .exit)) ≡ drop f (now (work .entry))) ⌝ }
 {
-    let published = own.publish(out, work);
+    let published = own.publish(name, out, work);
     let next = published.station;
     let mut station = own;
-    station.state = next.state;
+    station.a.state = next.a.state;
+    station.b.state = next.b.state;
     Reply {
         station,
         refused: published.refused,
@@ -135,13 +142,13 @@ pub extern "C" fn shearcotter_publish(own: Station, out: &mut [u8], work: &mut [
     }
 }
 
-// The pattern of a capsule is written from the output's start; 21, 25, 34, 24, 8, 9, 10 or 13 on refusal.
+// The pattern of a capsule is written from the output's start; 35, 21, 25, 34, 24, 8, 9, 10 or 13 on refusal.
 #[no_mangle]
-pub extern "C" fn shearcotter_open(own: Station, capsule: &[u8], out: &mut [u8]) -> Reply
-    ensures reply { λ r. ⌜ r ≡ handed own (ask (open-capsule (now (capsule .entry)) (now (out .entry)))) .reply ⌝ }
-    ensures output { λ _. ⌜ now (out .exit) ≡ handed own (ask (open-capsule (now (capsule .entry)) (now (out .entry)))) .output ⌝ }
+pub extern "C" fn shearcotter_open(own: Station, name: u8, capsule: &[u8], out: &mut [u8]) -> Reply
+    ensures reply { λ r. ⌜ r ≡ replyOf (handed own (named name (ask (open-capsule (now (capsule .entry)) (now (out .entry)))))) ⌝ }
+    ensures output { λ _. ⌜ now (out .exit) ≡ handed own (named name (ask (open-capsule (now (capsule .entry)) (now (out .entry))))) .output ⌝ }
 {
-    let opened = own.open(capsule, out);
+    let opened = own.open(name, capsule, out);
     Reply {
         station: own,
         refused: opened.refused,
@@ -149,13 +156,13 @@ pub extern "C" fn shearcotter_open(own: Station, capsule: &[u8], out: &mut [u8])
     }
 }
 
-// The pattern of a word is written from the output's start; 21, 25, 8, 9, 10 or 14 on refusal.
+// The pattern of a word is written from the output's start; 35, 21, 25, 8, 9, 10 or 14 on refusal.
 #[no_mangle]
-pub extern "C" fn shearcotter_read(own: Station, word: &[u8], out: &mut [u8]) -> Reply
-    ensures reply { λ r. ⌜ r ≡ handed own (ask (read-word (now (word .entry)) (now (out .entry)))) .reply ⌝ }
-    ensures output { λ _. ⌜ now (out .exit) ≡ handed own (ask (read-word (now (word .entry)) (now (out .entry)))) .output ⌝ }
+pub extern "C" fn shearcotter_read(own: Station, name: u8, word: &[u8], out: &mut [u8]) -> Reply
+    ensures reply { λ r. ⌜ r ≡ replyOf (handed own (named name (ask (read-word (now (word .entry)) (now (out .entry)))))) ⌝ }
+    ensures output { λ _. ⌜ now (out .exit) ≡ handed own (named name (ask (read-word (now (word .entry)) (now (out .entry))))) .output ⌝ }
 {
-    let found = own.read(word, out);
+    let found = own.read(name, word, out);
     Reply {
         station: own,
         refused: found.refused,
@@ -163,14 +170,19 @@ pub extern "C" fn shearcotter_read(own: Station, word: &[u8], out: &mut [u8]) ->
     }
 }
 
-// The record of each capsule is written from the record buffer's start, and the records are counted by their value; 21, 25, 34, 24
-// or 31 on refusal.
+// The record of each capsule is written from the record buffer's start, and the records are counted by their value; 35, 21, 25, 34,
+// 24 or 31 on refusal.
 #[no_mangle]
-pub extern "C" fn shearcotter_report(own: Station, capsules: &[u8], records: &mut [u8]) -> Reported
-    ensures reply { λ r. ⌜ r ≡ reportedOf (handed own (ask (report (now (capsules .entry)) (now (records .entry))))) ⌝ }
-    ensures output { λ _. ⌜ now (records .exit) ≡ handed own (ask (report (now (capsules .entry)) (now (records .entry)))) .output ⌝ }
+pub extern "C" fn shearcotter_report(
+    own: Station,
+    name: u8,
+    capsules: &[u8],
+    records: &mut [u8],
+) -> Reported
+    ensures reply { λ r. ⌜ r ≡ reportedOf (handed own (named name (ask (report (now (capsules .entry)) (now (records .entry)))))) ⌝ }
+    ensures output { λ _. ⌜ now (records .exit) ≡ handed own (named name (ask (report (now (capsules .entry)) (now (records .entry))))) .output ⌝ }
 {
-    let reported = own.report(capsules, records);
+    let reported = own.report(name, capsules, records);
     let counts = reported.counts;
     Reported {
         station: own,
@@ -179,12 +191,17 @@ pub extern "C" fn shearcotter_report(own: Station, capsules: &[u8], records: &mu
     }
 }
 
-// The session key of a capsule, with the secret for one that open refuses with 13; 21, 25, 34, 24, 8, 9 or 33 on refusal.
+// The session key of a capsule, with the secret for one that open refuses with 13; 35, 21, 25, 34, 24, 8, 9 or 33 on refusal.
 #[no_mangle]
-pub extern "C" fn shearcotter_session(own: Station, capsule: &[u8], secret: &[u8]) -> Derived
-    ensures { λ r. ⌜ r ≡ derivedOf (handed own (ask (session-key (now (capsule .entry)) (now (secret .entry))))) ⌝ }
+pub extern "C" fn shearcotter_session(
+    own: Station,
+    name: u8,
+    capsule: &[u8],
+    secret: &[u8],
+) -> Derived
+    ensures { λ r. ⌜ r ≡ derivedOf (handed own (named name (ask (session-key (now (capsule .entry)) (now (secret .entry)))))) ⌝ }
 {
-    let derived = own.session(capsule, secret);
+    let derived = own.session(name, capsule, secret);
     let key = derived.key;
     Derived {
         station: own,
@@ -193,10 +210,18 @@ pub extern "C" fn shearcotter_session(own: Station, capsule: &[u8], secret: &[u8
     }
 }
 
-// Afterwards the station is a fresh one; 21 on refusal.
+// Afterwards the slot that is named is a fresh one; 35 or 21 on refusal.
 #[no_mangle]
-pub extern "C" fn shearcotter_drop(own: Station) -> Reply
-    ensures { λ r. ⌜ r ≡ handed own drop-key .reply ⌝ }
+pub extern "C" fn shearcotter_drop(own: Station, name: u8) -> Reply
+    ensures { λ r. ⌜ r ≡ replyOf (handed own (named name drop-key)) ⌝ }
 {
-    own.drop()
+    let dropped = own.drop(name);
+    if dropped.refused != 0 {
+        return Reply {
+            station: own,
+            refused: dropped.refused,
+            ones: 0,
+        };
+    }
+    dropped
 }

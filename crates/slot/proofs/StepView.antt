@@ -10,6 +10,7 @@ use Rattle.key.proofs.Filled.{kept-keep}
 use Rattle.field.specs.Numbers.{firstOf}
 use Rattle.ledger.specs.Slot.{loaded, emptyKey, fresh, heldBy, Result}
 use Rattle.ledger.specs.Loading.{Loading, key-file, loadedKey}
+use Rattle.ledger.specs.Publishing.{Publishing}
 use Rattle.ledger.specs.Questions.{Question}
 use Rattle.ledger.specs.Calls.{Call, load, publish, ask, drop-key, conditionsOf, made, step}
 use Rattle.ledger.proofs.StepLaws.{outcome}
@@ -83,6 +84,15 @@ unfolding acceptance
 accepted-slot s c e =
     ap (λ (r : Reply). r .slot)
     (sym (reply-accepted s c (sym (Step.step-number (view s) c) ∙ sym (same s c .number) ∙ e) refl))
+
+-- publish leaves the key, a question the slot
+pub publish-key : (s : Slot) (p : Publishing) → handed s (publish p) .reply .slot .key ≡ s .key
+unfolding moved refusal
+publish-key s p = go (handed s (publish p) .reply .refused) refl
+  where
+    go : (n : ℕ) → handed s (publish p) .reply .refused ≡ n → handed s (publish p) .reply .slot .key ≡ s .key
+    go zero e = ap (λ (t : Slot). t .key) (accepted-slot s (publish p) e)
+    go (suc n) e = ap (λ (r : Reply). r .slot .key) (refused-reply s (publish p) n e)
 
 pub question-left : (s : Slot) (q : Question) → handed s (ask q) .reply .slot ≡ s
 unfolding moved refusal

@@ -1,11 +1,12 @@
 -- What a call hands back, by its byte: 35 where that is no name, else what the slot's call hands back. Assumes nothing.
 use Prim.Native.Nat.{ℕ, zero, suc}
 use mathlib.Core.Path.{_≡_, refl, sym, ap, _∙_}
-use mathlib.Core.Bool.{true, false, true≢false}
+use mathlib.Core.Bool.{Bool, true, false, true≢false}
 use mathlib.Core.List.{List}
 use native.Mathlib.Omega.{arith}
 use borrow.Author.Tests.{ne-eqb}
 use lib.ListN.{drop}
+use Rattle.key.specs.declared.kept.Key.{Key}
 use Rattle.ledger.specs.Slot.{heldBy, Outcome}
 use Rattle.ledger.specs.Loading.{Loading}
 use Rattle.ledger.specs.Publishing.{Publishing}
@@ -16,7 +17,7 @@ use Rattle.slot.specs.Replies as Slots
 use Rattle.slot.specs.Parts.{keyless, loadedOf}
 use Rattle.slot.specs.declared.Slot.{Slot}
 use Rattle.slot.specs.declared.Loaded.{Loaded}
-use Rattle.slot.proofs.StepView.{refused-reply, accepted-reply, state-number, question-left}
+use Rattle.slot.proofs.StepView.{refused-reply, accepted-reply, state-number, publish-key, question-left}
 use Rattle.recipients.specs.Names.{Name, A, B, nameOf, named}
 use Rattle.recipients.specs.Recipients.{unknown, within, called}
 use Rattle.station.specs.Replies.{slotOf, put, handed, replyOf, reportedOf, derivedOf}
@@ -175,3 +176,32 @@ module _ (s : Station) (b : ℕ) (q : Question) (h : known b ≡ true) where
       record { station = s; refused = r .reply .refused; key = r .answer } ≡ derivedOf (handed s (named b (ask q))))
   unfolding derivedOf within outcomeOf
   derived-left = ap derivedOf (sym handed-left)
+
+-- so it does where the byte is no name
+pub question-stays : (s : Station) (b : ℕ) (q : Question) → handed s (named b (ask q)) .station ≡ s
+unfolding within unknown
+question-stays s b q = go (known b) refl
+  where
+    go : (x : Bool) → known b ≡ x → handed s (named b (ask q)) .station ≡ s
+    go true h = ap (λ (r : Outcome Station). r .station) (handed-left s b q h)
+    go false h = ap (λ (r : Outcome Station). r .station) (handed-unknown s b (ask q) h)
+
+-- the states of t, the keys of s
+abbrev pub keysOf : Station → Station → Station
+keysOf s t = record { a = record { state = t .a .state; key = s .a .key }; b = record { state = t .b .state; key = s .b .key } }
+
+-- publish leaves the keys
+keys-put : (x : Name) (s : Station) (t : Slot) → t .key ≡ slotOf x s .key → keysOf s (put x t s) ≡ put x t s
+unfolding put slotOf
+keys-put A s t e = ap (λ (k : Key). record { a = record { state = t .state; key = k }; b = s .b }) (sym e)
+keys-put B s t e = ap (λ (k : Key). record { a = s .a; b = record { state = t .state; key = k } }) (sym e)
+
+pub publish-keys : (s : Station) (b : ℕ) (p : Publishing) → keysOf s (handed s (named b (publish p)) .station) ≡ handed s (named b (publish p)) .station
+unfolding within outcomeOf unknown
+publish-keys s b p = go (known b) refl
+  where
+    go : (x : Bool) → known b ≡ x → keysOf s (handed s (named b (publish p)) .station) ≡ handed s (named b (publish p)) .station
+    go true h =
+        rw (ap (λ (r : Outcome Station). r .station) (handed-known s b (publish p) h))
+        (keys-put (chosen b) s (Slots.handed (slotOf (chosen b) s) (publish p) .reply .slot) (publish-key (slotOf (chosen b) s) p))
+    go false h = rw (ap (λ (r : Outcome Station). r .station) (handed-unknown s b (publish p) h)) refl
