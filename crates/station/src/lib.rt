@@ -131,14 +131,17 @@ impl Station {
     fn place(self, name: u8, slot: Slot) -> Reply
         ensures { λ r. ⌜ r ≡ placed name slot self ⌝ }
     {
-        let mut station = self;
         if name == Station::A {
-            station.a = slot;
-        } else {
-            station.b = slot;
+            let b = self.b;
+            return Reply {
+                station: Station { a: slot, b },
+                refused: 0,
+                ones: 0,
+            };
         }
+        let a = self.a;
         Reply {
-            station,
+            station: Station { a, b: slot },
             refused: 0,
             ones: 0,
         }
