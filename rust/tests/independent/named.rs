@@ -25,12 +25,12 @@ impl Drawing<'_> {
     /// A call of one of the kinds, and what comes of it for the ledger.
     pub fn call(&mut self, ledger: &mut Ledger, kinds: &Kinds) -> Named {
         let name = self.name();
+        let kind = self.kind(ledger.entry(name).map(|entry| entry.state), kinds);
         let held = ledger.entry(name).filter(|entry| entry.state != 0).map(|entry| Arc::clone(&entry.held));
-        let kind = *self.random.pick(kinds);
+        let keys = self.keys;
         let call = match &held {
             Some(held) => self.fitting(kind, held),
             None => {
-                let keys = self.keys;
                 let held = self.random.pick(keys);
                 self.fitting(kind, held)
             }
@@ -44,6 +44,15 @@ impl Drawing<'_> {
     pub fn list(&mut self, length: usize, kinds: &Kinds) -> Vec<Named> {
         let mut ledger = Ledger::blank();
         (0..length).map(|_| self.call(&mut ledger, kinds)).collect()
+    }
+
+    /// Any of the kinds, or the one that a recipient in that state waits for.
+    fn kind(&mut self, state: Option<u8>, kinds: &Kinds) -> &'static str {
+        match state {
+            Some(0) if self.random.one_in(2) => "load",
+            Some(1) if self.random.one_in(3) => "publish",
+            _ => *self.random.pick(kinds),
+        }
     }
 
     fn name(&mut self) -> u8 {

@@ -79,7 +79,7 @@ impl Ledger {
     }
 }
 
-fn run(station: Station, name: u8, case: &[String]) -> Station {
+pub fn run(station: Station, name: u8, case: &[String]) -> Station {
     let arrow = case.iter().position(|field| field == "->").expect("an arrow");
     let (reply, out) = call(station, name, &case[..arrow]);
     let mut written = vec![];

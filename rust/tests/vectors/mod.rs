@@ -4,6 +4,7 @@ mod calls;
 mod fields;
 mod irreducible;
 mod keys;
+mod named;
 mod program;
 mod sessions;
 mod shake;
