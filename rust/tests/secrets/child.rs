@@ -14,6 +14,8 @@ use crate::support::{raw_calls, vectors};
 
 const VARIABLE: &str = "SHEARCOTTER_CHILD";
 pub const FOLDER: &str = "mceliece348864/count0";
+/// Where the key of the second recipient is.
+pub const SECOND: &str = "mceliece348864f/count0";
 
 /// Whether the child uses the crate's calls, or the raw ones, which wipe nothing.
 #[derive(Clone, Copy, PartialEq, Eq, Debug)]
@@ -36,6 +38,8 @@ pub enum Point {
     SessionsWiped,
     SecretWiped,
     Read,
+    SecondPublished,
+    FirstDropped,
     StationDropped,
     LoadedAgain,
     KeyDropped,
@@ -100,7 +104,11 @@ fn pause(point: Point) {
 
 /// A file of known length, read without a copy elsewhere.
 fn file<const LENGTH: usize>(name: &str) -> Box<[u8; LENGTH]> {
-    let path = vectors::folder().join(FOLDER).join(name);
+    file_in(FOLDER, name)
+}
+
+fn file_in<const LENGTH: usize>(folder: &str, name: &str) -> Box<[u8; LENGTH]> {
+    let path = vectors::folder().join(folder).join(name);
     let mut bytes = Box::new([0; LENGTH]);
     File::open(path).expect("a file of the vectors").read_exact(&mut bytes[..]).expect("its bytes");
     bytes
@@ -128,6 +136,19 @@ fn derive(station: &Station, capsule: &[u8]) {
     pause(Point::SecretWiped);
 }
 
+/// The second recipient's key beside the first's, which is dropped.
+fn hold_two(station: &mut Station) {
+    let mut key = file_in::<7109>(SECOND, "key.bin");
+    station.load(Name::B, &key[..]).expect("load accepts");
+    wipe(&mut key[..]);
+    station.publish(Name::B).expect("publish accepts");
+    assert_eq!(station.open(Name::B, &file::<96>("capsule.bin")[..]), Err(Refusal::NoPattern));
+    pause(Point::SecondPublished);
+    station.drop_key(Name::A).expect("there is a key");
+    assert_eq!(Name::BOTH.map(|name| station.is_published(name)), [false, true]);
+    pause(Point::FirstDropped);
+}
+
 fn with_the_crate() {
     let mut station = Station::fresh();
     pause(Point::Empty);
@@ -151,6 +172,7 @@ fn with_the_crate() {
     let word: Vec<u8> = capsule.iter().copied().chain(iter::repeat(0)).take(436).collect();
     assert_eq!(station.read(Name::A, &word).expect("it reads").clone().ones(), 64);
     pause(Point::Read);
+    hold_two(&mut station);
     drop(station);
     pause(Point::StationDropped);
     let mut again = Station::fresh();

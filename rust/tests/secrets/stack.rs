@@ -53,6 +53,9 @@ fn calls_leave_zeros_on_the_stack() {
     }
     assert_eq!(left_by(|| drop(station.read(Name::A, &pattern).expect("it reads"))), 0, "read");
     assert_eq!(left_by(|| drop(lock(Shape::MCELIECE8192128, &public, &pattern).expect("it locks"))), 0, "lock");
+    assert_eq!(left_by(|| station.load(Name::B, &key).expect("load accepts")), 0, "load beside another key");
+    assert_eq!(left_by(|| drop(station.publish(Name::B).expect("publish accepts"))), 0, "publish beside another key");
+    assert_eq!(left_by(|| drop(station.open(Name::B, &capsule).expect("it opens"))), 0, "open beside another key");
     assert_eq!(left_by(|| station.drop_key(Name::A).expect("there is a key")), 0, "drop");
     let mut out = vec![0; 300];
     assert_eq!(left_by(|| shake256(&pattern, &mut out)), 0, "shake256");
