@@ -51,7 +51,7 @@ impl Drawing<'_> {
         match state {
             Some(0) if self.random.one_in(2) => "load",
             Some(1) if self.random.one_in(3) => "publish",
-            _ => *self.random.pick(kinds),
+            _ => kinds[self.random.below(kinds.len())],
         }
     }
 
