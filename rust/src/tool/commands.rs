@@ -127,9 +127,9 @@ that opens it is said:
     POSITION open A PLACES...
     POSITION open B PLACES...
 
-One that both refuse is refused 13. The summary says how many each opened. Both
-keys have capsules of the same number of bits, m*t; with raw, which says no
-names, they have the same n too.
+In json the name is the member `recipient`, and raw has none. A capsule that
+both refuse is refused 13. The summary says how many each opened. Both keys have
+capsules of the same number of bits, m*t, and with raw the same n too.
 ",
         run: opening::open,
     },
