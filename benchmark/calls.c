@@ -100,8 +100,8 @@ static int prepare(int shape)
     row_bytes = public_bytes / (size_t)rows;
     if (!read_key(shape))
         return 0;
-    shearcotter_reply r = shearcotter_load(shearcotter_fresh(), file, file_bytes);
-    r = shearcotter_publish(r.station, public_key, public_bytes, work, sizeof work);
+    shearcotter_reply r = shearcotter_load(shearcotter_fresh(), SHEARCOTTER_A, file, file_bytes);
+    r = shearcotter_publish(r.station, SHEARCOTTER_A, public_key, public_bytes, work, sizeof work);
     station = r.station;
     draw();
     differences += r.refused != 0;
@@ -127,7 +127,7 @@ static void read_word(double *least, const uint8_t *word, int number)
 {
     memset(out, 0, WORD);
     double a = now();
-    shearcotter_reply r = shearcotter_read(station, word, word_bytes, out, WORD);
+    shearcotter_reply r = shearcotter_read(station, SHEARCOTTER_A, word, word_bytes, out, WORD);
     lessen(least, now() - a);
     differences += r.refused != number || memcmp(out, number ? zeros : pattern, WORD) != 0;
 }
@@ -137,7 +137,7 @@ static void open_capsule(double *least, const uint8_t *row, int number)
 {
     memset(out, 0, WORD);
     double a = now();
-    shearcotter_reply r = shearcotter_open(station, row, capsule_bytes, out, WORD);
+    shearcotter_reply r = shearcotter_open(station, SHEARCOTTER_A, row, capsule_bytes, out, WORD);
     lessen(least, now() - a);
     differences += r.refused != number || memcmp(out, number ? zeros : pattern, WORD) != 0;
 }
@@ -151,7 +151,7 @@ static void derive(double *least, const uint8_t *row, uint8_t first, const uint8
     memcpy(text + 1 + word_bytes, row, capsule_bytes);
     shearcotter_shake256(text, 1 + word_bytes + capsule_bytes, key, sizeof key);
     double a = now();
-    shearcotter_derived r = shearcotter_session(station, row, capsule_bytes, secret, word_bytes);
+    shearcotter_derived r = shearcotter_session(station, SHEARCOTTER_A, row, capsule_bytes, secret, word_bytes);
     lessen(least, now() - a);
     differences += r.refused != 0 || memcmp(r.key, key, sizeof key) != 0;
 }
@@ -159,7 +159,7 @@ static void derive(double *least, const uint8_t *row, uint8_t first, const uint8
 static void load_lock(times *x)
 {
     double a = now();
-    shearcotter_reply r = shearcotter_load(shearcotter_fresh(), file, file_bytes);
+    shearcotter_reply r = shearcotter_load(shearcotter_fresh(), SHEARCOTTER_A, file, file_bytes);
     double b = now();
     int y = shearcotter_lock((uint8_t)m, (uint16_t)n, (uint16_t)t, public_key, public_bytes, pattern, word_bytes, own, WORD);
     lessen(&x->lock, now() - b);
@@ -170,7 +170,7 @@ static void load_lock(times *x)
 static void publish(times *x)
 {
     double a = now();
-    shearcotter_reply r = shearcotter_publish(station, again, public_bytes, work, sizeof work);
+    shearcotter_reply r = shearcotter_publish(station, SHEARCOTTER_A, again, public_bytes, work, sizeof work);
     lessen(&x->publish, now() - a);
     differences += r.refused != 0 || memcmp(again, public_key, public_bytes) != 0;
 }
@@ -220,7 +220,7 @@ static void open_card(double *least)
     int opened = 0;
     double a = now();
     for (int i = 0; i < CARD; i++)
-        opened += shearcotter_open(station, card + (size_t)i * capsule_bytes, capsule_bytes, out, WORD).refused == 0;
+        opened += shearcotter_open(station, SHEARCOTTER_A, card + (size_t)i * capsule_bytes, capsule_bytes, out, WORD).refused == 0;
     lessen(least, now() - a);
     differences += opened != CARD;
 }
@@ -228,7 +228,7 @@ static void open_card(double *least)
 static void report_card(double *least)
 {
     double a = now();
-    shearcotter_reported r = shearcotter_report(station, card, CARD * capsule_bytes, records, CARD);
+    shearcotter_reported r = shearcotter_report(station, SHEARCOTTER_A, card, CARD * capsule_bytes, records, CARD);
     lessen(least, now() - a);
     differences += r.refused != 0 || r.counts[0] != CARD || memcmp(records, zeros, CARD) != 0;
 }
@@ -248,13 +248,13 @@ static int report(void)
 }
 
 /* What a refusal with 21 does, in C: the station passed by value and handed back. */
-static shearcotter_reply hand_back(shearcotter_station s, const uint8_t *row, size_t row_len, uint8_t *to, size_t to_len)
+static shearcotter_reply hand_back(shearcotter_station s, uint8_t name, const uint8_t *row, size_t row_len, uint8_t *to, size_t to_len)
 {
-    (void)row, (void)row_len, (void)to, (void)to_len;
+    (void)name, (void)row, (void)row_len, (void)to, (void)to_len;
     return (shearcotter_reply){.station = s, .refused = SHEARCOTTER_NO_KEY};
 }
 
-typedef shearcotter_reply call(shearcotter_station, const uint8_t *, size_t, uint8_t *, size_t);
+typedef shearcotter_reply call(shearcotter_station, uint8_t, const uint8_t *, size_t, uint8_t *, size_t);
 
 /* A call on an empty station, in ns. */
 static double passed_by_value(call *volatile f)
@@ -264,7 +264,7 @@ static double passed_by_value(call *volatile f)
     for (int try = 0; try < 50; try++) {
         double a = now();
         for (int i = 0; i < 1000; i++)
-            differences += f(s, ones, word_bytes, out, WORD).refused != SHEARCOTTER_NO_KEY;
+            differences += f(s, SHEARCOTTER_A, ones, word_bytes, out, WORD).refused != SHEARCOTTER_NO_KEY;
         lessen(&least, (now() - a) * 1e3);
     }
     return least;

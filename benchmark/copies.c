@@ -1,5 +1,5 @@
-/* Counts the copies of a whole station in each station call: memcpy and memmove are replaced by ones that count. The caller's
-   own copies, of the argument and of the reply, are not counted. */
+/* Counts the copies of a whole station or slot in each station call: memcpy and memmove are replaced by ones that count. The
+   caller's own copies, of the argument and of the reply, are not counted. */
 #include <stdio.h>
 #include <string.h>
 
@@ -14,11 +14,12 @@ static shearcotter_reported reported;
 static shearcotter_derived derived;
 static int counting, copies, failed;
 
-/* A station or its key, whose support and g lie side by side, or the support alone of the held key or of the file's. The decoder also copies arrays of about a
-   support's size that are neither. */
+/* A station, a slot or its key, whose support and g lie side by side, or the support alone of A's key, which all calls name, or of
+   the file's. The decoder also copies arrays of about a support's size that are neither. */
 static int counts(const void *from, size_t n)
 {
-    return n >= ARRAY + sizeof station.key.g || (n == ARRAY && (memcmp(from, station.key.support, ARRAY) == 0 || memcmp(from, file + 3, 64) == 0));
+    const shearcotter_key *key = &station.a.key;
+    return n >= ARRAY + sizeof key->g || (n == ARRAY && (memcmp(from, key->support, ARRAY) == 0 || memcmp(from, file + 3, 64) == 0));
 }
 
 void *memmove(void *to, const void *from, size_t n)
@@ -61,23 +62,23 @@ int main(int count, char **words)
     FILE *key = count == 2 ? fopen(words[1], "rb") : NULL;
     size_t size = key ? fread(file, 1, sizeof file, key) : 0;
     station = shearcotter_fresh();
-    COUNT("drop, refused", shearcotter_drop(station), 21);
-    COUNT("open, refused, no key", shearcotter_open(station, row, 1, out, sizeof out), 21);
-    COUNT_REPORT("report, refused, no key", shearcotter_report(station, row, 1, out, sizeof out), 21);
-    COUNT_SESSION("session, refused, no key", shearcotter_session(station, row, 1, out, 1), 21);
-    COUNT("load, refused", shearcotter_load(station, file, size - 1), 2);
-    COUNT("load", shearcotter_load(station, file, size), 0);
-    COUNT("load, refused, key held", shearcotter_load(station, file, size), 22);
-    COUNT("publish, refused", shearcotter_publish(station, public_key, 1, work, sizeof work), 10);
-    COUNT("publish", shearcotter_publish(station, public_key, sizeof public_key, work, sizeof work), 0);
-    COUNT("open, refused", shearcotter_open(station, row, SHEARCOTTER_CAPSULE_BYTES(12, 64), out, sizeof out), 13);
-    COUNT_REPORT("report, refused", shearcotter_report(station, row, 1, out, 0), 31);
-    COUNT_REPORT("report", shearcotter_report(station, row, sizeof row, out, sizeof out), 0);
-    COUNT_SESSION("session, refused", shearcotter_session(station, row, SHEARCOTTER_CAPSULE_BYTES(12, 64), out, 1), 33);
-    COUNT_SESSION("session", shearcotter_session(station, row, SHEARCOTTER_CAPSULE_BYTES(12, 64), out, SHEARCOTTER_PATTERN_BYTES(3488)), 0);
-    COUNT("read, refused", shearcotter_read(station, row, 1, out, sizeof out), 8);
-    COUNT("read", shearcotter_read(station, row, SHEARCOTTER_PATTERN_BYTES(3488), out, sizeof out), 0);
-    COUNT("drop", shearcotter_drop(station), 0);
+    COUNT("drop, refused", shearcotter_drop(station, SHEARCOTTER_A), 21);
+    COUNT("open, refused, no key", shearcotter_open(station, SHEARCOTTER_A, row, 1, out, sizeof out), 21);
+    COUNT_REPORT("report, refused, no key", shearcotter_report(station, SHEARCOTTER_A, row, 1, out, sizeof out), 21);
+    COUNT_SESSION("session, refused, no key", shearcotter_session(station, SHEARCOTTER_A, row, 1, out, 1), 21);
+    COUNT("load, refused", shearcotter_load(station, SHEARCOTTER_A, file, size - 1), 2);
+    COUNT("load", shearcotter_load(station, SHEARCOTTER_A, file, size), 0);
+    COUNT("load, refused, key held", shearcotter_load(station, SHEARCOTTER_A, file, size), 22);
+    COUNT("publish, refused", shearcotter_publish(station, SHEARCOTTER_A, public_key, 1, work, sizeof work), 10);
+    COUNT("publish", shearcotter_publish(station, SHEARCOTTER_A, public_key, sizeof public_key, work, sizeof work), 0);
+    COUNT("open, refused", shearcotter_open(station, SHEARCOTTER_A, row, SHEARCOTTER_CAPSULE_BYTES(12, 64), out, sizeof out), 13);
+    COUNT_REPORT("report, refused", shearcotter_report(station, SHEARCOTTER_A, row, 1, out, 0), 31);
+    COUNT_REPORT("report", shearcotter_report(station, SHEARCOTTER_A, row, sizeof row, out, sizeof out), 0);
+    COUNT_SESSION("session, refused", shearcotter_session(station, SHEARCOTTER_A, row, SHEARCOTTER_CAPSULE_BYTES(12, 64), out, 1), 33);
+    COUNT_SESSION("session", shearcotter_session(station, SHEARCOTTER_A, row, SHEARCOTTER_CAPSULE_BYTES(12, 64), out, SHEARCOTTER_PATTERN_BYTES(3488)), 0);
+    COUNT("read, refused", shearcotter_read(station, SHEARCOTTER_A, row, 1, out, sizeof out), 8);
+    COUNT("read", shearcotter_read(station, SHEARCOTTER_A, row, SHEARCOTTER_PATTERN_BYTES(3488), out, sizeof out), 0);
+    COUNT("drop", shearcotter_drop(station, SHEARCOTTER_A), 0);
     puts(failed ? "copies: too many" : "copies: at most two in each case, three in a load and in a session");
     return failed;
 }

@@ -39,24 +39,24 @@ static int profile(size_t size)
     fill(ones, 1, n);
     fill(pattern, n / t, t);
     reply.station = shearcotter_fresh();
-    PROFILE("load", reply, shearcotter_load(reply.station, file, size));
-    PROFILE("asked", reply, shearcotter_publish(reply.station, public_key, 0, work, 0));
+    PROFILE("load", reply, shearcotter_load(reply.station, SHEARCOTTER_A, file, size));
+    PROFILE("asked", reply, shearcotter_publish(reply.station, SHEARCOTTER_A, public_key, 0, work, 0));
     int exchange = reply.refused == SHEARCOTTER_SHORT_OUTPUT;
-    reply = shearcotter_publish(reply.station, public_key, sizeof public_key, work, sizeof work);
+    reply = shearcotter_publish(reply.station, SHEARCOTTER_A, public_key, sizeof public_key, work, sizeof work);
     shearcotter_lock((uint8_t)m, (uint16_t)n, (uint16_t)t, public_key, SHEARCOTTER_PUBLIC_BYTES(m, n, t), pattern, word_bytes,
                      capsule, WORD);
-    PROFILE("open", reply, shearcotter_open(reply.station, capsule, capsule_bytes, out, WORD));
+    PROFILE("open", reply, shearcotter_open(reply.station, SHEARCOTTER_A, capsule, capsule_bytes, out, WORD));
     int opened = exchange && !reply.refused && memcmp(out, pattern, word_bytes) == 0;
-    PROFILE("session", derived, shearcotter_session(reply.station, capsule, capsule_bytes, pattern, word_bytes));
+    PROFILE("session", derived, shearcotter_session(reply.station, SHEARCOTTER_A, capsule, capsule_bytes, pattern, word_bytes));
     opened = opened && !derived.refused;
     for (int i = 0; i < 3; i++)
         memcpy(capsules + (size_t)i * capsule_bytes, capsule, capsule_bytes);
-    PROFILE("report", reported, shearcotter_report(reply.station, capsules, 3 * capsule_bytes, records, sizeof records));
+    PROFILE("report", reported, shearcotter_report(reply.station, SHEARCOTTER_A, capsules, 3 * capsule_bytes, records, sizeof records));
     opened = opened && !reported.refused && reported.counts[0] == 3;
     capsule[0] ^= 1;
-    PROFILE("reject", derived, shearcotter_session(reply.station, capsule, capsule_bytes, pattern, word_bytes));
+    PROFILE("reject", derived, shearcotter_session(reply.station, SHEARCOTTER_A, capsule, capsule_bytes, pattern, word_bytes));
     opened = opened && !derived.refused;
-    PROFILE("ones", reply, shearcotter_read(reply.station, ones, word_bytes, out, WORD));
+    PROFILE("ones", reply, shearcotter_read(reply.station, SHEARCOTTER_A, ones, word_bytes, out, WORD));
     return opened && reply.refused == SHEARCOTTER_NO_CODE_WORD;
 }
 

@@ -41,7 +41,7 @@ __attribute__((noinline)) static uint16_t value(uint16_t a)
     return r;
 }
 
-static uint8_t load_number(const uint8_t *f) { return shearcotter_load(shearcotter_fresh(), f, BYTES).refused; }
+static uint8_t load_number(const uint8_t *f) { return shearcotter_load(shearcotter_fresh(), SHEARCOTTER_A, f, BYTES).refused; }
 
 static double least(double x, double y) { return x < y ? x : y; }
 

@@ -30,17 +30,17 @@ static void *fresh(void *none) { station = shearcotter_fresh(); return none; }
         return none; \
     }
 
-CALL(load, shearcotter_load(station, file, size))
-CALL(publish, shearcotter_publish(station, public_key, sizeof public_key, work, sizeof work))
-CALL(open_capsule, shearcotter_open(station, capsule, sizeof capsule, out, sizeof out))
-CALL(read_word, shearcotter_read(station, pattern, sizeof pattern, out, sizeof out))
-CALL(drop, shearcotter_drop(station))
+CALL(load, shearcotter_load(station, SHEARCOTTER_A, file, size))
+CALL(publish, shearcotter_publish(station, SHEARCOTTER_A, public_key, sizeof public_key, work, sizeof work))
+CALL(open_capsule, shearcotter_open(station, SHEARCOTTER_A, capsule, sizeof capsule, out, sizeof out))
+CALL(read_word, shearcotter_read(station, SHEARCOTTER_A, pattern, sizeof pattern, out, sizeof out))
+CALL(drop, shearcotter_drop(station, SHEARCOTTER_A))
 
 static void *report(void *none)
 {
     for (int i = 0; i < 3; i++)
         memcpy(card + i * sizeof capsule, capsule, sizeof capsule);
-    shearcotter_reported reported = shearcotter_report(station, card, sizeof card, records, sizeof records);
+    shearcotter_reported reported = shearcotter_report(station, SHEARCOTTER_A, card, sizeof card, records, sizeof records);
     station = reported.station;
     refused = reported.refused || reported.counts[SHEARCOTTER_ACCEPTED] != 3;
     return none;
@@ -49,7 +49,7 @@ static void *report(void *none)
 /* Of the capsule, which opens, or does not with a bit turned. */
 static void *session(void *none)
 {
-    shearcotter_derived derived = shearcotter_session(station, capsule, sizeof capsule, pattern, sizeof pattern);
+    shearcotter_derived derived = shearcotter_session(station, SHEARCOTTER_A, capsule, sizeof capsule, pattern, sizeof pattern);
     station = derived.station;
     refused = derived.refused;
     return none;

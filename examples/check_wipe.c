@@ -54,19 +54,19 @@ static WIPE_APART void hold_key(const char *name)
 static WIPE_APART void use_key(const char *name)
 {
     read_key(name, file);
-    shearcotter_reply reply = shearcotter_load(shearcotter_fresh(), file, sizeof file);
-    reply = shearcotter_publish(reply.station, public_key, sizeof public_key, work, sizeof work);
+    shearcotter_reply reply = shearcotter_load(shearcotter_fresh(), SHEARCOTTER_A, file, sizeof file);
+    reply = shearcotter_publish(reply.station, SHEARCOTTER_A, public_key, sizeof public_key, work, sizeof work);
     for (size_t i = 0; i < T; i++) {
         pattern[6 * i] = 1;
     }
     expect(shearcotter_lock(M, N, T, public_key, sizeof public_key, pattern, sizeof pattern, capsule, sizeof capsule) == 0,
            "the pattern is not locked");
-    reply = shearcotter_open(reply.station, capsule, sizeof capsule, pattern, sizeof pattern);
+    reply = shearcotter_open(reply.station, SHEARCOTTER_A, capsule, sizeof capsule, pattern, sizeof pattern);
     expect(reply.refused == SHEARCOTTER_ACCEPTED, shearcotter_words(reply.refused));
     uint8_t record;
-    shearcotter_reported reported = shearcotter_report(reply.station, capsule, sizeof capsule, &record, 1);
+    shearcotter_reported reported = shearcotter_report(reply.station, SHEARCOTTER_A, capsule, sizeof capsule, &record, 1);
     expect(reported.counts[SHEARCOTTER_ACCEPTED] == 1, shearcotter_words(reported.refused));
-    shearcotter_derived derived = shearcotter_session(reported.station, capsule, sizeof capsule, pattern, sizeof pattern);
+    shearcotter_derived derived = shearcotter_session(reported.station, SHEARCOTTER_A, capsule, sizeof capsule, pattern, sizeof pattern);
     expect(derived.refused == SHEARCOTTER_ACCEPTED, shearcotter_words(derived.refused));
 }
 

@@ -1,6 +1,6 @@
-/* A key is loaded and published, a pattern locked, capsules opened and reported on: the bench key K1 of docs/FORMATS.md. Then K1
- * and another key are asked whether they are exchange keys. Prints a line for each row; exits with 1 where an answer is not the
- * expected one. Secrets are wiped at the end. */
+/* A key is loaded and published, a pattern locked, capsules opened and reported on: the bench key K1 of docs/FORMATS.md, for the
+ * recipient A; then another key is loaded for B, and A's is dropped. Then both are asked whether they are exchange keys. Prints a
+ * line for each row; exits with 1 where an answer is not the expected one. Secrets are wiped at the end. */
 #include <stdio.h>
 #include <string.h>
 
@@ -48,10 +48,10 @@ static void row(const char *name, uint8_t refused, const uint8_t *bytes, size_t 
 static void open_row(const char *name, shearcotter_station station, uint8_t capsule, uint8_t number)
 {
     uint8_t out[sizeof pattern] = {0};
-    shearcotter_reply reply = shearcotter_open(station, &capsule, 1, out, sizeof out);
+    shearcotter_reply reply = shearcotter_open(station, SHEARCOTTER_A, &capsule, 1, out, sizeof out);
     row(name, reply.refused, out, sizeof out, number, pattern);
-    printf("  ones %u, state %u", reply.ones, reply.station.state);
-    end(reply.ones == (number == SHEARCOTTER_ACCEPTED ? T : 0) && reply.station.state == SHEARCOTTER_PUBLISHED &&
+    printf("  ones %u, state %u", reply.ones, reply.station.a.state);
+    end(reply.ones == (number == SHEARCOTTER_ACCEPTED ? T : 0) && reply.station.a.state == SHEARCOTTER_PUBLISHED &&
         (number == SHEARCOTTER_ACCEPTED || out[0] == 0));
 }
 
@@ -61,7 +61,7 @@ static void report_row(const char *name, shearcotter_station station, size_t roo
     static const uint8_t capsules[] = {0x03, 0x00, 0x13};
     static const uint8_t expected[] = {SHEARCOTTER_ACCEPTED, SHEARCOTTER_NO_PATTERN, SHEARCOTTER_FILLER_SET};
     uint8_t records[SHEARCOTTER_CAPSULES(M, T, sizeof capsules)] = {0};
-    shearcotter_reported reported = shearcotter_report(station, capsules, sizeof capsules, records, room);
+    shearcotter_reported reported = shearcotter_report(station, SHEARCOTTER_A, capsules, sizeof capsules, records, room);
     row(name, reported.refused, records, sizeof records, number, expected);
     size_t opened = reported.counts[SHEARCOTTER_ACCEPTED], refused = 0;
     for (size_t i = 1; i < SHEARCOTTER_BYTE_VALUES; i++) {
@@ -75,9 +75,28 @@ static void report_row(const char *name, shearcotter_station station, size_t roo
 static void exchange_row(const char *name, const uint8_t *file, size_t length, uint8_t number)
 {
     uint8_t none[2];
-    shearcotter_reply reply = shearcotter_load(shearcotter_fresh(), file, length);
-    reply = shearcotter_publish(reply.station, none, 0, none + 1, 0);
+    shearcotter_reply reply = shearcotter_load(shearcotter_fresh(), SHEARCOTTER_A, file, length);
+    reply = shearcotter_publish(reply.station, SHEARCOTTER_A, none, 0, none + 1, 0);
     row(name, reply.refused, file, 0, number, file);
+}
+
+/* What a call that names a recipient made of both slots: their states. */
+static void states_row(const char *name, shearcotter_reply reply, uint8_t number, uint8_t a, uint8_t b)
+{
+    row(name, reply.refused, k1, 0, number, k1);
+    printf("  state of A %u, of B %u", reply.station.a.state, reply.station.b.state);
+    end(reply.station.a.state == a && reply.station.b.state == b);
+}
+
+/* The second recipient beside A, whose key is published; then A's key is dropped, and B's stays. */
+static void second_recipient(shearcotter_station station)
+{
+    shearcotter_reply reply = shearcotter_load(station, SHEARCOTTER_B, split, sizeof split);
+    states_row("B load", reply, SHEARCOTTER_ACCEPTED, SHEARCOTTER_PUBLISHED, SHEARCOTTER_LOADED);
+    reply = shearcotter_drop(reply.station, 3);
+    states_row("3 drop", reply, SHEARCOTTER_UNKNOWN_NAME, SHEARCOTTER_PUBLISHED, SHEARCOTTER_LOADED);
+    reply = shearcotter_drop(reply.station, SHEARCOTTER_A);
+    states_row("A drop", reply, SHEARCOTTER_ACCEPTED, SHEARCOTTER_EMPTY, SHEARCOTTER_LOADED);
 }
 
 /* All calls on the station: what it holds and what the calls leave lies below main's frame. */
@@ -87,10 +106,10 @@ static WIPE_APART void use_key(void)
     uint8_t work[SHEARCOTTER_WORK_BYTES(M, N, T)];
     uint8_t capsule[sizeof locked];
 
-    shearcotter_reply reply = shearcotter_load(shearcotter_fresh(), k1, sizeof k1);
+    shearcotter_reply reply = shearcotter_load(shearcotter_fresh(), SHEARCOTTER_A, k1, sizeof k1);
     row("P1 load", reply.refused, k1, 0, SHEARCOTTER_ACCEPTED, k1);
 
-    reply = shearcotter_publish(reply.station, public_key, sizeof public_key, work, sizeof work);
+    reply = shearcotter_publish(reply.station, SHEARCOTTER_A, public_key, sizeof public_key, work, sizeof work);
     wipe(work, sizeof work);
     row("P2 publish", reply.refused, public_key, sizeof public_key, SHEARCOTTER_ACCEPTED, t_rows);
 
@@ -105,8 +124,7 @@ static WIPE_APART void use_key(void)
     report_row("report 03 00 13", reply.station, 3, SHEARCOTTER_ACCEPTED);
     report_row("report, two records", reply.station, 2, SHEARCOTTER_SHORT_RECORDS);
 
-    reply = shearcotter_drop(reply.station);
-    row("drop", reply.refused, k1, 0, SHEARCOTTER_ACCEPTED, k1);
+    second_recipient(reply.station);
 
     exchange_row("exchange key", k1, sizeof k1, SHEARCOTTER_SHORT_OUTPUT);
     exchange_row("reading-only key", split, sizeof split, SHEARCOTTER_REDUCIBLE_KEY);

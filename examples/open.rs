@@ -3,7 +3,7 @@
 use std::error::Error;
 use std::{env, fs};
 
-use shearcotter::{wipe, Station};
+use shearcotter::{wipe, Name, Station};
 
 fn main() -> Result<(), Box<dyn Error>> {
     let names: Vec<String> = env::args().skip(1).collect();
@@ -12,19 +12,20 @@ fn main() -> Result<(), Box<dyn Error>> {
     };
     let mut file = fs::read(key)?;
     let mut station = Station::fresh();
-    let loaded = station.load(&file);
+    let mut office = station.recipient_mut(Name::A);
+    let loaded = office.load(&file);
     wipe(&mut file);
     loaded?;
-    station.publish()?;
-    let length = station.shape().map_or(1, |shape| shape.capsule_length());
+    office.publish()?;
+    let length = office.shape().map_or(1, |shape| shape.capsule_length());
     let capsules = fs::read(capsules)?;
     for (position, capsule) in (1..).zip(capsules.chunks(length)) {
-        match station.open(capsule) {
+        match office.open(capsule) {
             Ok(pattern) => println!("{position} open{}", places(pattern.places())),
             Err(refusal) => println!("{position} refused {}", refusal.number()),
         }
     }
-    println!("{}", station.report(&capsules)?.counts());
+    println!("{}", office.report(&capsules)?.counts());
     Ok(())
 }
 

@@ -43,7 +43,7 @@ static void session_row(const char *name, shearcotter_station station, uint8_t c
                         const uint8_t *expected)
 {
     uint8_t secret[SHEARCOTTER_PATTERN_BYTES(N) + 1] = {0x15, 0x00};
-    shearcotter_derived derived = shearcotter_session(station, &capsule, 1, secret, length);
+    shearcotter_derived derived = shearcotter_session(station, SHEARCOTTER_A, &capsule, 1, secret, length);
     row(name, derived.refused, derived.key, number, expected);
 }
 
@@ -53,8 +53,8 @@ static WIPE_APART void use_key(void)
     static const uint8_t parts[] = {0x01, 0x10, 0x03};
     uint8_t public_key[SHEARCOTTER_PUBLIC_BYTES(M, N, T)], work[SHEARCOTTER_WORK_BYTES(M, N, T)], key[SHEARCOTTER_SESSION_BYTES];
 
-    shearcotter_reply reply = shearcotter_load(shearcotter_fresh(), k1, sizeof k1);
-    reply = shearcotter_publish(reply.station, public_key, sizeof public_key, work, sizeof work);
+    shearcotter_reply reply = shearcotter_load(shearcotter_fresh(), SHEARCOTTER_A, k1, sizeof k1);
+    reply = shearcotter_publish(reply.station, SHEARCOTTER_A, public_key, sizeof public_key, work, sizeof work);
 
     session_row("session 03", reply.station, 0x03, 1, SHEARCOTTER_ACCEPTED, of_pattern);
     session_row("session 00", reply.station, 0x00, 1, SHEARCOTTER_ACCEPTED, of_secret);

@@ -4,6 +4,7 @@
  * - Pointers are not null, also with length 0, and the buffers of one call do not overlap.
  * - A call with output writes from its start; bytes beyond those written keep their contents.
  * - A refusal writes nothing (but publish's workspace under 23) and hands the caller's station back unchanged.
+ * - A call on a station names one of its two recipients, and leaves the other's slot as it is: enum shearcotter_name.
  * - Refusals are listed in the order in which they are looked for: the first whose condition holds is answered.
  * - Nothing is allocated or kept between calls, so calls may run at once in several threads.
  * - Stack: enum shearcotter_stack_kib.
@@ -62,10 +63,19 @@ enum shearcotter_stack_kib {
 #define SHEARCOTTER_CAPSULES(m, t, bytes) \
     (((size_t)(bytes) + SHEARCOTTER_CAPSULE_BYTES(m, t) - 1) / SHEARCOTTER_CAPSULE_BYTES(m, t))
 
+/* Of a slot. */
 enum shearcotter_state {
     SHEARCOTTER_EMPTY = 0,
     SHEARCOTTER_LOADED = 1,
     SHEARCOTTER_PUBLISHED = 2  /* so is any other number; stations made by these calls have 0, 1 or 2 */
+};
+
+/* The recipients. Every call on a station but fresh takes such a byte; any other is refused with 35, before all else. What a call
+ * answers and writes, and the slot that it leaves, go by the named recipient's slot alone; the other's slot is handed back as it
+ * was. So leaving out all calls that name one of them changes nothing for the other. */
+enum shearcotter_name {
+    SHEARCOTTER_A = 1,
+    SHEARCOTTER_B = 2
 };
 
 /* The refusals: X(name, number, words) for each. */
@@ -86,7 +96,7 @@ enum shearcotter_state {
     X(SHEARCOTTER_NOT_T_ONES, 12, "pattern to lock has not t ones")                                    \
     X(SHEARCOTTER_NO_PATTERN, 13, "no pattern for the capsule")                                        \
     X(SHEARCOTTER_NO_CODE_WORD, 14, "no code word within t places")                                    \
-    /* caused by the station */                                                                        \
+    /* caused by the named recipient's slot */                                                         \
     X(SHEARCOTTER_NO_KEY, 21, "no key")                                                                \
     X(SHEARCOTTER_KEY_HELD, 22, "a key is held already")                                               \
     X(SHEARCOTTER_DEPENDENT_COLUMNS, 23, "the first m*t columns are dependent: no public key")         \
@@ -100,7 +110,9 @@ enum shearcotter_state {
     /* of a session key */                                                                             \
     X(SHEARCOTTER_BAD_SECRET, 33, "secret of wrong length or with filler set")                         \
     /* of a key that words are read with, and nothing else */                                          \
-    X(SHEARCOTTER_REDUCIBLE_KEY, 34, "g has a proper factor")
+    X(SHEARCOTTER_REDUCIBLE_KEY, 34, "g has a proper factor")                                          \
+    /* of every call on a station */                                                                   \
+    X(SHEARCOTTER_UNKNOWN_NAME, 35, "a name other than A and B")
 
 /* What `refused` says. */
 #define SHEARCOTTER_NUMBER(name, number, words) name = number,
@@ -132,10 +144,16 @@ typedef struct {
     uint16_t g[SHEARCOTTER_MOST_ERRORS];
 } shearcotter_key;
 
-/* One slot for a key, owned by the caller and passed by value. Compare members, not bytes: padding is not kept. */
+/* A recipient's part of the station: empty, or with a key that is loaded or published. */
 typedef struct {
     uint8_t state;
     shearcotter_key key;
+} shearcotter_slot;
+
+/* A slot for each recipient, owned by the caller and passed by value. Compare members, not bytes: padding is not kept. */
+typedef struct {
+    shearcotter_slot a;
+    shearcotter_slot b;
 } shearcotter_station;
 
 /* The new station, the number of the refusal, 0 for none, and the number of ones that open or read wrote. */
@@ -200,21 +218,24 @@ SHEARCOTTER_OFFSET(key, n, 2)
 SHEARCOTTER_OFFSET(key, t, 4)
 SHEARCOTTER_OFFSET(key, support, 6)
 SHEARCOTTER_OFFSET(key, g, 16390)
-SHEARCOTTER_SIZE(station, 16648)
-SHEARCOTTER_OFFSET(station, state, 0)
-SHEARCOTTER_OFFSET(station, key, 2)
-SHEARCOTTER_SIZE(reply, 16652)
+SHEARCOTTER_SIZE(slot, 16648)
+SHEARCOTTER_OFFSET(slot, state, 0)
+SHEARCOTTER_OFFSET(slot, key, 2)
+SHEARCOTTER_SIZE(station, 33296)
+SHEARCOTTER_OFFSET(station, a, 0)
+SHEARCOTTER_OFFSET(station, b, 16648)
+SHEARCOTTER_SIZE(reply, 33300)
 SHEARCOTTER_OFFSET(reply, station, 0)
-SHEARCOTTER_OFFSET(reply, refused, 16648)
-SHEARCOTTER_OFFSET(reply, ones, 16650)
-SHEARCOTTER_SIZE(reported, 18704)
+SHEARCOTTER_OFFSET(reply, refused, 33296)
+SHEARCOTTER_OFFSET(reply, ones, 33298)
+SHEARCOTTER_SIZE(reported, 35352)
 SHEARCOTTER_OFFSET(reported, station, 0)
-SHEARCOTTER_OFFSET(reported, refused, 16648)
-SHEARCOTTER_OFFSET(reported, counts, 16656)
-SHEARCOTTER_SIZE(derived, 16682)
+SHEARCOTTER_OFFSET(reported, refused, 33296)
+SHEARCOTTER_OFFSET(reported, counts, 33304)
+SHEARCOTTER_SIZE(derived, 33330)
 SHEARCOTTER_OFFSET(derived, station, 0)
-SHEARCOTTER_OFFSET(derived, refused, 16648)
-SHEARCOTTER_OFFSET(derived, key, 16649)
+SHEARCOTTER_OFFSET(derived, refused, 33296)
+SHEARCOTTER_OFFSET(derived, key, 33297)
 SHEARCOTTER_SIZE(element, 4)
 SHEARCOTTER_OFFSET(element, refused, 0)
 SHEARCOTTER_OFFSET(element, value, 2)
@@ -232,11 +253,11 @@ SHEARCOTTER_OFFSET(register, c, 16)
 #undef SHEARCOTTER_SIZE
 #undef SHEARCOTTER_HOLDS
 
-/* Secrets. On the stack the calls leave copies of the station, points of the pattern that they found, and what they hashed. Who
- * holds a key wipes
+/* Secrets. On the stack the calls leave copies of the station, both slots, whichever was named; points of the pattern that they
+ * found, and what they hashed. Who holds a key wipes
  * - the bytes of the key file after load, and publish's workspace after publish, refused or not;
  * - each pattern, session key, station and reply after its use, and after the last session the secret that was lent for it; drop
- *   hands back a fresh station, and the old one stays the caller's;
+ *   hands back a station with a fresh slot, and the old station stays the caller's;
  * - the stack. Stations pass by value, so that the compiler makes copies without a name in the frame of the function that calls.
  *   All calls go into a function that is not inlined, and once that has returned its caller wipes the stack below its own frame:
  *   the call's KiB above, and what the function itself takes.
@@ -266,50 +287,52 @@ void shearcotter_shake256(const uint8_t *input, size_t input_length, uint8_t *ou
 uint8_t shearcotter_lock(uint8_t m, uint16_t n, uint16_t t, const uint8_t *public_key, size_t public_length,
                          const uint8_t *pattern, size_t pattern_length, uint8_t *out, size_t out_length);
 
-/* The empty station, zeros only. */
+/* The station with both slots empty, zeros only. */
 shearcotter_station shearcotter_fresh(void);
 
-/* Keeps the key of a key file: m in a byte, n in two, low byte first, n elements of two, t in two, g_0 to g_(t-1) of two.
- * Afterwards loaded. A key whose g has a proper factor is kept too: words are read with it, and publish, open, report and session
- * refuse with 34.
- * Refused: 22, 1, 2, 3, 4, 5, 6, 7. */
-shearcotter_reply shearcotter_load(shearcotter_station station, const uint8_t *file, size_t file_length);
+/* Keeps the key of a key file in the named slot: m in a byte, n in two, low byte first, n elements of two, t in two, g_0 to g_(t-1)
+ * of two. Afterwards loaded. A key whose g has a proper factor is kept too: words are read with it, and publish, open, report and
+ * session refuse with 34.
+ * Refused: 35, 22, 1, 2, 3, 4, 5, 6, 7. */
+shearcotter_reply shearcotter_load(shearcotter_station station, uint8_t name, const uint8_t *file, size_t file_length);
 
-/* Writes the public key, row after row, worked out in the first SHEARCOTTER_WORK_BYTES of `work`: their contents are free once 21,
- * 25, 34, 10, 11 are passed; every other byte of it stays. Afterwards published. Refused: 21, 25, 34, 10, 11, 23.
+/* Writes the public key of the named key, row after row, worked out in the first SHEARCOTTER_WORK_BYTES of `work`: their contents
+ * are free once 35, 21, 25, 34, 10, 11 are passed; every other byte of it stays. Afterwards published.
+ * Refused: 35, 21, 25, 34, 10, 11, 23.
  * With both lengths 0 it only asks whether a loaded key is an exchange key, one whose g is irreducible: 34 says no and 10 yes. */
-shearcotter_reply shearcotter_publish(shearcotter_station station, uint8_t *out, size_t out_length, uint8_t *work,
+shearcotter_reply shearcotter_publish(shearcotter_station station, uint8_t name, uint8_t *out, size_t out_length, uint8_t *work,
                                       size_t work_length);
 
-/* Writes the pattern with exactly t ones that locks to the capsule, and counts its ones. The station stays.
- * Refused: 21, 25, 34, 24, 8, 9, 10, 13. A sender must not learn of 13: docs/FORMATS.md, 'Classic McEliece's objects'. */
-shearcotter_reply shearcotter_open(shearcotter_station station, const uint8_t *capsule, size_t capsule_length, uint8_t *out,
-                                   size_t out_length);
+/* Writes the pattern with exactly t ones that locks to the capsule under the named key, and counts its ones. The station stays.
+ * Refused: 35, 21, 25, 34, 24, 8, 9, 10, 13. A sender must not learn of 13: docs/FORMATS.md, 'Classic McEliece's objects'. */
+shearcotter_reply shearcotter_open(shearcotter_station station, uint8_t name, const uint8_t *capsule, size_t capsule_length,
+                                   uint8_t *out, size_t out_length);
 
 /* Reports on capsules that stand back to back: writes a record for each, in their order, and counts the records of each value.
- * The record is 0 where open gives a pattern, else the number that open refuses the capsule with: 8, 9 or 13. A short tail is the
- * last capsule, its record 8; an empty buffer has none. SHEARCOTTER_CAPSULES says how many there are: the length divided by a
- * capsule's, rounded up. No pattern is written, and the kept key is checked once. The station stays.
- * Refused: 21, 25, 34, 24, 31: then no record is written and the counts are 0. A sender must not learn of a 13 here either. */
-shearcotter_reported shearcotter_report(shearcotter_station station, const uint8_t *capsules, size_t capsules_length,
+ * The record is 0 where open gives a pattern under the named key, else the number that open refuses the capsule with: 8, 9 or 13. A
+ * short tail is the last capsule, its record 8; an empty buffer has none. SHEARCOTTER_CAPSULES says how many there are: the length
+ * divided by a capsule's, rounded up. No pattern is written, and the kept key is checked once. The station stays.
+ * Refused: 35, 21, 25, 34, 24, 31: then no record is written and the counts are 0. A sender must not learn of a 13 here either. */
+shearcotter_reported shearcotter_report(shearcotter_station station, uint8_t name, const uint8_t *capsules, size_t capsules_length,
                                         uint8_t *records, size_t records_length);
 
-/* The session key of the capsule, as Classic McEliece's DECAP derives it: the first 32 bytes of SHAKE256 of the byte 1, the
- * pattern and the capsule; where open refuses with 13, of the byte 0, the secret and the capsule. A sender cannot tell from the key
- * which of the two it is, so that the caller has no 13 to hide; how long the call takes is not the same for both. The station stays.
+/* The session key of the capsule under the named key, as Classic McEliece's DECAP derives it: the first 32 bytes of SHAKE256 of the
+ * byte 1, the pattern and the capsule; where open refuses with 13, of the byte 0, the secret and the capsule. A sender cannot tell
+ * from the key which of the two it is, so that the caller has no 13 to hide; how long the call takes is not the same for both. The
+ * station stays.
  * The secret is the standard's s: SHEARCOTTER_PATTERN_BYTES random bytes with clear filler. It stays the caller's, is as secret as
  * the key file, and is the same in every call with that key, so that a capsule that does not open has one key too.
- * Refused: 21, 25, 34, 24, 8, 9, 33: then the key is zeros. 8 and 9 are about bytes that the sender knows. */
-shearcotter_derived shearcotter_session(shearcotter_station station, const uint8_t *capsule, size_t capsule_length,
+ * Refused: 35, 21, 25, 34, 24, 8, 9, 33: then the key is zeros. 8 and 9 are about bytes that the sender knows. */
+shearcotter_derived shearcotter_session(shearcotter_station station, uint8_t name, const uint8_t *capsule, size_t capsule_length,
                                         const uint8_t *secret, size_t secret_length);
 
-/* Writes the pattern that turns the word into the code word within t places, and counts its ones. The station stays.
- * Refused: 21, 25, 8, 9, 10, 14. */
-shearcotter_reply shearcotter_read(shearcotter_station station, const uint8_t *word, size_t word_length, uint8_t *out,
+/* Writes the pattern that turns the word into the code word of the named key within t places, and counts its ones. The station
+ * stays. Refused: 35, 21, 25, 8, 9, 10, 14. */
+shearcotter_reply shearcotter_read(shearcotter_station station, uint8_t name, const uint8_t *word, size_t word_length, uint8_t *out,
                                    size_t out_length);
 
-/* Afterwards the station is a fresh one. Refused: 21. */
-shearcotter_reply shearcotter_drop(shearcotter_station station);
+/* Afterwards the named slot is that of a fresh station. Refused: 35, 21. */
+shearcotter_reply shearcotter_drop(shearcotter_station station, uint8_t name);
 
 #ifdef __cplusplus
 }

@@ -21,7 +21,7 @@ _shearcotter() {
             ended=1
         elif [[ -z $ended && $word == -?* ]]; then
             case $word in
-                --format | --jobs | --records) option=$word ;;
+                --format | --second | --jobs | --records) option=$word ;;
             esac
         elif [[ -z $command ]]; then
             command=$word
@@ -33,8 +33,10 @@ _shearcotter() {
         [[ $cur == = ]] && cur=''
         case $command,$option in
             lock,--format) _shearcotter_words 'places hex raw json' "$cur" ;;
+            open,--second) _shearcotter_files "$cur" ;;
             open,--format) _shearcotter_words 'places hex raw json' "$cur" ;;
             session,--format) _shearcotter_words 'hex raw json' "$cur" ;;
+            report,--second) _shearcotter_files "$cur" ;;
             report,--records) _shearcotter_files "$cur" ;;
             read,--format) _shearcotter_words 'places hex raw json' "$cur" ;;
         esac
@@ -45,9 +47,9 @@ _shearcotter() {
             check) _shearcotter_words '--quiet --help' "$cur" ;;
             publish) _shearcotter_words '--quiet --help' "$cur" ;;
             lock) _shearcotter_words '--format --quiet --help' "$cur" ;;
-            open) _shearcotter_words '--format --jobs --explain --quiet --help' "$cur" ;;
+            open) _shearcotter_words '--second --format --jobs --explain --quiet --help' "$cur" ;;
             session) _shearcotter_words '--format --jobs --explain --quiet --help' "$cur" ;;
-            report) _shearcotter_words '--records --jobs --quiet --help' "$cur" ;;
+            report) _shearcotter_words '--second --records --jobs --quiet --help' "$cur" ;;
             read) _shearcotter_words '--format --jobs --explain --quiet --help' "$cur" ;;
             shapes) _shearcotter_words '--quiet --help' "$cur" ;;
             help) _shearcotter_words '--quiet --help' "$cur" ;;

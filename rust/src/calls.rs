@@ -7,7 +7,7 @@
 
 use std::mem::{size_of, MaybeUninit};
 
-use crate::{raw, wiping, Counts, Refusal};
+use crate::{raw, wiping, Counts, Name, Refusal};
 
 /// Bytes of stack that the functions here take beyond a C call's.
 const FRAMES: usize = 4096;
@@ -103,28 +103,30 @@ pub(crate) fn fresh() -> raw::Station {
     unsafe { raw::shearcotter_fresh() }
 }
 
-pub(crate) fn load(station: &mut raw::Station, file: &[u8]) -> Result<(), Refusal> {
+pub(crate) fn load(station: &mut raw::Station, name: Name, file: &[u8]) -> Result<(), Refusal> {
     secretly::<{ raw::STACK_LOAD + COPIES }, _>(|| {
-        let reply = unsafe { raw::shearcotter_load(*station, file.as_ptr(), file.len()) };
+        let reply = unsafe { raw::shearcotter_load(*station, name.byte(), file.as_ptr(), file.len()) };
         *station = reply.station;
         Refusal::check(reply.refused)
     })
 }
 
-pub(crate) fn publish(station: &mut raw::Station, out: &mut [u8], work: &mut [u8]) -> Result<(), Refusal> {
+pub(crate) fn publish(station: &mut raw::Station, name: Name, out: &mut [u8], work: &mut [u8]) -> Result<(), Refusal> {
     secretly::<{ raw::STACK_PUBLISH + COPIES }, _>(|| {
+        let (row, length) = (out.as_mut_ptr(), out.len());
         let reply =
-            unsafe { raw::shearcotter_publish(*station, out.as_mut_ptr(), out.len(), work.as_mut_ptr(), work.len()) };
+            unsafe { raw::shearcotter_publish(*station, name.byte(), row, length, work.as_mut_ptr(), work.len()) };
         *station = reply.station;
         Refusal::check(reply.refused)
     })
 }
 
 /// By publishing into no room: 34 stands before 10, and neither changes anything.
-pub(crate) fn is_exchange_key(station: &raw::Station) -> Result<bool, Refusal> {
+pub(crate) fn is_exchange_key(station: &raw::Station, name: Name) -> Result<bool, Refusal> {
     let answer = secretly::<{ raw::STACK_PUBLISH + COPIES }, _>(|| {
         let (mut out, mut work) = ([0; 0], [0; 0]);
-        Refusal::check(unsafe { raw::shearcotter_publish(*station, out.as_mut_ptr(), 0, work.as_mut_ptr(), 0) }.refused)
+        let (out, work) = (out.as_mut_ptr(), work.as_mut_ptr());
+        Refusal::check(unsafe { raw::shearcotter_publish(*station, name.byte(), out, 0, work, 0) }.refused)
     });
     match answer {
         Ok(()) | Err(Refusal::ShortOutput) => Ok(true),
@@ -134,28 +136,35 @@ pub(crate) fn is_exchange_key(station: &raw::Station) -> Result<bool, Refusal> {
 }
 
 /// The station that the call hands back is the caller's own.
-pub(crate) fn open(station: &raw::Station, capsule: &[u8], out: &mut [u8]) -> Result<u16, Refusal> {
+pub(crate) fn open(station: &raw::Station, name: Name, capsule: &[u8], out: &mut [u8]) -> Result<u16, Refusal> {
     secretly::<{ raw::STACK_OPEN + COPIES }, _>(|| {
-        let reply =
-            unsafe { raw::shearcotter_open(*station, capsule.as_ptr(), capsule.len(), out.as_mut_ptr(), out.len()) };
+        let (row, length) = (capsule.as_ptr(), capsule.len());
+        let reply = unsafe { raw::shearcotter_open(*station, name.byte(), row, length, out.as_mut_ptr(), out.len()) };
         Refusal::check(reply.refused).map(|()| reply.ones)
     })
 }
 
 /// The station that the call hands back is the caller's own.
-pub(crate) fn read(station: &raw::Station, word: &[u8], out: &mut [u8]) -> Result<u16, Refusal> {
+pub(crate) fn read(station: &raw::Station, name: Name, word: &[u8], out: &mut [u8]) -> Result<u16, Refusal> {
     secretly::<{ raw::STACK_READ + COPIES }, _>(|| {
-        let reply = unsafe { raw::shearcotter_read(*station, word.as_ptr(), word.len(), out.as_mut_ptr(), out.len()) };
+        let (row, length) = (word.as_ptr(), word.len());
+        let reply = unsafe { raw::shearcotter_read(*station, name.byte(), row, length, out.as_mut_ptr(), out.len()) };
         Refusal::check(reply.refused).map(|()| reply.ones)
     })
 }
 
 /// The station that the call hands back is the caller's own.
-pub(crate) fn report(station: &raw::Station, capsules: &[u8], records: &mut [u8]) -> Result<Counts, Refusal> {
+pub(crate) fn report(
+    station: &raw::Station,
+    name: Name,
+    capsules: &[u8],
+    records: &mut [u8],
+) -> Result<Counts, Refusal> {
     let mut counts = Counts::default();
     secretly::<{ raw::STACK_REPORT + COPIES }, _>(|| {
+        let (rows, length) = (capsules.as_ptr(), capsules.len());
         let reported = unsafe {
-            raw::shearcotter_report(*station, capsules.as_ptr(), capsules.len(), records.as_mut_ptr(), records.len())
+            raw::shearcotter_report(*station, name.byte(), rows, length, records.as_mut_ptr(), records.len())
         };
         *counts.as_mut() = reported.counts;
         Refusal::check(reported.refused)
@@ -166,22 +175,23 @@ pub(crate) fn report(station: &raw::Station, capsules: &[u8], records: &mut [u8]
 /// Writes the session key, zeros where it is refused. The station that the call hands back is the caller's own.
 pub(crate) fn session(
     station: &raw::Station,
+    name: Name,
     capsule: &[u8],
     secret: &[u8],
     key: &mut [u8; raw::SESSION_BYTES],
 ) -> Result<(), Refusal> {
     secretly::<{ raw::STACK_SESSION + COPIES }, _>(|| {
-        let derived = unsafe {
-            raw::shearcotter_session(*station, capsule.as_ptr(), capsule.len(), secret.as_ptr(), secret.len())
-        };
+        let (row, length) = (capsule.as_ptr(), capsule.len());
+        let derived =
+            unsafe { raw::shearcotter_session(*station, name.byte(), row, length, secret.as_ptr(), secret.len()) };
         *key = derived.key;
         Refusal::check(derived.refused)
     })
 }
 
-pub(crate) fn drop_key(station: &mut raw::Station) -> Result<(), Refusal> {
+pub(crate) fn drop_key(station: &mut raw::Station, name: Name) -> Result<(), Refusal> {
     secretly::<{ raw::STACK_DROP + COPIES }, _>(|| {
-        let reply = unsafe { raw::shearcotter_drop(*station) };
+        let reply = unsafe { raw::shearcotter_drop(*station, name.byte()) };
         *station = reply.station;
         Refusal::check(reply.refused)
     })

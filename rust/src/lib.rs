@@ -1,23 +1,25 @@
 //! Classic McEliece capsules: the proved calls of `libshearcotter.a` as safe types.
 //!
-//! A [`Station`] keeps one key: [`load`](Station::load) it from a key file, [`publish`](Station::publish) its
-//! public key, [`open`](Station::open) capsules, derive their [`session`](Station::session) keys, [`report`](Station::report)
-//! on them and [`read`](Station::read) words. [`lock`](lock()) makes a capsule from a public key, and [`shake256`](shake256())
-//! is the function that session keys are derived by. A call that is refused answers a [`Refusal`] and changes nothing.
+//! A [`Station`] keeps a key for each of two recipients, [`Name::A`] and [`Name::B`], and each call names one:
+//! [`load`](Station::load) its key from a key file, [`publish`](Station::publish) its public key, [`open`](Station::open)
+//! capsules, derive their [`session`](Station::session) keys, [`report`](Station::report) on them and
+//! [`read`](Station::read) words. A [`Recipient`] is a handle for one of the two. [`lock`](lock()) makes a capsule from a
+//! public key, and [`shake256`](shake256()) is the function that session keys are derived by. A call that is refused answers
+//! a [`Refusal`] and changes nothing.
 //! Words are read with every key; all else asks for an exchange key, one with an irreducible g:
 //! [`is_exchange_key`](Station::is_exchange_key).
 //!
 //! ```
-//! use shearcotter::{lock, Shape, Station};
+//! use shearcotter::{lock, Name, Shape, Station};
 //!
 //! let file = [4, 6, 0, 1, 0, 9, 0, 13, 0, 15, 0, 14, 0, 11, 0, 1, 0, 0, 0];
 //! let mut station = Station::fresh();
-//! station.load(&file)?;
-//! let public = station.publish()?;
+//! station.load(Name::A, &file)?;
+//! let public = station.publish(Name::A)?;
 //! let capsule = lock(Shape::new(4, 6, 1)?, &public, &[0x10])?;
 //! assert_eq!(capsule, [0x03]);
-//! assert_eq!(station.open(&capsule)?.places().collect::<Vec<_>>(), [4]);
-//! let report = station.report(&[0x03, 0x00, 0x13])?;
+//! assert_eq!(station.open(Name::A, &capsule)?.places().collect::<Vec<_>>(), [4]);
+//! let report = station.report(Name::A, &[0x03, 0x00, 0x13])?;
 //! assert_eq!(report.records(), [0, 13, 9]);
 //! assert_eq!(report.counts().to_string(), "total 3 opened 1 refused 2");
 //! # Ok::<(), shearcotter::Refusal>(())
@@ -26,7 +28,7 @@
 //! # Stack
 //!
 //! A call takes up to 243 KiB of stack, about 265 without optimisation, since the station passes by value. Each call touches
-//! [`raw::STACK`] bytes of stack first, 384 KiB, so that a thread with less ends at its guard page and nowhere else.
+//! [`raw::STACK`] bytes of stack first, 512 KiB, so that a thread with less ends at its guard page and nowhere else.
 //!
 //! # Secrets
 //!
@@ -41,8 +43,10 @@
 mod calls;
 pub mod field;
 mod locking;
+mod name;
 mod pattern;
 pub mod raw;
+mod recipient;
 mod refusal;
 mod register;
 mod report;
@@ -52,7 +56,9 @@ mod station;
 mod wiping;
 
 pub use locking::{lock, lock_into};
+pub use name::Name;
 pub use pattern::Pattern;
+pub use recipient::Recipient;
 pub use refusal::Refusal;
 pub use register::{register, Register};
 pub use report::{Counts, Report};

@@ -17,7 +17,7 @@ pub const BYTE_VALUES: usize = 256;
 /// Bytes of a session key.
 pub const SESSION_BYTES: usize = 32;
 /// Bytes of stack that each safe call makes sure of.
-pub const STACK: usize = 384 * 1024;
+pub const STACK: usize = 512 * 1024;
 /// Bytes of stack that `shearcotter_load` takes, its argument and reply in the caller included.
 pub const STACK_LOAD: usize = 192 * 1024;
 /// The same for `shearcotter_publish`.
@@ -37,12 +37,17 @@ pub const STACK_DROP: usize = 49 * 1024;
 /// Bytes of stack that `shearcotter_shake256` takes.
 pub const STACK_SHAKE: usize = 2 * 1024;
 
-/// `state` of an empty station.
+/// `state` of an empty slot.
 pub const EMPTY: u8 = 0;
-/// `state` of a loaded station.
+/// `state` of a loaded slot.
 pub const LOADED: u8 = 1;
-/// `state` of a published station.
+/// `state` of a published slot.
 pub const PUBLISHED: u8 = 2;
+
+/// The name of the recipient A; a call that takes neither this nor [`B`] is refused with 35.
+pub const A: u8 = 1;
+/// The name of the recipient B.
+pub const B: u8 = 2;
 
 /// A kept key; numbers past n and t do not count.
 #[derive(Clone, Copy, PartialEq, Eq)]
@@ -60,14 +65,24 @@ pub struct Key {
     pub g: [u16; MOST_ERRORS],
 }
 
-/// A station: its state and its key.
+/// A recipient's slot: its state and its key.
 #[derive(Clone, Copy, PartialEq, Eq)]
 #[repr(C)]
-pub struct Station {
+pub struct Slot {
     /// [`EMPTY`], [`LOADED`], or any other number for published.
     pub state: u8,
     /// The kept key.
     pub key: Key,
+}
+
+/// A station: a slot for each recipient.
+#[derive(Clone, Copy, PartialEq, Eq)]
+#[repr(C)]
+pub struct Station {
+    /// The slot that [`A`] names.
+    pub a: Slot,
+    /// The slot that [`B`] names.
+    pub b: Slot,
 }
 
 /// What a station's call hands back.
@@ -167,13 +182,14 @@ extern "C" {
         out: *mut u8,
         out_length: usize,
     ) -> u8;
-    /// An empty station.
+    /// A station with both slots empty.
     pub fn shearcotter_fresh() -> Station;
     /// Keeps the key of a key file.
-    pub fn shearcotter_load(station: Station, file: *const u8, file_length: usize) -> Reply;
+    pub fn shearcotter_load(station: Station, name: u8, file: *const u8, file_length: usize) -> Reply;
     /// Writes the public key.
     pub fn shearcotter_publish(
         station: Station,
+        name: u8,
         out: *mut u8,
         out_length: usize,
         work: *mut u8,
@@ -182,6 +198,7 @@ extern "C" {
     /// Writes the pattern of a capsule.
     pub fn shearcotter_open(
         station: Station,
+        name: u8,
         capsule: *const u8,
         capsule_length: usize,
         out: *mut u8,
@@ -190,6 +207,7 @@ extern "C" {
     /// Writes the pattern that turns a word into the code word within t places.
     pub fn shearcotter_read(
         station: Station,
+        name: u8,
         word: *const u8,
         word_length: usize,
         out: *mut u8,
@@ -198,6 +216,7 @@ extern "C" {
     /// Writes a record for each capsule, and counts the records of each value.
     pub fn shearcotter_report(
         station: Station,
+        name: u8,
         capsules: *const u8,
         capsules_length: usize,
         records: *mut u8,
@@ -206,11 +225,12 @@ extern "C" {
     /// The session key of a capsule, with the secret for one that does not open.
     pub fn shearcotter_session(
         station: Station,
+        name: u8,
         capsule: *const u8,
         capsule_length: usize,
         secret: *const u8,
         secret_length: usize,
     ) -> Derived;
     /// Drops the key.
-    pub fn shearcotter_drop(station: Station) -> Reply;
+    pub fn shearcotter_drop(station: Station, name: u8) -> Reply;
 }

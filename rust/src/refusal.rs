@@ -69,6 +69,7 @@ refusals! {
     InverseOfZero 32 "inverse of 0",
     BadSecret 33 "secret of wrong length or with filler set",
     ReducibleKey 34 "g has a proper factor",
+    UnknownName 35 "a name other than A and B",
 }
 
 impl Refusal {

@@ -1,6 +1,6 @@
 //! Document 01's bench keys: the rows P1 to P13, and the rows by running.
 
-use shearcotter::{field, lock, Pattern, Refusal, Shape, Station};
+use shearcotter::{field, lock, Name, Pattern, Refusal, Shape, Station};
 
 pub const K1: [u8; 19] = [4, 6, 0, 1, 0, 9, 0, 13, 0, 15, 0, 14, 0, 11, 0, 1, 0, 0, 0];
 pub const K3: [u8; 19] = [4, 6, 0, 1, 0, 14, 0, 9, 0, 13, 0, 15, 0, 11, 0, 1, 0, 0, 0];
@@ -20,19 +20,19 @@ pub fn file(m: u8, support: &[u16], g: &[u16]) -> Vec<u8> {
 
 fn loaded(file: &[u8]) -> Station {
     let mut station = Station::fresh();
-    station.load(file).expect("load accepts");
+    station.load(Name::A, file).expect("load accepts");
     station
 }
 
 fn published(file: &[u8]) -> Station {
     let mut station = loaded(file);
-    station.publish().expect("publish accepts");
+    station.publish(Name::A).expect("publish accepts");
     station
 }
 
 fn load_number(file: &[u8]) -> u8 {
     let mut station = Station::fresh();
-    station.load(file).map_or_else(Refusal::number, |()| 0)
+    station.load(Name::A, file).map_or_else(Refusal::number, |()| 0)
 }
 
 fn number(answer: Result<Pattern, Refusal>) -> u8 {
@@ -48,17 +48,17 @@ fn bytes_and_ones(answer: Result<Pattern, Refusal>) -> (Vec<u8>, u16) {
 #[test]
 fn rows_of_k1() {
     let shape = Shape::new(4, 6, 1).expect("a shape");
-    let public = loaded(&K1).publish().expect("P2");
+    let public = loaded(&K1).publish(Name::A).expect("P2");
     assert_eq!(public, [3, 1, 2, 0], "P2");
     assert_eq!(lock(shape, &public, &[0x10]), Ok(vec![3]), "P3");
     let station = published(&K1);
-    assert_eq!(bytes_and_ones(station.open(&[0x03])), (vec![0x10], 1), "P4");
-    assert_eq!(number(station.open(&[0x00])), 13, "P5");
-    assert_eq!(number(station.open(&[0x06])), 13, "P6");
-    assert_eq!(number(station.open(&[0x13])), 9, "P7");
-    assert_eq!(bytes_and_ones(station.read(&[0x13])), (vec![0x00], 0), "P8");
-    assert_eq!(bytes_and_ones(station.read(&[0x24])), (vec![0x01], 1), "P9");
-    assert_eq!(number(station.read(&[0x06])), 14, "P10");
+    assert_eq!(bytes_and_ones(station.open(Name::A, &[0x03])), (vec![0x10], 1), "P4");
+    assert_eq!(number(station.open(Name::A, &[0x00])), 13, "P5");
+    assert_eq!(number(station.open(Name::A, &[0x06])), 13, "P6");
+    assert_eq!(number(station.open(Name::A, &[0x13])), 9, "P7");
+    assert_eq!(bytes_and_ones(station.read(Name::A, &[0x13])), (vec![0x00], 0), "P8");
+    assert_eq!(bytes_and_ones(station.read(Name::A, &[0x24])), (vec![0x01], 1), "P9");
+    assert_eq!(number(station.read(Name::A, &[0x06])), 14, "P10");
     assert_eq!(lock(shape, &public, &[0x00]), Err(Refusal::NotTOnes), "K1 lock 00");
 }
 
@@ -67,11 +67,11 @@ fn rows_of_other_keys() {
     let mut twice = K1;
     twice[13] = 1;
     assert_eq!(load_number(&twice), 5, "P11");
-    assert_eq!(loaded(&K3).publish(), Err(Refusal::DependentColumns), "P12");
+    assert_eq!(loaded(&K3).publish(Name::A), Err(Refusal::DependentColumns), "P12");
     assert_eq!(field::multiply(4, 8, 15), Ok(1), "P13");
     let support: Vec<u16> = (0..16).collect();
     let k2 = loaded(&file(4, &support, &[8, 1]));
-    assert_eq!(bytes_and_ones(k2.read(&[3, 0])), (vec![3, 0], 2), "K2");
+    assert_eq!(bytes_and_ones(k2.read(Name::A, &[3, 0])), (vec![3, 0], 2), "K2");
     assert_eq!(load_number(&file(4, &support[2..11], &[1, 0])), 6);
 }
 

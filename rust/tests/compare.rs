@@ -1,12 +1,12 @@
 //! The library beside the second implementation, on random keys and words of every shape.
 
-use shearcotter::{field, lock, register, Pattern, Refusal, Shape, Station};
+use shearcotter::{field, lock, register, Name, Pattern, Refusal, Shape, Station};
 
-use crate::independent::drawn::has_reading_keys;
+use crate::independent::drawn::{has_reading_keys, near_code_word};
 use crate::independent::field::Field;
 use crate::independent::held::Held;
 use crate::independent::random::Random;
-use crate::independent::{bits, calls, matrix, poly};
+use crate::independent::{bits, calls, poly};
 
 const STANDARD: [(u8, usize, usize); 5] =
     [(12, 3488, 64), (13, 4608, 96), (13, 6688, 128), (13, 6960, 119), (13, 8192, 128)];
@@ -26,7 +26,7 @@ fn answer(result: Result<Pattern, Refusal>) -> calls::Outcome {
 
 fn loaded(held: &Held) -> Station {
     let mut station = Station::fresh();
-    station.load(&held.key.file()).expect("load accepts");
+    station.load(Name::B, &held.key.file()).expect("load accepts");
     station
 }
 
@@ -36,13 +36,13 @@ fn shape(held: &Held) -> Shape {
 
 /// Publishes on both sides; whether the key has a public key.
 fn same_public_key(station: &mut Station, held: &Held) -> bool {
-    assert_eq!(station.is_exchange_key(), Ok(!held.has_factor()), "{:?}", held.key);
+    assert_eq!(station.is_exchange_key(Name::B), Ok(!held.has_factor()), "{:?}", held.key);
     let expected = calls::publish(1, held, usize::MAX, usize::MAX);
-    let public = station.publish();
+    let public = station.publish(Name::B);
     assert_eq!(public.as_ref().map_or_else(|refusal| refusal.number(), |_| 0), expected.number, "{:?}", held.key);
     assert!(public.unwrap_or_default() == expected.written, "{:?}", held.key);
-    assert_eq!(station.is_published(), expected.number == 0);
-    station.is_published()
+    assert_eq!(station.is_published(Name::B), expected.number == 0);
+    station.is_published(Name::B)
 }
 
 /// Opening, a report and a session key on a station that publish refused: 34 or 24, whatever they are lent.
@@ -51,27 +51,27 @@ fn opens_nothing(random: &mut Random, station: &Station, held: &Held) {
     let length = held.key.capsule_bits().div_ceil(8);
     for length in [0, length, length + 1] {
         let (capsule, secret) = (random.bytes(length), random.secret(held.key.n));
-        assert_eq!(answer(station.open(&capsule)).number, number, "{:?}", held.key);
-        assert_eq!(station.report(&capsule).map_err(Refusal::number), Err(number), "{:?}", held.key);
-        assert_eq!(station.session(&capsule, &secret).map_err(Refusal::number), Err(number), "{:?}", held.key);
+        assert_eq!(answer(station.open(Name::B, &capsule)).number, number, "{:?}", held.key);
+        assert_eq!(station.report(Name::B, &capsule).map_err(Refusal::number), Err(number), "{:?}", held.key);
+        assert_eq!(station.session(Name::B, &capsule, &secret).map_err(Refusal::number), Err(number), "{:?}", held.key);
     }
 }
 
 fn same_reading(station: &Station, held: &Held, word: &[u8]) {
     let expected = calls::read(1, held, word, word.len());
-    assert_eq!(answer(station.read(word)), expected, "{word:02x?} {:?}", held.key);
+    assert_eq!(answer(station.read(Name::B, word)), expected, "{word:02x?} {:?}", held.key);
 }
 
 /// The pattern, and the session key with a secret of any kind.
 fn same_opening(random: &mut Random, station: &Station, held: &Held, capsule: &[u8]) {
     let expected = calls::open(2, held, capsule, held.key.n.div_ceil(8));
-    assert_eq!(answer(station.open(capsule)), expected, "{capsule:02x?} {:?}", held.key);
+    assert_eq!(answer(station.open(Name::B, capsule)), expected, "{capsule:02x?} {:?}", held.key);
     let secret = random.secret(held.key.n);
     let expected = match calls::session(2, held, capsule, &secret) {
         (0, key) => Ok(key),
         (number, _) => Err(number),
     };
-    let answer = station.session(capsule, &secret).map_err(Refusal::number);
+    let answer = station.session(Name::B, capsule, &secret).map_err(Refusal::number);
     assert_eq!(answer, expected, "{capsule:02x?} {secret:02x?} {:?}", held.key);
 }
 
@@ -83,25 +83,6 @@ fn same_locking(held: &Held, pattern: &[u8]) -> Vec<u8> {
     assert_eq!(capsule.clone().map_or_else(Refusal::number, |_| 0), expected.number);
     assert_eq!(capsule.unwrap_or_default(), expected.written);
     expected.written
-}
-
-/// A code word with the given number of bits turned.
-pub fn near_code_word(random: &mut Random, held: &Held, errors: usize) -> Vec<u8> {
-    let key = &held.key;
-    let rank = key.capsule_bits();
-    let mut word = vec![0; key.n.div_ceil(8)];
-    if let Some(public) = held.public() {
-        word = random.row(key.n);
-        for i in bits::places(rank, &word) {
-            word[i / 8] ^= 1 << (i % 8);
-        }
-        let sums = matrix::lock(key.m, key.n, key.t, public, &word);
-        for (byte, sum) in word.iter_mut().zip(sums) {
-            *byte ^= sum;
-        }
-    }
-    let turned = random.pattern(key.n, errors);
-    word.iter().zip(turned).map(|(byte, turn)| byte ^ turn).collect()
 }
 
 /// A packed number of n bits.
@@ -246,7 +227,7 @@ fn damaged_keys() {
         for number in (1..=7).filter(|number| *number != 6 || t > 1) {
             for _ in 0..if m == 4 { 8 } else { 2 } {
                 let file = random.damaged(&key, number);
-                let refusal = Station::fresh().load(&file).expect_err("a damaged key");
+                let refusal = Station::fresh().load(Name::B, &file).expect_err("a damaged key");
                 assert_eq!(refusal.number(), number, "{file:02x?}");
             }
         }
@@ -272,7 +253,7 @@ fn the_square_test_by_search() {
             continue;
         }
         let file = crate::bench_keys::file(4, &support, &g[..t]);
-        let number = Station::fresh().load(&file).map_or_else(Refusal::number, |()| 0);
+        let number = Station::fresh().load(Name::B, &file).map_or_else(Refusal::number, |()| 0);
         assert_eq!(number, if square { 6 } else { 0 }, "{g:?}");
     }
 }

@@ -1,7 +1,7 @@
 //! Exchange keys, whose g is irreducible, and reading keys, whose g has a proper factor: 34 and its place among the numbers.
 
-use shearcotter::raw::Station;
-use shearcotter::{raw, Refusal};
+use shearcotter::raw::Slot;
+use shearcotter::{raw, Name, Refusal};
 
 use crate::independent::drawn::{Kind, Split};
 use crate::independent::field::Field;
@@ -10,7 +10,7 @@ use crate::independent::key::Key;
 use crate::independent::poly::Poly;
 use crate::independent::random::Random;
 use crate::independent::{bits, calls, factors};
-use crate::support::raw_calls::{self, holding};
+use crate::support::raw_calls::{self, empty, holding, placed, with};
 use crate::support::{only_written, UNTOUCHED};
 
 /// The monic polynomial with the digits of a number, to the base 2^m, as its lower coefficients.
@@ -45,21 +45,25 @@ fn two_ways_at_width_4() {
 
 /// What publish answers without any room, on the loaded station; nothing changes.
 fn without_room(key: &Key) -> u8 {
-    let station = raw_calls::load(raw_calls::fresh(), &key.file()).station;
-    assert!(station == holding(1, key), "{key:?}");
-    let reply = raw_calls::publish(station, &mut [], &mut []);
-    assert!(reply.station == station && reply.ones == 0, "{key:?}");
-    reply.refused
+    let [of_a, of_b] = placed(empty()).map(|(name, before)| {
+        let station = raw_calls::load(before, name, &key.file()).station;
+        assert!(station == with(before, name, holding(1, key)), "{key:?}");
+        let reply = raw_calls::publish(station, name, &mut [], &mut []);
+        assert!(reply.station == station && reply.ones == 0, "{key:?}");
+        reply.refused
+    });
+    assert_eq!(of_a, of_b, "{key:?}");
+    of_a
 }
 
 /// 34 or 10, and the crate's own answer.
 fn same_kind(key: &Key, split: bool) {
     assert_eq!(without_room(key), if split { 34 } else { 10 }, "{key:?}");
     let mut station = shearcotter::Station::fresh();
-    assert_eq!(station.is_exchange_key(), Err(Refusal::NoKey));
-    station.load(&key.file()).expect("load accepts");
-    assert_eq!(station.is_exchange_key(), Ok(!split), "{key:?}");
-    assert!(!station.is_published());
+    assert_eq!(station.is_exchange_key(Name::A), Err(Refusal::NoKey));
+    station.load(Name::A, &key.file()).expect("load accepts");
+    assert_eq!(station.is_exchange_key(Name::A), Ok(!split), "{key:?}");
+    assert!(!station.is_published(Name::A));
 }
 
 /// Every g of degree 1 to 3 with which there is a key.
@@ -102,8 +106,8 @@ fn keys(random: &mut Random, (m, n, t): (u8, usize, usize)) -> Vec<Kind<Held>> {
     random.kinds(held)
 }
 
-/// A station in a state with a key: 21 stands before the key's numbers.
-fn station((held, of_key): &Kind<Held>, state: u8) -> Kind<Station> {
+/// A slot in a state with a key: 21 stands before the key's numbers.
+fn slot((held, of_key): &Kind<Held>, state: u8) -> Kind<Slot> {
     let before = (state == 0).then_some(21).into_iter();
     (holding(state, &held.key), before.chain(of_key.iter().copied()).collect())
 }
@@ -123,11 +127,11 @@ fn numbers_of_publish_in_their_order() {
         let (out, work) = (keys[0].0.key.public_length(), keys[0].0.key.work_length());
         let rooms = [(out, work, vec![]), (out, work - 1, vec![11]), (out - 1, work, vec![10]), (0, 0, vec![10, 11])];
         for (key, state) in keys.iter().flat_map(|key| [0, 1, 2, 255].map(|state| (key, state))) {
-            let (station, of_station) = station(key, state);
+            let (slot, of_slot) = slot(key, state);
             for (out, work, of_room) in &rooms {
                 let none = vec![if key.0.public().is_none() { 23 } else { 0 }];
-                let number = same_publish(&station, &key.0, *out, *work);
-                assert_eq!(Some(number), first([&of_station, of_room, &none]), "state {state} {:?}", key.0.key);
+                let number = same_publish(&slot, &key.0, *out, *work);
+                assert_eq!(Some(number), first([&of_slot, of_room, &none]), "state {state} {:?}", key.0.key);
             }
         }
     }
@@ -143,17 +147,20 @@ fn dependent(random: &mut Random, (m, n, t): (u8, usize, usize)) -> Held {
     }
 }
 
-/// Publishing with so much room beside what is expected; its number.
-fn same_publish(station: &Station, held: &Held, out: usize, work: usize) -> u8 {
-    let expected = calls::publish(station.state, held, out, work);
-    let (mut out, mut work) = (vec![UNTOUCHED; out], vec![UNTOUCHED; work]);
-    let reply = raw_calls::publish(*station, &mut out, &mut work);
-    assert_eq!(reply.refused, expected.number, "{:?}", held.key);
-    assert!(only_written(&out, &expected.written), "{:?}", held.key);
-    assert!(matches!(reply.refused, 0 | 23) || only_written(&work, &[]), "{:?}", held.key);
-    let state = if reply.refused == 0 { raw::PUBLISHED } else { station.state };
-    assert!(reply.station == Station { state, ..*station }, "the station has changed: {:?}", held.key);
-    reply.refused
+/// Publishing with so much room beside what is expected, under each name; its number.
+fn same_publish(slot: &Slot, held: &Held, out: usize, work: usize) -> u8 {
+    let expected = calls::publish(slot.state, held, out, work);
+    for (name, station) in placed(*slot) {
+        let (mut out, mut work) = (vec![UNTOUCHED; out], vec![UNTOUCHED; work]);
+        let reply = raw_calls::publish(station, name, &mut out, &mut work);
+        assert_eq!(reply.refused, expected.number, "{:?}", held.key);
+        assert!(only_written(&out, &expected.written), "{:?}", held.key);
+        assert!(matches!(reply.refused, 0 | 23) || only_written(&work, &[]), "{:?}", held.key);
+        let state = if reply.refused == 0 { raw::PUBLISHED } else { slot.state };
+        let after = with(station, name, Slot { state, ..*slot });
+        assert!(reply.station == after, "the station has changed: {:?}", held.key);
+    }
+    expected.number
 }
 
 /// A capsule that opens under the key, one that does not, and those with 8 and 9.
@@ -186,15 +193,15 @@ fn numbers_of_open_in_their_order() {
         let keys = keys(&mut random, shape);
         let capsules = capsules(&mut random, &keys[0].0);
         for (key, state) in keys.iter().flat_map(|key| [0, 1, 2, 255].map(|state| (key, state))) {
-            let (station, mut of_station) = station(key, state);
-            of_station.extend((state == 1).then_some(24));
+            let (slot, mut of_slot) = slot(key, state);
+            of_slot.extend((state == 1).then_some(24));
             for (capsule, of_capsule) in &capsules {
                 for room in [0, shape.1.div_ceil(8)] {
                     let short = vec![10; usize::from(room == 0)];
                     // 8 and 9 stand before 10, and 13 behind it.
                     let (early, late) = of_capsule.iter().partition(|number| **number != 13);
-                    let number = same_open(&station, &key.0, capsule, room);
-                    let expected = first([&of_station, &early, &short, &late]).unwrap_or(0);
+                    let number = same_open(&slot, &key.0, capsule, room);
+                    let expected = first([&of_slot, &early, &short, &late]).unwrap_or(0);
                     assert_eq!(number, expected, "state {state} {capsule:02x?} {:?}", key.0.key);
                 }
             }
@@ -202,14 +209,16 @@ fn numbers_of_open_in_their_order() {
     }
 }
 
-/// Opening with so much room beside what is expected; its number.
-fn same_open(station: &Station, held: &Held, capsule: &[u8], room: usize) -> u8 {
-    let expected = calls::open(station.state, held, capsule, room);
-    let mut out = vec![UNTOUCHED; room];
-    let reply = raw_calls::open(*station, capsule, &mut out);
-    assert_eq!((reply.refused, reply.ones), (expected.number, expected.ones), "{:?}", held.key);
-    assert!(only_written(&out, &expected.written) && reply.station == *station, "{:?}", held.key);
-    reply.refused
+/// Opening with so much room beside what is expected, under each name; its number.
+fn same_open(slot: &Slot, held: &Held, capsule: &[u8], room: usize) -> u8 {
+    let expected = calls::open(slot.state, held, capsule, room);
+    for (name, station) in placed(*slot) {
+        let mut out = vec![UNTOUCHED; room];
+        let reply = raw_calls::open(station, name, capsule, &mut out);
+        assert_eq!((reply.refused, reply.ones), (expected.number, expected.ones), "{:?}", held.key);
+        assert!(only_written(&out, &expected.written) && reply.station == station, "{:?}", held.key);
+    }
+    expected.number
 }
 
 /// Words are read with a reading key, loaded or in a station made by hand with the mark, as with any other.
@@ -220,9 +229,11 @@ fn words_are_read_all_the_same() {
         let held = Held::new(random.reading_key(m, n, t));
         for (state, errors) in [1, 2, 255].into_iter().flat_map(|state| [0, 1, t].map(|errors| (state, errors))) {
             let word = random.pattern(n, errors);
-            let mut out = vec![UNTOUCHED; word.len()];
-            let reply = raw_calls::read(holding(state, &held.key), &word, &mut out);
-            assert_eq!((reply.refused, usize::from(reply.ones), &out), (0, errors, &word), "{:?}", held.key);
+            for (name, station) in placed(holding(state, &held.key)) {
+                let mut out = vec![UNTOUCHED; word.len()];
+                let reply = raw_calls::read(station, name, &word, &mut out);
+                assert_eq!((reply.refused, usize::from(reply.ones), &out), (0, errors, &word), "{:?}", held.key);
+            }
             assert_eq!(calls::read(state, &held, &word, word.len()).written, word);
         }
     }

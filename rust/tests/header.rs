@@ -1,4 +1,4 @@
-//! `include/shearcotter.h` against the crate: names, numbers and words of refusals, limits, stack, sizes, version.
+//! `include/shearcotter.h` against the crate: names, numbers and words of refusals, recipients, limits, stack, sizes, version.
 
 use std::mem::{offset_of, size_of};
 
@@ -40,7 +40,7 @@ fn constant(name: &str) -> usize {
 }
 
 #[test]
-fn limits_states_and_stack() {
+fn limits_states_names_and_stack() {
     for (name, value) in [
         ("MOST_PLACES", raw::MOST_PLACES),
         ("MOST_ERRORS", raw::MOST_ERRORS),
@@ -51,6 +51,8 @@ fn limits_states_and_stack() {
         ("EMPTY", raw::EMPTY.into()),
         ("LOADED", raw::LOADED.into()),
         ("PUBLISHED", raw::PUBLISHED.into()),
+        ("A", raw::A.into()),
+        ("B", raw::B.into()),
         ("STACK_LOAD", raw::STACK_LOAD / 1024),
         ("STACK_PUBLISH", raw::STACK_PUBLISH / 1024),
         ("STACK_LOCK", raw::STACK_LOCK / 1024),
@@ -91,7 +93,8 @@ fn layout_is_the_crate_s() {
         };
     }
     layout!(Key "key" m n t support g);
-    layout!(Station "station" state key);
+    layout!(Slot "slot" state key);
+    layout!(Station "station" a b);
     layout!(Reply "reply" station refused ones);
     layout!(Reported "reported" station refused counts);
     layout!(Derived "derived" station refused key);

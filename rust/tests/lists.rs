@@ -1,130 +1,43 @@
-//! Random lists of calls from a fresh station beside a ledger: every answer, and after every call the station.
+//! Random lists of calls for both recipients beside a ledger: every answer, and after every call the whole station. Then what
+//! leaving out one recipient's calls changes, and calls that name neither.
 
 use std::collections::BTreeMap;
 
-use shearcotter::raw::Station;
+use shearcotter::raw::{Slot, Station, A, B};
 
-use crate::compare::near_code_word;
-use crate::independent::calls;
 use crate::independent::held::Held;
+use crate::independent::named::Drawing;
 use crate::independent::random::Random;
-use crate::support::{only_written, raw_calls, UNTOUCHED};
+use crate::independent::recipients::{Answer, Call, Ledger, Named};
+use crate::support::named::{make, same};
+use crate::support::raw_calls::{empty, fresh, holding, placed, slot, with};
 
-/// A station and what the calls so far should have made of it: its state, and its key where it has one.
-struct List<'a> {
-    station: Station,
-    state: u8,
-    held: &'a Held,
-    keys: &'a [Held],
+/// All calls, and how often they are drawn.
+const CALLS: [&str; 16] = [
+    "load", "load", "publish", "publish", "publish", "open", "open", "open", "read", "read", "report", "report",
+    "session", "session", "session", "drop",
+];
+
+/// Exchange keys with a public key and one perhaps without, and reading keys.
+fn keys(random: &mut Random) -> Vec<Held> {
+    let mut keys: Vec<Held> = [(6, 1), (7, 1), (12, 2), (14, 3)].map(|(n, t)| random.published(4, n, t)).into();
+    let others = [random.exchange_key(4, 16, 3), random.reading_key(4, 14, 2), random.reading_key(4, 15, 3)];
+    keys.extend(others.map(Held::new));
+    keys
 }
 
-impl<'a> List<'a> {
-    fn new(keys: &'a [Held]) -> List<'a> {
-        List { station: raw_calls::fresh(), state: 0, held: &keys[0], keys }
-    }
+fn drawing<'a>(random: &'a mut Random, keys: &'a [Held]) -> Drawing<'a> {
+    Drawing { random, keys, unknown: 12, longest: usize::MAX }
+}
 
-    /// The station that a call handed back is that of the ledger.
-    fn hold(&mut self, station: Station) {
-        let expected =
-            if self.state == 0 { raw_calls::fresh() } else { raw_calls::holding(self.state, &self.held.key) };
-        assert!(station == expected, "state {} {:?}", self.state, self.held.key);
-        self.station = station;
-    }
+/// How many calls of each kind, under which name, had which number.
+type Met = BTreeMap<(&'static str, u8, u8), usize>;
 
-    fn load(&mut self, random: &mut Random) -> u8 {
-        let held = random.pick(self.keys);
-        let file = if random.one_in(4) { random.damaged(&held.key, 5) } else { held.key.file() };
-        let reply = raw_calls::load(self.station, &file);
-        assert_eq!(reply.refused, calls::load(self.state, &file));
-        if reply.refused == 0 {
-            (self.state, self.held) = (1, held);
-        }
-        self.hold(reply.station);
-        reply.refused
-    }
-
-    fn publish(&mut self) -> u8 {
-        let key = &self.held.key;
-        let (mut out, mut work) = (vec![UNTOUCHED; key.public_length()], vec![UNTOUCHED; key.work_length()]);
-        let reply = raw_calls::publish(self.station, &mut out, &mut work);
-        let expected = calls::publish(self.state, self.held, out.len(), work.len());
-        assert_eq!(reply.refused, expected.number);
-        assert!(only_written(&out, &expected.written), "{out:02x?} is not {expected:02x?}");
-        if reply.refused == 0 {
-            self.state = 2;
-        }
-        self.hold(reply.station);
-        reply.refused
-    }
-
-    fn open(&mut self, random: &mut Random) -> u8 {
-        let (capsule, mut out) = (random.row(self.held.key.capsule_bits()), self.pattern());
-        let reply = raw_calls::open(self.station, &capsule, &mut out);
-        let expected = calls::open(self.state, self.held, &capsule, out.len());
-        assert_eq!((reply.refused, reply.ones), (expected.number, expected.ones));
-        assert!(only_written(&out, &expected.written), "{out:02x?} is not {expected:02x?}");
-        self.hold(reply.station);
-        reply.refused
-    }
-
-    fn read(&mut self, random: &mut Random) -> u8 {
-        let (word, mut out) = (near_code_word(random, self.held, self.held.key.t), self.pattern());
-        let reply = raw_calls::read(self.station, &word, &mut out);
-        let expected = calls::read(self.state, self.held, &word, out.len());
-        assert_eq!((reply.refused, reply.ones), (expected.number, expected.ones));
-        assert!(only_written(&out, &expected.written), "{out:02x?} is not {expected:02x?}");
-        self.hold(reply.station);
-        reply.refused
-    }
-
-    fn report(&mut self, random: &mut Random) -> u8 {
-        let (length, room) = (random.below(12), random.below(12));
-        let (capsules, mut records) = (random.bytes(length), vec![UNTOUCHED; room]);
-        let reported = raw_calls::report(self.station, &capsules, &mut records);
-        let expected = calls::report(self.state, self.held, &capsules, room);
-        assert_eq!(reported.refused, expected.number);
-        assert!(only_written(&records, &expected.written), "{records:02x?} is not {expected:02x?}");
-        assert_eq!(reported.counts, calls::counts(&expected.written));
-        self.hold(reported.station);
-        reported.refused
-    }
-
-    fn session(&mut self, random: &mut Random) -> u8 {
-        let key = &self.held.key;
-        let mut capsule = random.row(key.capsule_bits());
-        if random.one_in(4) {
-            let length = random.below(4);
-            capsule = random.bytes(length);
-        }
-        let secret = random.secret(key.n);
-        let derived = raw_calls::session(self.station, &capsule, &secret);
-        assert_eq!((derived.refused, derived.key), calls::session(self.state, self.held, &capsule, &secret));
-        self.hold(derived.station);
-        derived.refused
-    }
-
-    fn drop(&mut self) -> u8 {
-        let reply = raw_calls::drop(self.station);
-        assert_eq!(reply.refused, calls::drop(self.state));
-        self.state = 0;
-        self.hold(reply.station);
-        reply.refused
-    }
-
-    fn pattern(&self) -> Vec<u8> {
-        vec![UNTOUCHED; self.held.key.n.div_ceil(8)]
-    }
-
-    /// A call of any kind; its name and its number.
-    fn call(&mut self, random: &mut Random) -> (&'static str, u8) {
-        match random.below(15) {
-            0 | 1 => ("load", self.load(random)),
-            2..=4 => ("publish", self.publish()),
-            5 | 6 => ("open", self.open(random)),
-            7 => ("read", self.read(random)),
-            8 => ("drop", self.drop()),
-            9..=11 => ("session", self.session(random)),
-            _ => ("report", self.report(random)),
+/// Every number of the list was met, under both names.
+fn all_met(met: &Met, numbers: &[(&'static str, &[u8])]) {
+    for (call, numbers) in numbers {
+        for (name, number) in [A, B].into_iter().flat_map(|name| numbers.iter().map(move |number| (name, *number))) {
+            assert!(met.contains_key(&(*call, name, number)), "{call} of {name} never answered {number}: {met:?}");
         }
     }
 }
@@ -132,25 +45,116 @@ impl<'a> List<'a> {
 #[test]
 fn answers_and_stations_of_random_lists() {
     let mut random = Random::new(21);
-    let mut keys: Vec<Held> = [(6, 1), (12, 2), (14, 3)].map(|(n, t)| random.published(4, n, t)).into();
-    let others = [random.exchange_key(4, 16, 3), random.reading_key(4, 14, 2), random.reading_key(4, 15, 3)];
-    keys.extend(others.map(Held::new));
-    let mut met = BTreeMap::new();
-    for _ in 0..200 {
-        let mut list = List::new(&keys);
-        for _ in 0..100 {
-            *met.entry(list.call(&mut random)).or_insert(0) += 1;
+    let (keys, mut met) = (keys(&mut random), Met::new());
+    for _ in 0..300 {
+        let (mut station, mut ledger) = (fresh(), Ledger::blank());
+        for named in drawing(&mut random, &keys).list(100, &CALLS) {
+            let (after, answer) = same(station, &mut ledger, &named);
+            station = after;
+            let name = if [A, B].contains(&named.name) { named.name } else { 0 };
+            *met.entry((named.call.kind(), name, answer.number)).or_default() += 1;
         }
     }
-    let numbers: [(&str, &[u8]); 5] = [
-        ("publish", &[0, 21, 34]),
-        ("open", &[0, 21, 34, 24, 13]),
-        ("report", &[0, 21, 34, 24, 31]),
-        ("session", &[0, 21, 34, 24, 8, 9, 33]),
-        ("read", &[0, 21]),
-    ];
-    for (call, numbers) in numbers {
-        let missing = numbers.iter().find(|number| !met.contains_key(&(call, **number)));
-        assert_eq!(missing, None, "{call} never answered it: {met:?}");
+    all_met(
+        &met,
+        &[
+            ("load", &[0, 22, 1, 2, 3, 4, 5, 7]),
+            ("publish", &[0, 21, 34, 10, 11]),
+            ("open", &[0, 21, 34, 24, 8, 9, 10, 13]),
+            ("report", &[0, 21, 34, 24, 31]),
+            ("session", &[0, 21, 34, 24, 8, 9, 33]),
+            ("read", &[0, 21, 8, 9, 10, 14]),
+            ("drop", &[0, 21]),
+        ],
+    );
+    let unknown = met.iter().filter(|((_, name, number), _)| *name == 0 || *number == 35);
+    assert!(unknown.clone().all(|((_, name, number), _)| (*name, *number) == (0, 35)), "{met:?}");
+    assert_eq!(unknown.count(), 7, "{met:?}");
+}
+
+/// The answers to the calls of a list, and the station behind each.
+fn run(mut station: Station, calls: &[Named]) -> Vec<(Answer, Station)> {
+    let step = |named: &Named| {
+        let made = make(station, named);
+        station = made.station;
+        (made.answer, made.station)
+    };
+    calls.iter().map(step).collect()
+}
+
+/// Without the calls that name one recipient, on a station where that one has another slot: all answers that are left, the other's
+/// slot behind each call, and that the left-out one's slot stays.
+fn left_out(calls: &[Named], out: u8, stranger: Slot) {
+    let other = A + B - out;
+    let (kept, left): (Vec<Named>, Vec<Named>) = calls.iter().cloned().partition(|named| named.name != out);
+    assert!(!kept.is_empty() && !left.is_empty());
+    let whole = run(fresh(), calls);
+    let expected = calls.iter().zip(&whole).filter(|(named, _)| named.name != out).map(|(_, made)| made);
+    let shorter = run(with(fresh(), out, stranger), &kept);
+    assert_eq!(shorter.len(), expected.clone().count());
+    for ((named, (answer, station)), (before, of_all)) in kept.iter().zip(&shorter).zip(expected) {
+        assert_eq!(answer, before, "{named:02x?}");
+        assert!(slot(station, other) == slot(of_all, other), "the slot of {other} after {named:02x?}");
+        assert!(*slot(station, out) == stranger, "the slot of {out} after {named:02x?}");
+    }
+    let ends = [&whole, &shorter].map(|made| *made.last().map_or(&fresh(), |(_, station)| station));
+    assert!(slot(&ends[0], other) == slot(&ends[1], other), "the slot of {other} at the end");
+}
+
+#[test]
+fn leaving_out_one_recipient_changes_nothing_for_the_other() {
+    let mut random = Random::new(22);
+    let keys = keys(&mut random);
+    for _ in 0..200 {
+        let calls = drawing(&mut random, &keys).list(60, &CALLS);
+        let [(_, beside), _] = placed(empty());
+        for (out, stranger) in [A, B].into_iter().flat_map(|out| [(out, empty()), (out, beside.b)]) {
+            left_out(&calls, out, stranger);
+        }
+    }
+}
+
+/// A call of each kind, with what the key needs and with buffers of no length; the last ones are refused or accepted by a name.
+fn of_each_kind(random: &mut Random, held: &Held) -> Vec<Call> {
+    let key = &held.key;
+    let [public, work, row] = [key.public_length(), key.work_length(), key.n.div_ceil(8)].map(|length| vec![7; length]);
+    let (capsule, word) = (random.row(key.capsule_bits()), random.row(key.n));
+    vec![
+        Call::Load { file: key.file() },
+        Call::Load { file: vec![] },
+        Call::Publish { out: public, work },
+        Call::Publish { out: vec![], work: vec![] },
+        Call::Open { capsule: capsule.clone(), out: row.clone() },
+        Call::Open { capsule: vec![], out: vec![] },
+        Call::Read { word: word.clone(), out: row },
+        Call::Read { word: vec![], out: vec![] },
+        Call::Report { capsules: capsule.clone(), out: vec![7] },
+        Call::Report { capsules: capsule.clone(), out: vec![] },
+        Call::Session { capsule, secret: word },
+        Call::Session { capsule: vec![], secret: vec![] },
+        Call::Drop,
+    ]
+}
+
+/// 35 before all else, whatever the slots hold; station, output and workspace stay.
+#[test]
+fn every_other_name_is_refused_before_all_else() {
+    let mut random = Random::new(23);
+    let held = random.published(4, 12, 2);
+    let calls = of_each_kind(&mut random, &held);
+    let mut slots: Vec<Slot> = [1, 2, 255].map(|state| holding(state, &held.key)).into();
+    let [(_, stranger), _] = placed(empty());
+    slots.extend([empty(), holding(1, &random.reading_key(4, 14, 2)), stranger.b]);
+    for name in (0..=255).filter(|name| ![A, B].contains(name)) {
+        for (a, b) in slots.iter().flat_map(|a| slots.iter().map(move |b| (*a, *b))) {
+            let before = Station { a, b };
+            for call in &calls {
+                let named = Named { name, call: call.clone() };
+                let made = make(before, &named);
+                assert_eq!(made.answer, Answer::refused(35, call), "{named:02x?}");
+                assert!(made.work == call.work() && made.station == before, "{named:02x?}");
+                assert_eq!(Ledger::blank().call(&named), made.answer);
+            }
+        }
     }
 }

@@ -1,30 +1,32 @@
 //! Reports beside the second implementation: records, counts and numbers, with every room for the records.
 
-use shearcotter::raw::Station;
-use shearcotter::Refusal;
+use shearcotter::raw::Slot;
+use shearcotter::{Name, Refusal};
 
 use crate::compare::small_shapes;
 use crate::independent::drawn::{doubled, has_reading_keys};
 use crate::independent::held::Held;
 use crate::independent::random::Random;
 use crate::independent::{calls, matrix};
-use crate::support::raw_calls::{self, holding};
+use crate::support::raw_calls::{self, holding, placed};
 use crate::support::{only_written, UNTOUCHED};
 
-/// A report with room for so many records, beside what is expected; its number.
-fn same_report(station: &Station, held: &Held, capsules: &[u8], room: usize) -> u8 {
-    let expected = calls::report(station.state, held, capsules, room);
-    let mut records = vec![UNTOUCHED; room];
-    let reported = raw_calls::report(*station, capsules, &mut records);
-    let said = || format!("state {} room {room} {capsules:02x?} {:?}", station.state, held.key);
-    assert_eq!(reported.refused, expected.number, "{}", said());
-    assert!(only_written(&records, &expected.written), "{records:02x?} is not {expected:02x?}: {}", said());
-    assert_eq!(reported.counts, calls::counts(&expected.written), "{}", said());
-    assert!(reported.station == *station, "the station has changed: {}", said());
-    reported.refused
+/// A report with room for so many records, beside what is expected, under each name; its number.
+fn same_report(slot: &Slot, held: &Held, capsules: &[u8], room: usize) -> u8 {
+    let expected = calls::report(slot.state, held, capsules, room);
+    for (name, station) in placed(*slot) {
+        let mut records = vec![UNTOUCHED; room];
+        let reported = raw_calls::report(station, name, capsules, &mut records);
+        let said = || format!("{name} state {} room {room} {capsules:02x?} {:?}", slot.state, held.key);
+        assert_eq!(reported.refused, expected.number, "{}", said());
+        assert!(only_written(&records, &expected.written), "{records:02x?} is not {expected:02x?}: {}", said());
+        assert_eq!(reported.counts, calls::counts(&expected.written), "{}", said());
+        assert!(reported.station == station, "the station has changed: {}", said());
+    }
+    expected.number
 }
 
-fn published(held: &Held) -> Station {
+fn published(held: &Held) -> Slot {
     holding(2, &held.key)
 }
 
@@ -67,12 +69,12 @@ fn every_buffer_of_two_bytes() {
     let mut random = Random::new(32);
     for (n, t) in [(6, 1), (12, 2), (14, 3)] {
         let held = random.published(4, n, t);
-        let station = published(&held);
-        assert_eq!(same_report(&station, &held, &[], 0), 0);
+        let slot = published(&held);
+        assert_eq!(same_report(&slot, &held, &[], 0), 0);
         for number in 0..=u16::MAX {
             let bytes = number.to_le_bytes();
-            assert_eq!(same_report(&station, &held, &bytes, 2), 0);
-            assert_eq!(same_report(&station, &held, &bytes[..1], 1), 0);
+            assert_eq!(same_report(&slot, &held, &bytes, 2), 0);
+            assert_eq!(same_report(&slot, &held, &bytes[..1], 1), 0);
         }
     }
 }
@@ -118,22 +120,22 @@ fn standard_shapes() {
     let mut random = Random::new(34);
     for (m, n, t) in [(12, 3488, 64), (13, 4608, 96), (13, 6688, 128), (13, 6960, 119), (13, 8192, 128)] {
         let held = random.published(m, n, t);
-        let (station, length) = (published(&held), capsule_length(&held));
+        let (slot, length) = (published(&held), capsule_length(&held));
         let capsules = some_capsules(&mut random, &held, 9);
         for room in [9, 10, 11, 40] {
-            assert_eq!(same_report(&station, &held, &capsules, room), if room < 10 { 31 } else { 0 });
+            assert_eq!(same_report(&slot, &held, &capsules, room), if room < 10 { 31 } else { 0 });
         }
         for tail in [1, 2, length / 2, length - 1] {
             let cut = &capsules[..2 * length + tail];
             for room in [2, 3, 4] {
-                assert_eq!(same_report(&station, &held, cut, room), if room < 3 { 31 } else { 0 });
+                assert_eq!(same_report(&slot, &held, cut, room), if room < 3 { 31 } else { 0 });
             }
-            assert_eq!(same_report(&station, &held, &capsules[..tail], 1), 0);
+            assert_eq!(same_report(&slot, &held, &capsules[..tail], 1), 0);
         }
         for (cut, room) in [(0, 0), (length - 1, 1), (length, 1), (length + 1, 2)] {
-            assert_eq!(same_report(&station, &held, &capsules[..cut], room), 0);
+            assert_eq!(same_report(&slot, &held, &capsules[..cut], room), 0);
             assert_eq!(
-                same_report(&station, &held, &capsules[..cut], room.saturating_sub(1)),
+                same_report(&slot, &held, &capsules[..cut], room.saturating_sub(1)),
                 if cut > 0 { 31 } else { 0 }
             );
         }
@@ -179,21 +181,21 @@ fn safe_calls() {
     for (m, n, t) in [(4, 6, 1), (4, 13, 3), (12, 3488, 64)] {
         let held = random.published(m, n, t);
         let mut station = shearcotter::Station::fresh();
-        station.load(&held.key.file()).expect("load accepts");
-        station.publish().expect("publish accepts");
+        station.load(Name::A, &held.key.file()).expect("load accepts");
+        station.publish(Name::A).expect("publish accepts");
         let capsules = some_capsules(&mut random, &held, 7);
         for length in [0, 1, capsules.len() - 1, capsules.len()] {
             let expected = calls::report(2, &held, &capsules[..length], usize::MAX).written;
-            let report = station.report(&capsules[..length]).expect("a report");
+            let report = station.report(Name::A, &capsules[..length]).expect("a report");
             assert_eq!(report.records(), expected);
             let counts = calls::counts(&expected);
             assert!((0..=255).all(|number| report.counts().of(number) == counts[usize::from(number)]));
             let mut records = vec![UNTOUCHED; expected.len() + 1];
-            assert_eq!(station.report_into(&capsules[..length], &mut records).as_ref(), Ok(report.counts()));
+            assert_eq!(station.report_into(Name::A, &capsules[..length], &mut records).as_ref(), Ok(report.counts()));
             assert!(only_written(&records, &expected), "{records:02x?} is not {expected:02x?}");
             if let Some(short) = expected.len().checked_sub(1) {
                 records.fill(UNTOUCHED);
-                let refused = station.report_into(&capsules[..length], &mut records[..short]);
+                let refused = station.report_into(Name::A, &capsules[..length], &mut records[..short]);
                 assert_eq!(refused, Err(Refusal::ShortRecords));
                 assert!(only_written(&records, &[]), "{records:02x?} under refusal");
             }

@@ -1,26 +1,28 @@
 //! Session keys beside the second implementation: keys and numbers, for every capsule of width 4 and with secrets of all kinds.
 
-use shearcotter::raw::Station;
-use shearcotter::{shake256, Refusal, Shape};
+use shearcotter::raw::{Slot, A};
+use shearcotter::{shake256, Name, Refusal, Shape};
 
 use crate::compare::small_shapes;
 use crate::independent::drawn::{has_reading_keys, Kind};
 use crate::independent::held::Held;
 use crate::independent::random::Random;
 use crate::independent::{bits, calls, matrix};
-use crate::support::raw_calls::{self, holding};
+use crate::support::raw_calls::{self, holding, placed};
 
-/// A session beside what is expected; its number and its key.
-fn same_session(station: &Station, held: &Held, capsule: &[u8], secret: &[u8]) -> (u8, [u8; 32]) {
-    let derived = raw_calls::session(*station, capsule, secret);
-    let answer = (derived.refused, derived.key);
-    let said = || format!("state {} {capsule:02x?} {secret:02x?} {:?}", station.state, held.key);
-    assert_eq!(answer, calls::session(station.state, held, capsule, secret), "{}", said());
-    assert!(derived.station == *station, "the station has changed: {}", said());
-    answer
+/// A session beside what is expected, under each name; its number and its key.
+fn same_session(slot: &Slot, held: &Held, capsule: &[u8], secret: &[u8]) -> (u8, [u8; 32]) {
+    let expected = calls::session(slot.state, held, capsule, secret);
+    for (name, station) in placed(*slot) {
+        let derived = raw_calls::session(station, name, capsule, secret);
+        let said = || format!("{name} state {} {capsule:02x?} {secret:02x?} {:?}", slot.state, held.key);
+        assert_eq!((derived.refused, derived.key), expected, "{}", said());
+        assert!(derived.station == station, "the station has changed: {}", said());
+    }
+    expected
 }
 
-fn published(held: &Held) -> Station {
+fn published(held: &Held) -> Slot {
     holding(2, &held.key)
 }
 
@@ -39,13 +41,13 @@ fn every_capsule_of_width_4() {
     let mut random = Random::new(61);
     for (m, n, t) in small_shapes() {
         let held = random.published(m, n, t);
-        let (station, secret, length) = (published(&held), random.row(n), capsule_length(&held));
+        let (slot, secret, length) = (published(&held), random.row(n), capsule_length(&held));
         for capsule in all(length) {
             let filler = bits::filler_set(held.key.capsule_bits(), &capsule);
-            assert_eq!(same_session(&station, &held, &capsule, &secret).0, if filler { 9 } else { 0 });
+            assert_eq!(same_session(&slot, &held, &capsule, &secret).0, if filler { 9 } else { 0 });
         }
         for other in (0..8).filter(|other| *other != length) {
-            assert_eq!(same_session(&station, &held, &random.bytes(other), &secret), (8, [0; 32]));
+            assert_eq!(same_session(&slot, &held, &random.bytes(other), &secret), (8, [0; 32]));
         }
         // A key that may have no public key, on a station made by hand; and one whose g has a proper factor.
         let held = Held::new(random.exchange_key(m, n, t));
@@ -68,19 +70,19 @@ fn every_secret_of_width_4() {
     let mut random = Random::new(62);
     for (n, t) in [(5, 1), (6, 1), (8, 1), (11, 2), (13, 3)] {
         let held = random.published(4, n, t);
-        let station = published(&held);
+        let slot = published(&held);
         let [opens, refused] = some_capsules(&mut random, &held);
-        let opened = same_session(&station, &held, &opens, &random.row(n));
+        let opened = same_session(&slot, &held, &opens, &random.row(n));
         for secret in all(n.div_ceil(8)) {
             let fits = !bits::filler_set(n, &secret);
             let expected = if fits { opened } else { (33, [0; 32]) };
-            assert_eq!(same_session(&station, &held, &opens, &secret), expected);
-            assert_eq!(same_session(&station, &held, &refused, &secret).0, expected.0);
+            assert_eq!(same_session(&slot, &held, &opens, &secret), expected);
+            assert_eq!(same_session(&slot, &held, &refused, &secret).0, expected.0);
         }
         for length in (0..6).filter(|length| *length != n.div_ceil(8)) {
             let zeros = vec![0; length];
-            assert_eq!(same_session(&station, &held, &opens, &zeros), (33, [0; 32]));
-            assert_eq!(same_session(&station, &held, &refused, &zeros), (33, [0; 32]));
+            assert_eq!(same_session(&slot, &held, &opens, &zeros), (33, [0; 32]));
+            assert_eq!(same_session(&slot, &held, &refused, &zeros), (33, [0; 32]));
         }
     }
 }
@@ -104,16 +106,17 @@ fn the_secret_counts_exactly_where_open_gives_13() {
     let mut random = Random::new(63);
     for (m, n, t) in [(4, 16, 3), (12, 100, 5), (12, 3488, 64), (13, 4608, 96), (13, 6960, 119), (13, 8192, 128)] {
         let held = random.published(m, n, t);
-        let station = published(&held);
+        let slot = published(&held);
         let [opens, refused] = some_capsules(&mut random, &held);
         let secrets = [random.row(n), random.row(n)];
-        let keys = |capsule: &[u8]| secrets.each_ref().map(|secret| same_session(&station, &held, capsule, secret));
+        let keys = |capsule: &[u8]| secrets.each_ref().map(|secret| same_session(&slot, &held, capsule, secret));
         let [one, other] = keys(&opens);
         assert_eq!(one, other);
         let mut out = vec![0; n.div_ceil(8)];
-        assert_eq!(raw_calls::open(station, &opens, &mut out).refused, 0);
+        let [(_, station), _] = placed(slot);
+        assert_eq!(raw_calls::open(station, A, &opens, &mut out).refused, 0);
         assert_eq!(one, (0, of_parts(1, &out, &opens)));
-        assert_eq!(raw_calls::open(station, &refused, &mut out).refused, 13);
+        assert_eq!(raw_calls::open(station, A, &refused, &mut out).refused, 13);
         let expected = secrets.each_ref().map(|secret| (0, of_parts(0, secret, &refused)));
         assert_eq!(keys(&refused), expected);
         assert_ne!(expected[0], expected[1]);
@@ -134,7 +137,7 @@ fn large_shapes() {
     let standard = [(12, 3488, 64), (13, 4608, 96), (13, 6688, 128), (13, 6960, 119), (13, 8192, 128)];
     for (m, n, t) in standard.into_iter().chain([(12, 100, 5), (12, 13, 1), (13, 1665, 3)]) {
         let held = random.published(m, n, t);
-        let (station, rank) = (published(&held), held.key.capsule_bits());
+        let (slot, rank) = (published(&held), held.key.capsule_bits());
         let public = held.public().expect("a public key");
         for round in 0..12 {
             let ones = [t, t - 1, t, t + 1][round % 4];
@@ -144,17 +147,17 @@ fn large_shapes() {
                 4 if rank % 8 > 0 => bits::set(&mut capsule, rank),
                 _ => {}
             }
-            same_session(&station, &held, &capsule, &random.secret(n));
+            same_session(&slot, &held, &capsule, &random.secret(n));
         }
         let length = rank.div_ceil(8);
         for other in [0, 1, length - 1, length, length + 1] {
-            same_session(&station, &held, &random.bytes(other), &random.row(n));
+            same_session(&slot, &held, &random.bytes(other), &random.row(n));
         }
     }
 }
 
-/// Stations with each of the keys, in every kind of state: 21 before the key's numbers, and 24 behind them.
-fn stations(keys: &[Kind<Held>]) -> Vec<Kind<(Station, &Held)>> {
+/// Slots with each of the keys, in every kind of state: 21 before the key's numbers, and 24 behind them.
+fn slots(keys: &[Kind<Held>]) -> Vec<Kind<(Slot, &Held)>> {
     let mut made = vec![];
     for (held, of_key) in keys {
         for state in [0, 1, 2, 3, 255] {
@@ -202,11 +205,11 @@ fn numbers_in_their_order() {
     for (m, n, t) in [(4, 6, 1), (4, 13, 3), (12, 100, 5), (13, 6957, 119)] {
         let held = random.published(m, n, t);
         let capsules = capsules(&mut random, &held);
-        for ((station, held), of_station) in stations(&random.kinds(held)) {
+        for ((slot, held), of_slot) in slots(&random.kinds(held)) {
             for (capsule, of_capsule) in &capsules {
                 for (secret, of_secret) in secrets(&mut random, n) {
-                    let (number, key) = same_session(&station, held, capsule, &secret);
-                    let first = of_station.iter().chain(of_capsule).chain(&of_secret).next();
+                    let (number, key) = same_session(&slot, held, capsule, &secret);
+                    let first = of_slot.iter().chain(of_capsule).chain(&of_secret).next();
                     assert_eq!(number, first.copied().unwrap_or(0));
                     assert_eq!(key == [0; 32], number != 0);
                 }
@@ -224,20 +227,20 @@ fn safe_calls() {
         let mut station = shearcotter::Station::fresh();
         let secret = random.row(n);
         let [opens, refused] = some_capsules(&mut random, &held);
-        assert_eq!(station.session(&opens, &secret), Err(Refusal::NoKey));
-        station.load(&held.key.file()).expect("load accepts");
-        assert_eq!(station.session(&opens, &secret), Err(Refusal::NotPublished));
-        station.publish().expect("publish accepts");
-        assert_eq!(station.shape().map(Shape::pattern_length), Some(secret.len()));
+        assert_eq!(station.session(Name::A, &opens, &secret), Err(Refusal::NoKey));
+        station.load(Name::A, &held.key.file()).expect("load accepts");
+        assert_eq!(station.session(Name::A, &opens, &secret), Err(Refusal::NotPublished));
+        station.publish(Name::A).expect("publish accepts");
+        assert_eq!(station.shape(Name::A).map(Shape::pattern_length), Some(secret.len()));
         for capsule in [&opens[..], &refused, &opens[1..], &[]] {
             for secret in [&secret[..], &secret[1..], &[]] {
                 let (number, key) = same_session(&published(&held), &held, capsule, secret);
                 let expected = if number == 0 { Ok(key) } else { Err(number) };
-                assert_eq!(station.session(capsule, secret).map_err(Refusal::number), expected);
+                assert_eq!(station.session(Name::A, capsule, secret).map_err(Refusal::number), expected);
             }
         }
-        assert_eq!(station.drop_key(), Ok(()));
-        assert_eq!(station.session(&opens, &secret), Err(Refusal::NoKey));
+        assert_eq!(station.drop_key(Name::A), Ok(()));
+        assert_eq!(station.session(Name::A, &opens, &secret), Err(Refusal::NoKey));
     }
 }
 
@@ -246,14 +249,14 @@ fn safe_calls() {
 fn opening_stays() {
     let mut random = Random::new(67);
     let held = random.published(4, 12, 2);
-    let (station, secret) = (published(&held), random.row(12));
+    let ([(_, station), _], secret) = (placed(published(&held)), random.row(12));
     let mut refused = 0;
     for capsule in all(1) {
         let mut out = [7; 2];
-        let before = raw_calls::open(station, &capsule, &mut out);
-        let derived = raw_calls::session(station, &capsule, &secret);
+        let before = raw_calls::open(station, A, &capsule, &mut out);
+        let derived = raw_calls::session(station, A, &capsule, &secret);
         let mut again = [7; 2];
-        let after = raw_calls::open(derived.station, &capsule, &mut again);
+        let after = raw_calls::open(derived.station, A, &capsule, &mut again);
         assert!(before == after && out == again);
         assert_eq!((derived.refused, after.refused == 13), (0, out == [7; 2]));
         refused += usize::from(after.refused == 13);

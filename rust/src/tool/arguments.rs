@@ -164,7 +164,7 @@ fn takes(choice: &Choice, value: &[u8]) -> bool {
         Takes::Nothing => true,
         Takes::OneOf { words, .. } => words.iter().any(|word| word.name.as_bytes() == value),
         Takes::Number { least, most, .. } => number(value).is_some_and(|number| (*least..=*most).contains(&number)),
-        Takes::Output { .. } => !value.is_empty(),
+        Takes::Input { .. } | Takes::Output { .. } => !value.is_empty(),
     }
 }
 
@@ -212,10 +212,10 @@ fn known(operand: &Operand, word: &OsStr) -> Result<(), Failure> {
 
 /// One input at most is standard input, no output is an input, and none of an option is where the command prints.
 fn streams(given: &Given) -> Result<(), Failure> {
-    let inputs = files_of(given, |kind| matches!(kind, Kind::Input));
+    let mut inputs = files_of(given, |kind| matches!(kind, Kind::Input));
+    inputs.extend(files_of_options(given, |takes| matches!(takes, Takes::Input { .. })));
     let outputs = files_of(given, |kind| matches!(kind, Kind::Output));
-    let options = given.command.options().filter(|choice| matches!(choice.takes, Takes::Output { .. }));
-    let beside: Vec<&OsStr> = options.filter_map(|choice| given.file(choice.name)).collect();
+    let beside = files_of_options(given, |takes| matches!(takes, Takes::Output { .. }));
     files::one_standard_input(&inputs)?;
     outputs.iter().chain(&beside).try_for_each(|out| files::not_an_input(out, &inputs))?;
     beside.iter().try_for_each(|out| files::not_standard_output(out))
@@ -224,4 +224,9 @@ fn streams(given: &Given) -> Result<(), Failure> {
 fn files_of(given: &Given, wanted: fn(&Kind) -> bool) -> Vec<&OsStr> {
     let operands = given.command.operands.iter().zip(&given.operands);
     operands.filter(|(operand, _)| wanted(&operand.kind)).map(|(_, word)| word.as_os_str()).collect()
+}
+
+fn files_of_options(given: &Given, wanted: fn(&Takes) -> bool) -> Vec<&OsStr> {
+    let options = given.command.options().filter(|choice| wanted(&choice.takes));
+    options.filter_map(|choice| given.file(choice.name)).collect()
 }

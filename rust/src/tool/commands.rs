@@ -10,6 +10,7 @@ pub const FORMAT: &str = "--format";
 pub const JOBS: &str = "--jobs";
 pub const EXPLAIN: &str = "--explain";
 pub const RECORDS: &str = "--records";
+pub const SECOND: &str = "--second";
 
 /// The most threads that may be asked for.
 pub const MOST_JOBS: usize = 1024;
@@ -33,7 +34,12 @@ const EXPLAINED: Choice = Choice {
     about: "the number's words, and what was expected and found, behind each refused row, not at the end",
 };
 
-const ROWS: &[Choice] = &[format("places"), ON_THREADS, EXPLAINED];
+const SECOND_KEY: Choice = Choice {
+    name: SECOND,
+    short: None,
+    takes: Takes::Input { value: "KEY" },
+    about: "a second key file, B's, for capsules that are refused 13 with the first, A's",
+};
 
 const KEY: Operand = Operand::needed("KEY", Kind::Input, "a key file");
 const EXCHANGE_KEY: Operand =
@@ -98,7 +104,7 @@ and OUT is left alone. Otherwise OUT is replaced in one step.
     Command {
         name: "open",
         operands: &[EXCHANGE_KEY, CAPSULES],
-        options: ROWS,
+        options: &[SECOND_KEY, format("places"), ON_THREADS, EXPLAINED],
         about: "open capsules",
         details: "\
 Opens the capsules that stand back to back in FILE with the key file KEY, and
@@ -113,6 +119,17 @@ summary on standard error has the total, as in
     shearcotter: capsules: total 3 opened 1 refused 2
 
 and what the numbers mean by which capsules were refused.
+
+With --second there are two recipients, A with the operand KEY and B with the
+option's. A capsule that A refuses 13 is tried under B, and the name of the one
+that opens it is said:
+
+    POSITION open A PLACES...
+    POSITION open B PLACES...
+
+In json the name is the member `recipient`, and raw has none. A capsule that
+both refuse is refused 13. The summary says how many each opened. Both keys have
+capsules of the same number of bits, m*t, and with raw the same n too.
 ",
         run: opening::open,
     },
@@ -160,6 +177,7 @@ and what the numbers mean by which capsules were refused.
         name: "report",
         operands: &[EXCHANGE_KEY, CAPSULES],
         options: &[
+            SECOND_KEY,
             Choice {
                 name: RECORDS,
                 short: None,
@@ -181,13 +199,22 @@ once a block of capsules, so that this takes less time than `open`.
 
 OUT is replaced in one step, also where capsules are refused: it has their
 numbers. Where it is -, the total and the words go to standard error.
+
+With --second there are two recipients, A with the operand KEY and B with the
+option's. A capsule that A refuses 13 is tried under B. The counts of those that
+are opened stand by their names, and the record is 0 for both:
+
+    0  opened under A  2
+    0  opened under B  1
+
+Both keys have capsules of the same number of bits, m*t.
 ",
         run: reporting::report,
     },
     Command {
         name: "read",
         operands: &[KEY, Operand::optional("FILE", Kind::Input, "words of n bits, back to back")],
-        options: ROWS,
+        options: &[format("places"), ON_THREADS, EXPLAINED],
         about: "read words of n bits",
         details: "\
 Reads the words that stand back to back in FILE with the key file KEY: finds the

@@ -110,6 +110,7 @@ fn values_of(command: &Command) -> Vec<(String, String)> {
 fn values(choice: &Choice) -> Option<String> {
     match choice.takes {
         Takes::OneOf { words: list, .. } => Some(words(&joined(list.iter().map(|word| word.name), " "))),
+        Takes::Input { .. } => Some(operand(&Kind::Input)),
         Takes::Output { .. } => Some(operand(&Kind::Output)),
         Takes::Nothing | Takes::Number { .. } => None,
     }

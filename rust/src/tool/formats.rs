@@ -1,6 +1,6 @@
 //! How rows and their patterns are printed.
 
-use shearcotter::Pattern;
+use shearcotter::{Name, Pattern};
 
 use crate::explain::Explained;
 use crate::rows::Answer;
@@ -61,24 +61,27 @@ pub struct Form {
 }
 
 impl Form {
-    pub fn accepted(&self, position: u64, pattern: &Pattern) -> Answer {
+    /// Of two recipients the name goes before the pattern; raw has none.
+    pub fn accepted(&self, position: u64, name: Option<Name>, pattern: &Pattern) -> Answer {
         let text = match self.format {
             Format::Raw => pattern.bytes().to_vec(),
-            Format::Places => self.line(position, pattern, &separated(pattern, " ")),
-            Format::Hex => self.line(position, pattern, &hex(pattern.bytes())),
+            Format::Places => self.line(position, name, pattern, &separated(pattern, " ")),
+            Format::Hex => self.line(position, name, pattern, &hex(pattern.bytes())),
             Format::Json => {
                 let (ones, places) = (pattern.ones(), separated(pattern, ","));
                 let answer = json_answer(position, self.word, 0, "accepted");
-                format!("{{{answer},\"ones\":{ones},\"places\":[{places}]}}\n").into_bytes()
+                let name = name.map_or(String::new(), |name| format!(",\"recipient\":\"{name}\""));
+                format!("{{{answer}{name},\"ones\":{ones},\"places\":[{places}]}}\n").into_bytes()
             }
         };
         Answer { text: text.into(), notes: String::new(), number: 0 }
     }
 
-    fn line(&self, position: u64, pattern: &Pattern, written: &str) -> Vec<u8> {
+    fn line(&self, position: u64, name: Option<Name>, pattern: &Pattern, written: &str) -> Vec<u8> {
+        let name = name.map_or(String::new(), |name| format!(" {name}"));
         let count = if self.counted { format!(" {}", pattern.ones()) } else { String::new() };
         let blank = if written.is_empty() { "" } else { " " };
-        format!("{position} {}{count}{blank}{written}\n", self.word).into_bytes()
+        format!("{position} {}{name}{count}{blank}{written}\n", self.word).into_bytes()
     }
 
     /// A session key, which is in the text and nowhere else.

@@ -41,7 +41,7 @@ pub fn help(given: &Given) -> Result<Status, Failure> {
 /// What an option does, with the values that it takes.
 pub fn about(choice: &Choice) -> String {
     match choice.takes {
-        Takes::Nothing | Takes::Output { .. } => choice.about.to_owned(),
+        Takes::Nothing | Takes::Input { .. } | Takes::Output { .. } => choice.about.to_owned(),
         Takes::OneOf { default, .. } => format!("{}; {default} where it is not given", choice.about),
         Takes::Number { least, most, .. } => format!("{}; from {least} to {most}", choice.about),
     }

@@ -2,7 +2,7 @@
 
 use std::ffi::OsStr;
 
-use shearcotter::{Refusal, Shape, Station};
+use shearcotter::{Name, Recipient, Refusal, Shape, Station};
 
 use crate::arguments::Given;
 use crate::explain::{self, Explained};
@@ -20,19 +20,34 @@ fn refused(key: &OsStr, explained: Explained) -> Failure {
     Failure::Refused(names::input(key), explained, Status::KeyRefused)
 }
 
+/// The recipient that commands with one key act for.
+pub const ONLY: Name = Name::A;
+
+/// The recipient takes the key of a key file; its shape.
+fn load_for(recipient: &mut Recipient<&mut Station>, key: &OsStr) -> Result<Shape, Failure> {
+    let file = Wiped::from(files::read(key, files::MOST_OF_A_KEY)?);
+    let shape = recipient.load(&file).and_then(|()| recipient.shape().ok_or(Refusal::NoKey));
+    shape.map_err(|refusal| refused(key, explain::key_file(&file, files::MOST_OF_A_KEY, refusal)))
+}
+
+/// The recipient takes the key of a key file and publishes it; its shape, and the public key.
+pub fn publish_for(mut recipient: Recipient<&mut Station>, key: &OsStr) -> Result<(Shape, Vec<u8>), Failure> {
+    let shape = load_for(&mut recipient, key)?;
+    let public = recipient.publish().map_err(|refusal| refused(key, explain::publishing(refusal)))?;
+    Ok((shape, public))
+}
+
 /// A station that holds the key of a key file.
 pub fn load(key: &OsStr) -> Result<(Station, Shape), Failure> {
-    let file = Wiped::from(files::read(key, files::MOST_OF_A_KEY)?);
     let mut station = Station::fresh();
-    let shape = station.load(&file).and_then(|()| station.shape().ok_or(Refusal::NoKey));
-    let shape = shape.map_err(|refusal| refused(key, explain::key_file(&file, files::MOST_OF_A_KEY, refusal)))?;
+    let shape = load_for(&mut station.recipient_mut(ONLY), key)?;
     Ok((station, shape))
 }
 
 /// A station that has published, its shape, and the public key.
 pub fn published(key: &OsStr) -> Result<(Station, Shape, Vec<u8>), Failure> {
-    let (mut station, shape) = load(key)?;
-    let public = station.publish().map_err(|refusal| refused(key, explain::publishing(refusal)))?;
+    let mut station = Station::fresh();
+    let (shape, public) = publish_for(station.recipient_mut(ONLY), key)?;
     Ok((station, shape, public))
 }
 
@@ -40,7 +55,7 @@ pub fn published(key: &OsStr) -> Result<(Station, Shape, Vec<u8>), Failure> {
 pub fn check(given: &Given) -> Result<Status, Failure> {
     let [key] = given.operands();
     let (station, shape) = load(key)?;
-    let exchange = station.is_exchange_key().map_err(|refusal| refused(key, explain::publishing(refusal)))?;
+    let exchange = station.is_exchange_key(ONLY).map_err(|refusal| refused(key, explain::publishing(refusal)))?;
     let name = shape.name().map_or(String::new(), |name| format!(" {name}"));
     let status = help::print(&format!("accepted {shape}{name} {}\n", if exchange { EXCHANGE } else { READING_ONLY }))?;
     if !exchange && !given.has(QUIET) {

@@ -20,6 +20,7 @@ mod names;
 mod opening;
 mod patterns;
 mod progress;
+mod recipients;
 mod reporting;
 mod rows;
 mod shapes;

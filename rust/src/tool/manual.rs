@@ -22,6 +22,10 @@ The session keys of a partner's capsules, as the standard derives them:
 
     shearcotter session office.key office.secret capsules
 
+Capsules for two offices on one machine, opened by whichever key does:
+
+    shearcotter open --second other.key office.key capsules
+
 A report on a card, with a record for each of its capsules:
 
     shearcotter report --records card.records office.key card

@@ -4,7 +4,7 @@ use std::ffi::OsStr;
 use std::fs::File;
 use std::io::{self, BufRead, BufReader, Read};
 
-use shearcotter::Shape;
+use shearcotter::{Name, Shape};
 
 use crate::explain::Row;
 use crate::failure::Failure;
@@ -132,10 +132,16 @@ fn no_pattern() -> String {
     "a refused row has no pattern".to_owned()
 }
 
-/// The words behind `POSITION open` or `POSITION read COUNT`, with the count; all words where a line has neither.
+/// The words behind `POSITION open`, `POSITION open NAME` or `POSITION read COUNT`, with the count; all words where a line has
+/// none of these. No place and no hexadecimal word is a name.
 fn pattern_words(line: &str) -> Result<(Option<u64>, Vec<&str>), String> {
     let words: Vec<&str> = line.split_ascii_whitespace().collect();
     match words[..] {
+        [position, formats::OPEN, name, ref rest @ ..]
+            if decimal(position).is_some() && name.parse::<Name>().is_ok() =>
+        {
+            Ok((None, rest.to_vec()))
+        }
         [position, formats::OPEN, ref rest @ ..] if decimal(position).is_some() => Ok((None, rest.to_vec())),
         [position, formats::READ, count, ref rest @ ..] if decimal(position).is_some() => {
             let count = decimal(count).ok_or_else(|| format!("{} is no count", names::shown(count)))?;

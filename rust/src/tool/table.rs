@@ -50,12 +50,13 @@ pub struct Word {
     pub about: &'static str,
 }
 
-/// What stands behind an option. An output is a file that is written beside what the command prints; `-` is standard
-/// output.
+/// What stands behind an option. An input is a file that is read beside the operands; `-` is standard input. An output is a
+/// file that is written beside what the command prints; `-` is standard output.
 pub enum Takes {
     Nothing,
     OneOf { value: &'static str, words: &'static [Word], default: &'static str },
     Number { value: &'static str, least: usize, most: usize },
+    Input { value: &'static str },
     Output { value: &'static str },
 }
 
@@ -73,9 +74,10 @@ impl Choice {
         let short = self.short.map_or(String::new(), |short| format!("{short}, "));
         match self.takes {
             Takes::Nothing => format!("{short}{}", self.name),
-            Takes::OneOf { value, .. } | Takes::Number { value, .. } | Takes::Output { value } => {
-                format!("{short}{} {value}", self.name)
-            }
+            Takes::OneOf { value, .. }
+            | Takes::Number { value, .. }
+            | Takes::Input { value }
+            | Takes::Output { value } => format!("{short}{} {value}", self.name),
         }
     }
 
@@ -85,7 +87,7 @@ impl Choice {
             Takes::Nothing => "no value".to_owned(),
             Takes::OneOf { words, .. } => listed(words.iter().map(|word| word.name)),
             Takes::Number { least, most, .. } => format!("a number from {least} to {most}"),
-            Takes::Output { .. } => "a file".to_owned(),
+            Takes::Input { .. } | Takes::Output { .. } => "a file".to_owned(),
         }
     }
 

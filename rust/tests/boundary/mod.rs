@@ -1,4 +1,4 @@
-//! A deterministic trial of every call at the C boundary: awkward lengths, stations of every kind, forged ones too.
+//! A deterministic trial of every call at the C boundary: awkward lengths, every name, slots of every kind, forged ones too.
 //!
 //! Every answer is compared with the second implementation, and every buffer stands between canaries.
 //! SHEARCOTTER_TRIALS sets the number of calls (1,000,000 where it is not set).
@@ -30,13 +30,13 @@ const CALLS: [(&str, &[u8]); 14] = [
     ("shape_at", &[0, 3]),
     ("register", &[0, 1, 2, 4]),
     ("lock", &[0, 1, 3, 8, 9, 12, 10]),
-    ("load", &[0, 22, 1, 2, 3, 4, 5, 6, 7]),
-    ("publish", &[0, 21, 25, 34, 10, 11, 23]),
-    ("open", &[0, 21, 25, 34, 24, 8, 9, 10, 13]),
-    ("report", &[0, 21, 25, 34, 24, 31]),
-    ("session", &[0, 21, 25, 34, 24, 8, 9, 33]),
-    ("read", &[0, 21, 25, 8, 9, 10, 14]),
-    ("drop", &[0, 21]),
+    ("load", &[0, 35, 22, 1, 2, 3, 4, 5, 6, 7]),
+    ("publish", &[0, 35, 21, 25, 34, 10, 11, 23]),
+    ("open", &[0, 35, 21, 25, 34, 24, 8, 9, 10, 13]),
+    ("report", &[0, 35, 21, 25, 34, 24, 31]),
+    ("session", &[0, 35, 21, 25, 34, 24, 8, 9, 33]),
+    ("read", &[0, 35, 21, 25, 8, 9, 10, 14]),
+    ("drop", &[0, 35, 21]),
     ("shake256", &[0]),
 ];
 

@@ -4,14 +4,13 @@ use std::ffi::{c_int, c_void};
 use std::ptr;
 use std::slice;
 
-use shearcotter::raw;
+use shearcotter::raw::{self, A, B};
 
-use crate::compare::near_code_word;
-use crate::independent::drawn::has_reading_keys;
+use crate::independent::drawn::{has_reading_keys, near_code_word};
 use crate::independent::held::Held;
 use crate::independent::random::Random;
 use crate::independent::{calls, matrix, shake};
-use crate::support::raw_calls;
+use crate::support::raw_calls::{empty, holding, placed};
 
 const PAGE: usize = 4096;
 const NO_ACCESS: c_int = 0;
@@ -70,32 +69,36 @@ fn load_and_publish(held: &Held, cut: usize) {
     let key = &held.key;
     let file = key.file();
     let file = Walled::new(&file[..file.len() - cut]);
-    let reply = unsafe { raw::shearcotter_load(raw_calls::fresh(), file.start(), file.length) };
-    assert_eq!(reply.refused, calls::load(0, file.bytes()));
-    let out = Walled::new(&vec![0; key.public_length() - cut]);
-    let work = Walled::new(&vec![0; key.work_length()]);
-    let station = raw_calls::holding(1, key);
-    let reply = unsafe { raw::shearcotter_publish(station, out.start(), out.length, work.start(), work.length) };
-    let expected = calls::publish(1, held, out.length, work.length);
-    assert_eq!(reply.refused, expected.number);
-    written(&out, &expected);
+    for (name, station) in placed(empty()) {
+        let reply = unsafe { raw::shearcotter_load(station, name, file.start(), file.length) };
+        assert_eq!(reply.refused, calls::load(0, file.bytes()));
+    }
+    for (name, station) in placed(holding(1, key)) {
+        let out = Walled::new(&vec![0; key.public_length() - cut]);
+        let work = Walled::new(&vec![0; key.work_length()]);
+        let (lent, length) = (work.start(), work.length);
+        let reply = unsafe { raw::shearcotter_publish(station, name, out.start(), out.length, lent, length) };
+        let expected = calls::publish(1, held, out.length, work.length);
+        assert_eq!(reply.refused, expected.number);
+        written(&out, &expected);
+    }
 }
 
 fn open_and_read(random: &mut Random, held: &Held, cut: usize) {
-    let (key, station) = (&held.key, raw_calls::holding(2, &held.key));
+    let (key, [(_, station), _]) = (&held.key, placed(holding(2, &held.key)));
     let pattern = random.pattern(key.n, key.t);
     let capsule = held
         .public()
         .map_or_else(|| random.row(key.capsule_bits()), |public| matrix::lock(key.m, key.n, key.t, public, &pattern));
     let capsule = Walled::new(&capsule[cut..]);
     let out = Walled::new(&vec![0; key.n.div_ceil(8)]);
-    let reply = unsafe { raw::shearcotter_open(station, capsule.start(), capsule.length, out.start(), out.length) };
+    let reply = unsafe { raw::shearcotter_open(station, A, capsule.start(), capsule.length, out.start(), out.length) };
     let expected = calls::open(2, held, capsule.bytes(), out.length);
     assert_eq!((reply.refused, reply.ones), (expected.number, expected.ones));
     written(&out, &expected);
     let word = Walled::new(&near_code_word(random, held, key.t)[cut..]);
     let out = Walled::new(&vec![0; key.n.div_ceil(8)]);
-    let reply = unsafe { raw::shearcotter_read(station, word.start(), word.length, out.start(), out.length) };
+    let reply = unsafe { raw::shearcotter_read(station, A, word.start(), word.length, out.start(), out.length) };
     let expected = calls::read(2, held, word.bytes(), out.length);
     assert_eq!((reply.refused, reply.ones), (expected.number, expected.ones));
     written(&out, &expected);
@@ -104,13 +107,13 @@ fn open_and_read(random: &mut Random, held: &Held, cut: usize) {
 /// Three capsules or two and a tail, with room for their records, or for one less.
 fn report(random: &mut Random, held: &Held, cut: usize) {
     let length = held.key.capsule_bits().div_ceil(8);
-    let station = raw_calls::holding(2, &held.key);
+    let [_, (_, station)] = placed(holding(2, &held.key));
     let capsules = Walled::new(&random.bytes(3 * length - cut));
     let total = capsules.length.div_ceil(length);
     for room in [total, total - 1, total + 1] {
         let records = Walled::new(&vec![0; room]);
         let reported =
-            unsafe { raw::shearcotter_report(station, capsules.start(), capsules.length, records.start(), room) };
+            unsafe { raw::shearcotter_report(station, B, capsules.start(), capsules.length, records.start(), room) };
         let expected = calls::report(2, held, capsules.bytes(), room);
         assert_eq!((reported.refused, reported.counts), (expected.number, calls::counts(&expected.written)));
         written(&records, &expected);
@@ -119,7 +122,7 @@ fn report(random: &mut Random, held: &Held, cut: usize) {
 
 /// A capsule that opens and one that does not, with a secret that fits and one that is shorter.
 fn session(random: &mut Random, held: &Held, cut: usize) {
-    let (key, station) = (&held.key, raw_calls::holding(2, &held.key));
+    let (key, [_, (_, station)]) = (&held.key, placed(holding(2, &held.key)));
     let public = held.public().expect("a public key");
     let locked = matrix::lock(key.m, key.n, key.t, public, &random.pattern(key.n, key.t));
     for capsule in [locked, random.row(key.capsule_bits())] {
@@ -127,7 +130,7 @@ fn session(random: &mut Random, held: &Held, cut: usize) {
         for missing in [0, 1] {
             let secret = Walled::new(&random.row(key.n)[missing..]);
             let derived = unsafe {
-                raw::shearcotter_session(station, capsule.start(), capsule.length, secret.start(), secret.length)
+                raw::shearcotter_session(station, B, capsule.start(), capsule.length, secret.start(), secret.length)
             };
             let expected = calls::session(2, held, capsule.bytes(), secret.bytes());
             assert_eq!((derived.refused, derived.key), expected);

@@ -2,8 +2,8 @@
 
 use std::sync::Arc;
 
-use crate::compare::{near_code_word, small_shapes};
-use crate::independent::drawn::has_reading_keys;
+use crate::compare::small_shapes;
+use crate::independent::drawn::{has_reading_keys, near_code_word};
 use crate::independent::held::Held;
 use crate::independent::matrix;
 use crate::independent::random::Random;

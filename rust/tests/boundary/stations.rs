@@ -1,8 +1,8 @@
-//! Trials of the station's calls, with stations made by the calls and forged ones.
+//! Trials of the station's calls under both names and others, with slots made by the calls and forged ones.
 
 use std::sync::Arc;
 
-use shearcotter::raw::{self, Reply, Station};
+use shearcotter::raw::{self, Reply, Slot, Station, A, B};
 
 use super::buffers::{awkward, cut, holding, noise};
 use super::pool::{capsule, word, Pool};
@@ -10,40 +10,45 @@ use crate::independent::calls::{self as expected, Outcome};
 use crate::independent::held::Held;
 use crate::independent::key::Key;
 use crate::independent::random::Random;
-use crate::support::raw_calls::{self, fresh};
+use crate::support::raw_calls::{self, empty, with};
 
-/// A station and the key in it.
+/// A station, the name that a call takes, and the slot with that name and its key. Where no slot has it, the slot is any, and the
+/// call is refused with 35.
 struct Case {
     station: Station,
+    name: u8,
+    slot: Slot,
     held: Arc<Held>,
 }
 
-fn forged(station: Station) -> Case {
-    let held = Arc::new(Held::new(raw_calls::held(&station)));
-    Case { station, held }
+/// A slot and the key in it.
+type Made = (Slot, Arc<Held>);
+
+fn forged(slot: Slot) -> Made {
+    (slot, Arc::new(Held::new(raw_calls::held(&slot))))
 }
 
 /// Random numbers in the key; the first three small, mostly.
-fn random_key(random: &mut Random, station: &mut Station) {
-    for x in station.key.support.iter_mut().chain(&mut station.key.g) {
+fn random_key(random: &mut Random, slot: &mut Slot) {
+    for x in slot.key.support.iter_mut().chain(&mut slot.key.g) {
         *x = random.number() as u16;
     }
-    station.key.m = *random.pick(&[4, 12, 13, 0, 255]);
-    station.key.n = random.number() as u16;
-    station.key.t = random.number() as u16;
+    slot.key.m = *random.pick(&[4, 12, 13, 0, 255]);
+    slot.key.n = random.number() as u16;
+    slot.key.t = random.number() as u16;
 }
 
-fn other_element(random: &mut Random, station: &mut Station, held: &Held) {
+fn other_element(random: &mut Random, slot: &mut Slot, held: &Held) {
     let at = random.below(held.key.n + held.key.t);
     let x = if random.one_in(3) { random.number() as u16 } else { random.element(held.key.m) };
     match at.checked_sub(held.key.n) {
-        None => station.key.support[at] = x,
-        Some(at) => station.key.g[at] = x,
+        None => slot.key.support[at] = x,
+        Some(at) => slot.key.g[at] = x,
     }
 }
 
-fn other_number(random: &mut Random, station: &mut Station) {
-    let key = &mut station.key;
+fn other_number(random: &mut Random, slot: &mut Slot) {
+    let key = &mut slot.key;
     let step = |x: u16, random: &mut Random| match random.below(4) {
         0 => random.number() as u16,
         1 => x.wrapping_sub(1),
@@ -57,60 +62,89 @@ fn other_number(random: &mut Random, station: &mut Station) {
     }
 }
 
-fn noise_past_the_lists(random: &mut Random, station: &mut Station, held: &Held) {
-    let key = &mut station.key;
+fn noise_past_the_lists(random: &mut Random, slot: &mut Slot, held: &Held) {
+    let key = &mut slot.key;
     let past = key.support[held.key.n..].iter_mut().chain(&mut key.g[held.key.t..]);
     for x in past {
         *x = random.number() as u16;
     }
 }
 
-/// A station not made by the calls.
-fn forge(random: &mut Random, pool: &Pool) -> Case {
+/// A slot not made by the calls.
+fn forge(random: &mut Random, pool: &Pool) -> Made {
     let held = pool.small(random);
     let state = random.number() as u8;
-    let mut station = raw_calls::holding(state, &held.key);
+    let mut slot = raw_calls::holding(state, &held.key);
     match random.below(8) {
-        0 => random_key(random, &mut station),
-        1 | 2 => other_element(random, &mut station, &held),
-        3 | 4 => other_number(random, &mut station),
-        5 => noise_past_the_lists(random, &mut station, &held),
-        _ => return Case { station, held },
+        0 => random_key(random, &mut slot),
+        1 | 2 => other_element(random, &mut slot, &held),
+        3 | 4 => other_number(random, &mut slot),
+        5 => noise_past_the_lists(random, &mut slot, &held),
+        _ => return (slot, held),
     }
-    forged(station)
+    forged(slot)
 }
 
-/// A station of any kind: fresh, loaded, published, forged.
-fn any(random: &mut Random, pool: &Pool) -> Case {
+/// A slot of any kind: fresh, loaded, published, forged.
+fn any_slot(random: &mut Random, pool: &Pool) -> Made {
     match random.below(12) {
-        0 => forged(fresh()),
+        0 => forged(empty()),
         1..=4 => forge(random, pool),
         5 | 6 => with_state(1, pool.key(random)),
         _ => with_state(2, pool.key(random)),
     }
 }
 
-fn with_state(state: u8, held: Arc<Held>) -> Case {
-    Case { station: raw_calls::holding(state, &held.key), held }
+fn with_state(state: u8, held: Arc<Held>) -> Made {
+    (raw_calls::holding(state, &held.key), held)
 }
 
-/// A held key for rows where the station's own has none that fits.
+/// A recipient's name, mostly.
+fn name(random: &mut Random) -> u8 {
+    match random.below(16) {
+        0 => random.number() as u8,
+        _ => *random.pick(&[A, B]),
+    }
+}
+
+/// A call that names a slot beside another one.
+fn case(random: &mut Random, pool: &Pool, (slot, held): Made) -> Case {
+    let (other, name) = (any_slot(random, pool).0, name(random));
+    let station = if name == B { Station { a: other, b: slot } } else { Station { a: slot, b: other } };
+    Case { station, name, slot, held }
+}
+
+fn any(random: &mut Random, pool: &Pool) -> Case {
+    let made = any_slot(random, pool);
+    case(random, pool, made)
+}
+
+impl Case {
+    /// What is expected of the call: 35 before all else.
+    fn expected(&self, of_slot: impl FnOnce(u8, &Held) -> Outcome) -> Outcome {
+        match self.name {
+            A | B => of_slot(self.slot.state, &self.held),
+            _ => Outcome { number: 35, ..Outcome::default() },
+        }
+    }
+
+    /// The reply beside what is expected; the named slot after an accepted call. The other one stays.
+    fn same(&self, reply: &Reply, expected: &Outcome, accepted: Slot) {
+        let said = || format!("{} state {} {:?}", self.name, self.slot.state, raw_calls::held(&self.slot));
+        assert_eq!((reply.refused, reply.ones), (expected.number, expected.ones), "{}", said());
+        let after = if reply.refused == 0 { with(self.station, self.name, accepted) } else { self.station };
+        assert!(reply.station == after, "the station after {}: {}", reply.refused, said());
+    }
+}
+
+/// A held key for rows where the slot's own has none that fits.
 fn fitting(random: &mut Random, pool: &Pool, case: &Case) -> Arc<Held> {
-    let fits = case.station.state != 0 && case.held.number() == 0;
+    let fits = case.slot.state != 0 && case.held.number() == 0;
     if fits {
         Arc::clone(&case.held)
     } else {
         pool.small(random)
     }
-}
-
-/// The reply beside what is expected; the station after an accepted call.
-fn same(reply: &Reply, expected: &Outcome, before: &Station, accepted: &Station) {
-    let key = || raw_calls::held(before);
-    assert_eq!(reply.refused, expected.number, "state {} {:?}", before.state, key());
-    assert_eq!(reply.ones, expected.ones, "state {} {:?}", before.state, key());
-    let after = if reply.refused == 0 { accepted } else { before };
-    assert!(reply.station == *after, "the station after {}: {:?}", reply.refused, key());
 }
 
 fn file(random: &mut Random, held: &Held) -> Vec<u8> {
@@ -136,21 +170,23 @@ fn file(random: &mut Random, held: &Held) -> Vec<u8> {
 }
 
 pub fn load(random: &mut Random, pool: &Pool) -> (&'static str, u8) {
-    let mut case = any(random, pool);
+    let (mut slot, held) = any_slot(random, pool);
     if !random.one_in(8) {
-        case.station.state = 0;
+        slot.state = 0;
     }
+    let case = case(random, pool, (slot, held));
     let held = pool.key(random);
     let content = file(random, &held);
     let file = holding(random, &content);
-    let reply = unsafe { raw::shearcotter_load(case.station, file.as_ptr(), file.len()) };
+    let reply = unsafe { raw::shearcotter_load(case.station, case.name, file.as_ptr(), file.len()) };
     file.same();
-    let expected = Outcome { number: expected::load(case.station.state, file.content()), ..Outcome::default() };
+    let number = |state| expected::load(state, file.content());
+    let expected = case.expected(|state, _| Outcome { number: number(state), ..Outcome::default() });
     let accepted = match Key::parse(file.content()) {
         Some(key) if expected.number == 0 => raw_calls::holding(1, &key),
-        _ => case.station,
+        _ => case.slot,
     };
-    same(&reply, &expected, &case.station, &accepted);
+    case.same(&reply, &expected, accepted);
     ("load", reply.refused)
 }
 
@@ -159,11 +195,10 @@ pub fn publish(random: &mut Random, pool: &Pool) -> (&'static str, u8) {
     let key = &fitting(random, pool, &case).key;
     let (out, work) = (awkward(random, key.public_length()), awkward(random, key.work_length()));
     let (mut out, mut work) = (noise(random, out), noise(random, work));
-    let reply =
-        unsafe { raw::shearcotter_publish(case.station, out.as_mut_ptr(), out.len(), work.as_mut_ptr(), work.len()) };
-    let expected = expected::publish(case.station.state, &case.held, out.len(), work.len());
-    let published = Station { state: 2, ..case.station };
-    same(&reply, &expected, &case.station, &published);
+    let (lent, length) = (work.as_mut_ptr(), work.len());
+    let reply = unsafe { raw::shearcotter_publish(case.station, case.name, out.as_mut_ptr(), out.len(), lent, length) };
+    let expected = case.expected(|state, held| expected::publish(state, held, out.len(), work.len()));
+    case.same(&reply, &expected, Slot { state: 2, ..case.slot });
     out.written(&expected.written);
     match expected.number {
         0 | 23 => work.free(case.held.key.work_length()),
@@ -182,10 +217,10 @@ pub fn open(random: &mut Random, pool: &Pool) -> (&'static str, u8) {
     let capsule = holding(random, &row);
     let length = awkward(random, held.key.n.div_ceil(8));
     let mut out = noise(random, length);
-    let reply =
-        unsafe { raw::shearcotter_open(case.station, capsule.as_ptr(), capsule.len(), out.as_mut_ptr(), out.len()) };
-    let expected = expected::open(case.station.state, &case.held, capsule.content(), length);
-    same(&reply, &expected, &case.station, &case.station);
+    let (lent, room) = (out.as_mut_ptr(), out.len());
+    let reply = unsafe { raw::shearcotter_open(case.station, case.name, capsule.as_ptr(), capsule.len(), lent, room) };
+    let expected = case.expected(|state, held| expected::open(state, held, capsule.content(), length));
+    case.same(&reply, &expected, case.slot);
     out.written(&expected.written);
     capsule.same();
     ("open", reply.refused)
@@ -209,12 +244,12 @@ pub fn report(random: &mut Random, pool: &Pool) -> (&'static str, u8) {
     let capsules = holding(random, &rows);
     let length = awkward(random, rows.len().div_ceil(held.key.capsule_bits().div_ceil(8)));
     let mut records = noise(random, length);
-    let reported = unsafe {
-        raw::shearcotter_report(case.station, capsules.as_ptr(), capsules.len(), records.as_mut_ptr(), records.len())
-    };
-    let expected = expected::report(case.station.state, &case.held, capsules.content(), length);
+    let (lent, room) = (records.as_mut_ptr(), records.len());
+    let reported =
+        unsafe { raw::shearcotter_report(case.station, case.name, capsules.as_ptr(), capsules.len(), lent, room) };
+    let expected = case.expected(|state, held| expected::report(state, held, capsules.content(), length));
     let reply = Reply { station: reported.station, refused: reported.refused, ones: 0 };
-    same(&reply, &expected, &case.station, &case.station);
+    case.same(&reply, &expected, case.slot);
     assert_eq!(reported.counts, expected::counts(&expected.written), "{:?}", expected.written);
     records.written(&expected.written);
     capsules.same();
@@ -230,13 +265,18 @@ pub fn session(random: &mut Random, pool: &Pool) -> (&'static str, u8) {
     }
     let lent = if random.one_in(8) { random.bytes(held.key.n.div_ceil(8)) } else { random.secret(held.key.n) };
     let (capsule, secret) = (holding(random, &row), holding(random, &lent));
-    let derived = unsafe {
-        raw::shearcotter_session(case.station, capsule.as_ptr(), capsule.len(), secret.as_ptr(), secret.len())
-    };
-    let (number, key) = expected::session(case.station.state, &case.held, capsule.content(), secret.content());
+    let (row, length) = (capsule.as_ptr(), capsule.len());
+    let derived =
+        unsafe { raw::shearcotter_session(case.station, case.name, row, length, secret.as_ptr(), secret.len()) };
+    let mut key = [0; 32];
+    let expected = case.expected(|state, held| {
+        let (number, of_slot) = expected::session(state, held, capsule.content(), secret.content());
+        key = of_slot;
+        Outcome { number, ..Outcome::default() }
+    });
     let reply = Reply { station: derived.station, refused: derived.refused, ones: 0 };
-    same(&reply, &Outcome { number, ..Outcome::default() }, &case.station, &case.station);
-    assert_eq!(derived.key, key, "{row:02x?} {lent:02x?} {:?}", case.held.key);
+    case.same(&reply, &expected, case.slot);
+    assert_eq!(derived.key, key, "{:02x?} {lent:02x?} {:?}", capsule.content(), case.held.key);
     capsule.same();
     secret.same();
     ("session", derived.refused)
@@ -252,9 +292,10 @@ pub fn read(random: &mut Random, pool: &Pool) -> (&'static str, u8) {
     let word = holding(random, &row);
     let length = awkward(random, held.key.n.div_ceil(8));
     let mut out = noise(random, length);
-    let reply = unsafe { raw::shearcotter_read(case.station, word.as_ptr(), word.len(), out.as_mut_ptr(), out.len()) };
-    let expected = expected::read(case.station.state, &case.held, word.content(), length);
-    same(&reply, &expected, &case.station, &case.station);
+    let (lent, room) = (out.as_mut_ptr(), out.len());
+    let reply = unsafe { raw::shearcotter_read(case.station, case.name, word.as_ptr(), word.len(), lent, room) };
+    let expected = case.expected(|state, held| expected::read(state, held, word.content(), length));
+    case.same(&reply, &expected, case.slot);
     out.written(&expected.written);
     word.same();
     ("read", reply.refused)
@@ -262,8 +303,8 @@ pub fn read(random: &mut Random, pool: &Pool) -> (&'static str, u8) {
 
 pub fn drop(random: &mut Random, pool: &Pool) -> (&'static str, u8) {
     let case = any(random, pool);
-    let reply = unsafe { raw::shearcotter_drop(case.station) };
-    let expected = Outcome { number: expected::drop(case.station.state), ..Outcome::default() };
-    same(&reply, &expected, &case.station, &fresh());
+    let reply = unsafe { raw::shearcotter_drop(case.station, case.name) };
+    let expected = case.expected(|state, _| Outcome { number: expected::drop(state), ..Outcome::default() });
+    case.same(&reply, &expected, empty());
     ("drop", reply.refused)
 }

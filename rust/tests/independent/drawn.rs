@@ -1,11 +1,11 @@
 //! Random keys that load accepts: exchange keys, with an irreducible g, and reading keys, whose g has a proper factor.
 
-use super::factors;
 use super::field::Field;
 use super::held::Held;
 use super::key::Key;
 use super::poly::{multiply, square_divides, value, Poly};
 use super::random::Random;
+use super::{bits, factors, matrix};
 
 /// How a g is made that has a proper factor.
 #[derive(Clone, Copy, PartialEq, Eq, Debug)]
@@ -47,6 +47,25 @@ pub fn doubled(key: &Key) -> Held {
     let mut key = key.clone();
     key.support[1] = key.support[0];
     Held::new(key)
+}
+
+/// A code word with the given number of bits turned.
+pub fn near_code_word(random: &mut Random, held: &Held, errors: usize) -> Vec<u8> {
+    let key = &held.key;
+    let rank = key.capsule_bits();
+    let mut word = vec![0; key.n.div_ceil(8)];
+    if let Some(public) = held.public() {
+        word = random.row(key.n);
+        for i in bits::places(rank, &word) {
+            word[i / 8] ^= 1 << (i % 8);
+        }
+        let sums = matrix::lock(key.m, key.n, key.t, public, &word);
+        for (byte, sum) in word.iter_mut().zip(sums) {
+            *byte ^= sum;
+        }
+    }
+    let turned = random.pattern(key.n, errors);
+    word.iter().zip(turned).map(|(byte, turn)| byte ^ turn).collect()
 }
 
 fn field(m: u8) -> &'static Field {

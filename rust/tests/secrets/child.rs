@@ -8,12 +8,14 @@ use std::io::{self, Read, Write};
 use std::process::{self, Command, Stdio};
 use std::{env, iter};
 
-use shearcotter::{raw, wipe, Refusal, Shape, Station};
+use shearcotter::{raw, wipe, Name, Refusal, Shape, Station};
 
 use crate::support::{raw_calls, vectors};
 
 const VARIABLE: &str = "SHEARCOTTER_CHILD";
 pub const FOLDER: &str = "mceliece348864/count0";
+/// Where the key of the second recipient is.
+pub const SECOND: &str = "mceliece348864f/count0";
 
 /// Whether the child uses the crate's calls, or the raw ones, which wipe nothing.
 #[derive(Clone, Copy, PartialEq, Eq, Debug)]
@@ -36,6 +38,8 @@ pub enum Point {
     SessionsWiped,
     SecretWiped,
     Read,
+    SecondPublished,
+    FirstDropped,
     StationDropped,
     LoadedAgain,
     KeyDropped,
@@ -100,7 +104,11 @@ fn pause(point: Point) {
 
 /// A file of known length, read without a copy elsewhere.
 fn file<const LENGTH: usize>(name: &str) -> Box<[u8; LENGTH]> {
-    let path = vectors::folder().join(FOLDER).join(name);
+    file_in(FOLDER, name)
+}
+
+fn file_in<const LENGTH: usize>(folder: &str, name: &str) -> Box<[u8; LENGTH]> {
+    let path = vectors::folder().join(folder).join(name);
     let mut bytes = Box::new([0; LENGTH]);
     File::open(path).expect("a file of the vectors").read_exact(&mut bytes[..]).expect("its bytes");
     bytes
@@ -108,18 +116,18 @@ fn file<const LENGTH: usize>(name: &str) -> Box<[u8; LENGTH]> {
 
 fn load(station: &mut Station) {
     let mut key = file::<7109>("key.bin");
-    station.load(&key[..]).expect("load accepts");
-    assert_eq!(station.load(&key[..]), Err(Refusal::KeyHeld));
-    assert_eq!(station.is_exchange_key(), Ok(true));
+    station.load(Name::A, &key[..]).expect("load accepts");
+    assert_eq!(station.load(Name::A, &key[..]), Err(Refusal::KeyHeld));
+    assert_eq!(station.is_exchange_key(Name::A), Ok(true));
     wipe(&mut key[..]);
 }
 
 /// The session keys of a capsule that opens and of one that does not.
 fn derive(station: &Station, capsule: &[u8]) {
     let mut secret = file::<436>("secret.bin");
-    assert_eq!(station.session(capsule, &secret[1..]), Err(Refusal::BadSecret));
-    let mut of_pattern = station.session(capsule, &secret[..]);
-    let mut of_secret = station.session(&file::<96>("capsule_reject.bin")[..], &secret[..]);
+    assert_eq!(station.session(Name::A, capsule, &secret[1..]), Err(Refusal::BadSecret));
+    let mut of_pattern = station.session(Name::A, capsule, &secret[..]);
+    let mut of_secret = station.session(Name::A, &file::<96>("capsule_reject.bin")[..], &secret[..]);
     assert!(of_pattern.is_ok() && of_secret.is_ok());
     pause(Point::Derived);
     of_pattern.iter_mut().chain(&mut of_secret).for_each(|key| wipe(key));
@@ -128,37 +136,51 @@ fn derive(station: &Station, capsule: &[u8]) {
     pause(Point::SecretWiped);
 }
 
+/// The second recipient's key beside the first's, which is dropped.
+fn hold_two(station: &mut Station) {
+    let mut key = file_in::<7109>(SECOND, "key.bin");
+    station.load(Name::B, &key[..]).expect("load accepts");
+    wipe(&mut key[..]);
+    station.publish(Name::B).expect("publish accepts");
+    assert_eq!(station.open(Name::B, &file::<96>("capsule.bin")[..]), Err(Refusal::NoPattern));
+    pause(Point::SecondPublished);
+    station.drop_key(Name::A).expect("there is a key");
+    assert_eq!(Name::BOTH.map(|name| station.is_published(name)), [false, true]);
+    pause(Point::FirstDropped);
+}
+
 fn with_the_crate() {
     let mut station = Station::fresh();
     pause(Point::Empty);
     load(&mut station);
     pause(Point::Loaded);
-    station.publish().expect("publish accepts");
+    station.publish(Name::A).expect("publish accepts");
     pause(Point::Published);
     let capsule = file::<96>("capsule.bin");
-    let pattern = station.open(&capsule[..]).expect("it opens");
+    let pattern = station.open(Name::A, &capsule[..]).expect("it opens");
     assert_eq!(pattern.ones(), 64);
     pause(Point::Opened);
     drop(pattern);
     pause(Point::PatternDropped);
-    assert_eq!(station.open(&file::<96>("capsule_reject.bin")[..]), Err(Refusal::NoPattern));
+    assert_eq!(station.open(Name::A, &file::<96>("capsule_reject.bin")[..]), Err(Refusal::NoPattern));
     pause(Point::Refused);
     let card = [&capsule[..], &file::<96>("capsule_reject.bin")[..]].concat();
-    let report = station.report(&card).expect("a report");
+    let report = station.report(Name::A, &card).expect("a report");
     assert_eq!(report.records(), [0, 13]);
     pause(Point::Reported);
     derive(&station, &capsule[..]);
     let word: Vec<u8> = capsule.iter().copied().chain(iter::repeat(0)).take(436).collect();
-    assert_eq!(station.read(&word).expect("it reads").clone().ones(), 64);
+    assert_eq!(station.read(Name::A, &word).expect("it reads").clone().ones(), 64);
     pause(Point::Read);
+    hold_two(&mut station);
     drop(station);
     pause(Point::StationDropped);
     let mut again = Station::fresh();
     load(&mut again);
     pause(Point::LoadedAgain);
-    again.drop_key().expect("there is a key");
+    again.drop_key(Name::A).expect("there is a key");
     pause(Point::KeyDropped);
-    assert_eq!(again.shape(), None);
+    assert_eq!(again.shape(Name::A), None);
 }
 
 /// Publishes, opens and derives; the station, the pattern, the secret, the session key and the workspace are left where they are.
@@ -167,13 +189,13 @@ fn with_raw_calls() {
     let shape = Shape::MCELIECE348864;
     let mut public = vec![0; shape.public_length()];
     let mut work = vec![0; shape.workspace_length()];
-    let loaded = raw_calls::load(raw_calls::fresh(), &key[..]).station;
-    let published = raw_calls::publish(loaded, &mut public, &mut work).station;
+    let loaded = raw_calls::load(raw_calls::fresh(), raw::A, &key[..]).station;
+    let published = raw_calls::publish(loaded, raw::A, &mut public, &mut work).station;
     let mut pattern = [0; 436];
-    let opened = raw_calls::open(published, &capsule[..], &mut pattern);
-    assert_eq!((opened.refused, opened.station.state), (0, raw::PUBLISHED));
+    let opened = raw_calls::open(published, raw::A, &capsule[..], &mut pattern);
+    assert_eq!((opened.refused, opened.station.a.state), (0, raw::PUBLISHED));
     let secret = file::<436>("secret.bin");
-    let derived = raw_calls::session(opened.station, &capsule[..], &secret[..]);
+    let derived = raw_calls::session(opened.station, raw::A, &capsule[..], &secret[..]);
     assert_eq!(derived.refused, 0);
     pause(Point::Opened);
     black_box((&opened, &pattern, &work, &secret, &derived));

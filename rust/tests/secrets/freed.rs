@@ -5,7 +5,7 @@ use std::cell::Cell;
 use std::mem::size_of;
 use std::slice;
 
-use shearcotter::{raw, Refusal, Shape, Station};
+use shearcotter::{raw, Name, Refusal, Shape, Station};
 
 use super::child::FOLDER;
 use crate::bench_keys::K3;
@@ -57,12 +57,12 @@ fn blocks_are_zeros_when_freed() {
     let at = |name: &str| vectors::file(&format!("{FOLDER}/{name}"));
     let shape = Shape::MCELIECE348864;
     let (mut station, mut public) = (Station::fresh(), vec![]);
-    station.load(&at("key.bin")).expect("load accepts");
-    assert_eq!(freed(shape.workspace_length(), || public = station.publish().expect("publish accepts")), (1, 0));
-    let pattern = station.open(&at("capsule.bin")).expect("it opens");
+    station.load(Name::A, &at("key.bin")).expect("load accepts");
+    assert_eq!(freed(shape.workspace_length(), || public = station.publish(Name::A).expect("publish accepts")), (1, 0));
+    let pattern = station.open(Name::A, &at("capsule.bin")).expect("it opens");
     let (word, ones) = (pattern.bytes().to_vec(), pattern.clone().into_bytes());
     assert_eq!(freed(shape.pattern_length(), || drop(pattern)), (1, 0));
-    let read = station.read(&word).expect("it reads");
+    let read = station.read(Name::A, &word).expect("it reads");
     assert_eq!(freed(shape.pattern_length(), || drop(read)), (1, 0));
     assert_eq!(freed(size_of::<raw::Station>(), || drop(station)), (1, 0));
     // What `into_bytes` hands over is the caller's, and shows that bytes other than 0 are seen.
@@ -73,8 +73,8 @@ fn blocks_are_zeros_when_freed() {
 #[test]
 fn a_refused_publish_frees_zeros() {
     let mut station = Station::fresh();
-    station.load(&K3).expect("load accepts");
-    let length = station.shape().map_or(0, Shape::workspace_length);
-    let (blocks, bytes) = freed(length, || assert_eq!(station.publish(), Err(Refusal::DependentColumns)));
+    station.load(Name::A, &K3).expect("load accepts");
+    let length = station.shape(Name::A).map_or(0, Shape::workspace_length);
+    let (blocks, bytes) = freed(length, || assert_eq!(station.publish(Name::A), Err(Refusal::DependentColumns)));
     assert!(blocks > 0 && bytes == 0, "{blocks} blocks, {bytes} bytes");
 }

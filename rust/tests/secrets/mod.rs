@@ -12,6 +12,8 @@ use crate::support::memory;
 
 const KEY: &str = "support";
 const G: &str = "g";
+const SECOND_KEY: &str = "the second support";
+const SECOND_G: &str = "the second g";
 const PATTERN: &str = "pattern";
 const SECRET: &str = "secret";
 const SESSION: &str = "session key";
@@ -50,6 +52,8 @@ fn no_secret_outlives_its_owner() {
         (Point::SessionsWiped, &[KEY, G, SECRET]),
         (Point::SecretWiped, &[KEY, G]),
         (Point::Read, &[KEY, G]),
+        (Point::SecondPublished, &[KEY, G, SECOND_KEY, SECOND_G]),
+        (Point::FirstDropped, &[SECOND_KEY, SECOND_G]),
         (Point::StationDropped, &[]),
         (Point::LoadedAgain, &[KEY, G]),
         (Point::KeyDropped, &[]),

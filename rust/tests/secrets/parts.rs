@@ -2,8 +2,8 @@
 
 use std::collections::{BTreeMap, HashMap};
 
-use super::child::FOLDER;
-use super::{G, KEY, PATTERN, SECRET, SESSION};
+use super::child::{FOLDER, SECOND};
+use super::{G, KEY, PATTERN, SECOND_G, SECOND_KEY, SECRET, SESSION};
 use crate::independent::bits::places;
 use crate::independent::key::Key;
 use crate::independent::poly;
@@ -72,7 +72,7 @@ impl Secrets {
         }
     }
 
-    /// The child's key, pattern, secret and session keys, and what is worked out from the key and the pattern.
+    /// The child's keys, pattern, secret and session keys, and what is worked out from the first key and the pattern.
     pub fn of_the_vector() -> Secrets {
         let at = |part: &str| vectors::file(&format!("{FOLDER}/{part}"));
         let key = Key::parse(&at("key.bin")).expect("a key");
@@ -86,6 +86,9 @@ impl Secrets {
             at(name).windows(FIRST).for_each(|part| secrets.add(SESSION, part.to_vec()));
         }
         secrets.add_worked_out(&key, &places(key.n, &pattern));
+        let second = Key::parse(&vectors::file(&format!("{SECOND}/key.bin"))).expect("a key");
+        secrets.add_list(SECOND_KEY, &second.support);
+        secrets.add_list(SECOND_G, &second.g);
         secrets
     }
 

@@ -5,7 +5,7 @@ use std::hint::black_box;
 use std::os::unix::fs::FileExt;
 use std::ptr;
 
-use shearcotter::{lock, raw, shake256, wipe, Shape, Station};
+use shearcotter::{lock, raw, shake256, wipe, Name, Shape, Station};
 
 use crate::support::{raw_calls, vectors};
 
@@ -40,20 +40,23 @@ fn calls_leave_zeros_on_the_stack() {
     let (key, capsule, pattern) = (file("key.bin"), file("capsule.bin"), file("pattern.bin"));
     let mut station = Station::fresh();
     let mut public = vec![];
-    assert_eq!(left_by(|| station.load(&key).expect("load accepts")), 0, "load");
-    assert_eq!(left_by(|| assert_eq!(station.is_exchange_key(), Ok(true))), 0, "is_exchange_key");
-    assert_eq!(left_by(|| public = station.publish().expect("publish accepts")), 0, "publish");
-    assert_eq!(left_by(|| drop(station.open(&capsule).expect("it opens"))), 0, "open");
+    assert_eq!(left_by(|| station.load(Name::A, &key).expect("load accepts")), 0, "load");
+    assert_eq!(left_by(|| assert_eq!(station.is_exchange_key(Name::A), Ok(true))), 0, "is_exchange_key");
+    assert_eq!(left_by(|| public = station.publish(Name::A).expect("publish accepts")), 0, "publish");
+    assert_eq!(left_by(|| drop(station.open(Name::A, &capsule).expect("it opens"))), 0, "open");
     let card = capsule.repeat(3);
-    assert_eq!(left_by(|| drop(station.report(&card).expect("a report"))), 0, "report");
+    assert_eq!(left_by(|| drop(station.report(Name::A, &card).expect("a report"))), 0, "report");
     let (refused, secret) = (file("capsule_reject.bin"), file("secret.bin"));
     for capsule in [&capsule, &refused] {
-        let session = || station.session(capsule, &secret).iter_mut().for_each(|key| wipe(key));
+        let session = || station.session(Name::A, capsule, &secret).iter_mut().for_each(|key| wipe(key));
         assert_eq!(left_by(session), 0, "session");
     }
-    assert_eq!(left_by(|| drop(station.read(&pattern).expect("it reads"))), 0, "read");
+    assert_eq!(left_by(|| drop(station.read(Name::A, &pattern).expect("it reads"))), 0, "read");
     assert_eq!(left_by(|| drop(lock(Shape::MCELIECE8192128, &public, &pattern).expect("it locks"))), 0, "lock");
-    assert_eq!(left_by(|| station.drop_key().expect("there is a key")), 0, "drop");
+    assert_eq!(left_by(|| station.load(Name::B, &key).expect("load accepts")), 0, "load beside another key");
+    assert_eq!(left_by(|| drop(station.publish(Name::B).expect("publish accepts"))), 0, "publish beside another key");
+    assert_eq!(left_by(|| drop(station.open(Name::B, &capsule).expect("it opens"))), 0, "open beside another key");
+    assert_eq!(left_by(|| station.drop_key(Name::A).expect("there is a key")), 0, "drop");
     let mut out = vec![0; 300];
     assert_eq!(left_by(|| shake256(&pattern, &mut out)), 0, "shake256");
 }
@@ -62,7 +65,7 @@ fn calls_leave_zeros_on_the_stack() {
 fn raw_calls_leave_more_than_zeros() {
     let key = file("key.bin");
     let left = left_by(|| {
-        black_box(raw_calls::load(raw_calls::fresh(), &key));
+        black_box(raw_calls::load(raw_calls::fresh(), raw::A, &key));
     });
     assert!(left > key.len(), "{left} bytes");
 }
@@ -92,15 +95,15 @@ fn stack_after(call: impl FnOnce()) -> Vec<u8> {
 fn no_copy_of_a_session_key_is_left_on_the_stack() {
     let (key, secret) = (file("key.bin"), file("secret.bin"));
     let mut station = Station::fresh();
-    station.load(&key).expect("load accepts");
-    station.publish().expect("publish accepts");
+    station.load(Name::A, &key).expect("load accepts");
+    station.publish(Name::A).expect("publish accepts");
     let of_pattern = ("capsule.bin", "session.bin");
     for (capsule, expected) in [of_pattern, ("capsule_reject.bin", "session_capsule_reject.bin")] {
         let (capsule, expected) = (file(capsule), file(expected));
         let found = |stack: Vec<u8>| stack.windows(16).any(|part| expected.windows(16).any(|known| known == part));
-        let wiped = stack_after(|| station.session(&capsule, &secret).iter_mut().for_each(|key| wipe(key)));
+        let wiped = stack_after(|| station.session(Name::A, &capsule, &secret).iter_mut().for_each(|key| wipe(key)));
         assert!(!found(wiped));
-        let held = stack_after(|| assert!(black_box(&station.session(&capsule, &secret)).is_ok()));
+        let held = stack_after(|| assert!(black_box(&station.session(Name::A, &capsule, &secret)).is_ok()));
         assert!(found(held));
     }
 }

@@ -3,6 +3,7 @@
 
 #[cfg(target_os = "linux")]
 pub mod memory;
+pub mod named;
 pub mod raw_calls;
 pub mod run;
 pub mod terminal;

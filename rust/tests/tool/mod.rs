@@ -9,6 +9,7 @@ mod names;
 mod outputs;
 mod patterns;
 mod report;
+mod second;
 mod session;
 mod shell;
 mod streams;

@@ -105,13 +105,15 @@ fn commands_and_options() {
     assert_eq!(completed(&["c"]), ["check", "completions"]);
     assert_eq!(completed(&["--v"]), ["--version"]);
     assert_eq!(completed(&["open", "--f"]), ["--format"]);
-    assert_eq!(completed(&["open", "key", "-"]), ["--explain", "--format", "--help", "--jobs", "--quiet"]);
+    let rows = ["--explain", "--format", "--help", "--jobs", "--quiet"];
+    assert_eq!(completed(&["read", "key", "-"]), rows);
+    assert_eq!(completed(&["open", "key", "-"]), [&rows[..], &["--second"]].concat());
     assert_eq!(completed(&["check", "-"]), ["--help", "--quiet"]);
     assert_eq!(completed(&["nothing", "-"]), [""; 0]);
     assert_eq!(completed(&["help", "re"]), ["read", "report"]);
-    assert_eq!(completed(&["report", "-"]), ["--help", "--jobs", "--quiet", "--records"]);
+    assert_eq!(completed(&["report", "-"]), ["--help", "--jobs", "--quiet", "--records", "--second"]);
     assert_eq!(completed(&["se"]), ["session"]);
-    assert_eq!(completed(&["session", "key", "-"]), ["--explain", "--format", "--help", "--jobs", "--quiet"]);
+    assert_eq!(completed(&["session", "key", "-"]), rows);
     assert_eq!(completed(&["completions", ""]), ["bash"]);
     assert_eq!(completed(&["lock", "mceliece6"]), ["mceliece6688128", "mceliece6960119"]);
 }
@@ -144,6 +146,11 @@ fn files() {
     assert_eq!(files(&["report", "--records", "ot"]), ["other"]);
     assert_eq!(files(&["report", "--records", "=", "ot"]), ["other"]);
     assert_eq!(files(&["report", "--records", "out", "key", "ot"]), ["other"]);
+    for command in ["open", "report"] {
+        assert_eq!(files(&[command, "--second", "ot"]), ["other"]);
+        assert_eq!(files(&[command, "--second", "=", "ot"]), ["other"]);
+        assert_eq!(files(&[command, "--second", "b", "key", "on"]), ["one key"]);
+    }
     for operand in 0..3 {
         let words = [&["session", "a", "b"][..=operand], &["on"]].concat();
         assert_eq!(files(&words), ["one key"]);

@@ -6,6 +6,7 @@ use std::io::Write;
 use std::process::{Child, Stdio};
 
 use super::{standard, with_k1};
+use crate::independent::random::Random;
 use crate::support::memory;
 use crate::support::run::{tool, Lines};
 
@@ -38,6 +39,25 @@ fn no_bytes_of_the_key_file_are_left() {
     assert_eq!(occurrences(child.id(), between), 0);
     // The search does find what is there: the support in the station.
     assert!(occurrences(child.id(), &file[3..3 + 64]) > 0);
+    drop(input);
+    assert!(child.wait().expect("the tool ends").success());
+}
+
+/// Of two keys, neither file is left; the station has both supports.
+#[test]
+fn no_bytes_of_two_key_files_are_left() {
+    let (folder, _) = with_k1();
+    let files = [standard("key.bin"), Random::new(73).published(12, 3488, 64).key.file()];
+    let [key, second] = [0, 1].map(|i| folder.write(&format!("{i}.key"), &files[i]));
+    let mut child = start(&["open", "--jobs", "2", &key, "--second", &second]);
+    let mut input = child.stdin.take().expect("its standard input");
+    input.write_all(&standard("capsule.bin")).expect("a capsule");
+    let lines = Lines::of(&mut child);
+    assert!(lines.next().expect("a line").starts_with("1 open A "));
+    for file in &files {
+        assert_eq!(occurrences(child.id(), &file[3 + 2 * 3480..7 + 2 * 3496]), 0);
+        assert!(occurrences(child.id(), &file[3..3 + 64]) > 0);
+    }
     drop(input);
     assert!(child.wait().expect("the tool ends").success());
 }

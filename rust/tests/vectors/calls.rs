@@ -1,36 +1,39 @@
-//! calls.txt: lists of calls on one station, with the ledger at the end; the same with a report or a session behind each call.
+//! calls.txt: lists of calls for one recipient, with the ledger at the end, under each name; the same with a report or a session
+//! behind each call.
 
-use shearcotter::raw::{Reply, Station};
+use shearcotter::raw::{Reply, Slot, Station, A, B};
 
 use super::expected;
 use crate::independent::held::Held;
 use crate::independent::key::Key;
 use crate::independent::{calls, random::Random};
-use crate::support::raw_calls::{drop, fresh, held, holding, load, open, publish, read, report, session};
+use crate::support::raw_calls::{
+    drop, empty, fresh, held, holding, load, open, publish, read, report, session, slot, with,
+};
 use crate::support::{bytes, only_written, vectors::cases, UNTOUCHED};
 
 /// The reply, and the output's bytes.
-fn call(station: Station, case: &[String]) -> (Reply, Vec<u8>) {
+fn call(station: Station, name: u8, case: &[String]) -> (Reply, Vec<u8>) {
     let length = |i: usize| case[i].parse().expect("a length");
     let buffer = |i: usize| vec![UNTOUCHED; length(i)];
     match case[0].as_str() {
-        "load" => (load(station, &bytes(&case[1])), vec![]),
-        "drop" => (drop(station), vec![]),
+        "load" => (load(station, name, &bytes(&case[1])), vec![]),
+        "drop" => (drop(station, name), vec![]),
         "publish" => {
             let (mut out, mut work) = (buffer(1), buffer(2));
-            let reply = publish(station, &mut out, &mut work);
-            let free = if matches!(reply.refused, 0 | 23) { held(&station).work_length() } else { 0 };
+            let reply = publish(station, name, &mut out, &mut work);
+            let free = if matches!(reply.refused, 0 | 23) { held(slot(&station, name)).work_length() } else { 0 };
             assert!(only_written(&work[free..], &[]), "{case:?}");
             (reply, out)
         }
         "open" => {
             let mut out = buffer(2);
-            let reply = open(station, &bytes(&case[1]), &mut out);
+            let reply = open(station, name, &bytes(&case[1]), &mut out);
             (reply, out)
         }
         "read" => {
             let mut out = buffer(2);
-            let reply = read(station, &bytes(&case[1]), &mut out);
+            let reply = read(station, name, &bytes(&case[1]), &mut out);
             (reply, out)
         }
         other => panic!("no such call: {other}"),
@@ -66,19 +69,19 @@ impl Ledger {
         case.to_vec()
     }
 
-    /// The station that a list's last line describes.
-    fn end(&self, case: &[String]) -> Station {
+    /// The slot that a list's last line describes.
+    fn end(&self, case: &[String]) -> Slot {
         if case[1] == "-" {
-            return fresh();
+            return empty();
         }
         let state = if case[2] == "1" && !self.split() { 2 } else { 1 };
         holding(state, &Key::parse(&bytes(&case[1])).expect("a key"))
     }
 }
 
-fn run(station: Station, case: &[String]) -> Station {
+pub fn run(station: Station, name: u8, case: &[String]) -> Station {
     let arrow = case.iter().position(|field| field == "->").expect("an arrow");
-    let (reply, out) = call(station, &case[..arrow]);
+    let (reply, out) = call(station, name, &case[..arrow]);
     let mut written = vec![];
     match expected(&case[arrow + 1..]) {
         Ok(fields) => {
@@ -96,8 +99,9 @@ fn run(station: Station, case: &[String]) -> Station {
     reply.station
 }
 
-/// Runs all lists, with something done behind each call; how many lists and calls, and how many calls were refused with 34.
-fn run_lists(mut behind: impl FnMut(Station) -> Station) -> (usize, usize, usize) {
+/// Runs all lists for a recipient, with something done behind each call; how many lists and calls, and how many calls were refused
+/// with 34. The other's slot stays as it is.
+fn run_lists(name: u8, mut behind: impl FnMut(Station) -> Station) -> (usize, usize, usize) {
     let (mut station, mut lists, mut calls) = (fresh(), 0, 0);
     let (mut ledger, mut turned) = (Ledger::default(), 0);
     for case in cases("calls.txt") {
@@ -107,11 +111,11 @@ fn run_lists(mut behind: impl FnMut(Station) -> Station) -> (usize, usize, usize
                 lists += 1;
             }
             "end" => {
-                assert!(station == ledger.end(&case), "{case:?}");
+                assert!(station == with(fresh(), name, ledger.end(&case)), "{case:?}");
                 turned += ledger.turned;
             }
             _ => {
-                station = behind(run(station, &ledger.line(&case)));
+                station = behind(run(station, name, &ledger.line(&case)));
                 calls += 1;
             }
         }
@@ -121,18 +125,20 @@ fn run_lists(mut behind: impl FnMut(Station) -> Station) -> (usize, usize, usize
 
 #[test]
 fn lists_end_as_the_ledger() {
-    let (lists, calls, turned) = run_lists(|station| station);
-    assert!(lists > 100 && calls > 1500 && turned > 100, "{lists} lists, {calls} calls, {turned} refused with 34");
+    for name in [A, B] {
+        let (lists, calls, turned) = run_lists(name, |station| station);
+        assert!(lists > 100 && calls > 1500 && turned > 100, "{lists} lists, {calls} calls, {turned} refused with 34");
+    }
 }
 
 #[test]
 fn reports_between_the_calls_change_nothing() {
     let (mut random, mut numbers) = (Random::new(41), vec![]);
-    run_lists(|station| {
+    run_lists(A, |station| {
         let (length, room) = (random.below(8), random.below(8));
         let (capsules, mut records) = (random.bytes(length), vec![UNTOUCHED; room]);
-        let reported = report(station, &capsules, &mut records);
-        let expected = calls::report(station.state, &Held::new(held(&station)), &capsules, room);
+        let reported = report(station, A, &capsules, &mut records);
+        let expected = calls::report(station.a.state, &Held::new(held(&station.a)), &capsules, room);
         assert_eq!((reported.refused, reported.counts), (expected.number, calls::counts(&expected.written)));
         assert!(only_written(&records, &expected.written), "{records:02x?} is not {expected:02x?}");
         numbers.push(reported.refused);
@@ -144,12 +150,12 @@ fn reports_between_the_calls_change_nothing() {
 #[test]
 fn sessions_between_the_calls_change_nothing() {
     let (mut random, mut numbers) = (Random::new(42), vec![]);
-    run_lists(|station| {
-        let key = held(&station);
+    run_lists(B, |station| {
+        let key = held(&station.b);
         let capsule = if random.one_in(8) { vec![] } else { random.row(key.capsule_bits()) };
         let secret = random.secret(key.n);
-        let derived = session(station, &capsule, &secret);
-        let expected = calls::session(station.state, &Held::new(key), &capsule, &secret);
+        let derived = session(station, B, &capsule, &secret);
+        let expected = calls::session(station.b.state, &Held::new(key), &capsule, &secret);
         assert_eq!((derived.refused, derived.key), expected, "{capsule:02x?} {secret:02x?}");
         numbers.push(derived.refused);
         derived.station

@@ -1,6 +1,6 @@
 //! irreducible.txt: whether g has a proper factor, by the second implementation and through the crate.
 
-use shearcotter::{Refusal, Station};
+use shearcotter::{Name, Refusal, Station};
 
 use crate::independent::factors;
 use crate::independent::field::Field;
@@ -57,18 +57,19 @@ fn through_the_crate() {
     for Line { m, g, split } in lines() {
         let Some(key) = random.key_of(m, usize::from(m) * (g.len() - 1) + 1, &g) else { continue };
         let mut station = Station::fresh();
-        let loaded = station.load(&key.file()).map_err(Refusal::number);
+        let loaded = station.load(Name::A, &key.file()).map_err(Refusal::number);
         if key.number() == 6 {
             assert_eq!((loaded, split), (Err(6), true), "{m} {g:?}");
             met[2] += 1;
             continue;
         }
         assert_eq!(loaded, Ok(()), "{m} {g:?}");
-        assert_eq!(station.is_exchange_key(), Ok(!split), "{m} {g:?}");
-        let raw = raw_calls::holding(1, &key);
-        let reply = raw_calls::publish(raw, &mut [], &mut []);
-        assert_eq!(reply.refused, if split { 34 } else { 10 }, "{m} {g:?}");
-        assert!(reply.station == raw, "the station has changed: {m} {g:?}");
+        assert_eq!(station.is_exchange_key(Name::A), Ok(!split), "{m} {g:?}");
+        for (name, station) in raw_calls::placed(raw_calls::holding(1, &key)) {
+            let reply = raw_calls::publish(station, name, &mut [], &mut []);
+            assert_eq!(reply.refused, if split { 34 } else { 10 }, "{m} {g:?}");
+            assert!(reply.station == station, "the station has changed: {m} {g:?}");
+        }
         met[usize::from(split)] += 1;
     }
     let [irreducible, split, square] = met;

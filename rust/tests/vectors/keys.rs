@@ -1,6 +1,6 @@
 //! keyfiles.txt.
 
-use shearcotter::{Refusal, Station};
+use shearcotter::{Name, Refusal, Station};
 
 use crate::independent::key::load_number;
 use crate::support::bytes;
@@ -14,9 +14,9 @@ fn key_files() {
         let expected: u8 = case[0].parse().expect("a number");
         let file = bytes(&case[1]);
         let mut station = Station::fresh();
-        let number = station.load(&file).map_or_else(Refusal::number, |()| 0);
+        let number = station.load(Name::A, &file).map_or_else(Refusal::number, |()| 0);
         assert_eq!(number, expected, "{case:?}");
-        assert_eq!(station.shape().is_some(), expected == 0);
+        assert_eq!(station.shape(Name::A).is_some(), expected == 0);
         assert_eq!(load_number(&file), expected, "the second implementation: {case:?}");
     }
 }

@@ -4,16 +4,17 @@ mod calls;
 mod fields;
 mod irreducible;
 mod keys;
+mod named;
 mod program;
 mod sessions;
 mod shake;
 mod standard;
 mod words;
 
-use shearcotter::{raw, Pattern, Refusal, Station};
+use shearcotter::{raw, Name, Pattern, Refusal, Station};
 
 use crate::independent;
-use crate::support::raw_calls::{self, held};
+use crate::support::raw_calls::{self, held, placed};
 use crate::support::vectors::file;
 use crate::support::{bytes, UNTOUCHED};
 
@@ -62,18 +63,20 @@ fn same_pattern(answer: Result<Pattern, Refusal>, case: &[String]) {
 
 /// A report on the capsules of all `open` cases, back to back, has their numbers as records; how many. Of those with a
 /// wrong length only a shorter one can stand there, as the tail: each in turn.
-fn same_records(station: &raw::Station, cases: &[Vec<String>]) -> usize {
-    let length = held(station).capsule_bits().div_ceil(8);
+fn same_records(slot: &raw::Slot, cases: &[Vec<String>]) -> usize {
+    let length = held(slot).capsule_bits().div_ceil(8);
     let open = cases.iter().filter(|case| case[0] == "open").map(|case| (bytes(&case[1]), number(&case[2..])));
     let (whole, other): (Vec<_>, Vec<_>) = open.partition(|(capsule, _)| capsule.len() == length);
     let (capsules, numbers): (Vec<_>, Vec<_>) = whole.into_iter().unzip();
     let short = other.into_iter().filter(|(capsule, _)| (1..length).contains(&capsule.len()));
     for (tail, last) in short.chain([(vec![], 0)]) {
         let expected: Vec<u8> = numbers.iter().copied().chain((!tail.is_empty()).then_some(last)).collect();
-        let mut records = vec![UNTOUCHED; expected.len()];
-        let reported = raw_calls::report(*station, &[capsules.concat(), tail].concat(), &mut records);
-        assert_eq!((reported.refused, &records), (0, &expected));
-        assert_eq!(reported.counts, independent::calls::counts(&expected));
+        for (name, station) in placed(*slot) {
+            let mut records = vec![UNTOUCHED; expected.len()];
+            let reported = raw_calls::report(station, name, &[&capsules.concat()[..], &tail].concat(), &mut records);
+            assert_eq!((reported.refused, &records), (0, &expected));
+            assert_eq!(reported.counts, independent::calls::counts(&expected));
+        }
     }
     numbers.len()
 }
@@ -97,6 +100,6 @@ fn number(case: &[String]) -> u8 {
 
 fn loaded(file: &[u8]) -> Station {
     let mut station = Station::fresh();
-    station.load(file).expect("load accepts");
+    station.load(Name::A, file).expect("load accepts");
     station
 }

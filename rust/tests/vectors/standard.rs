@@ -1,6 +1,6 @@
 //! The standard's published keys and capsules, count 0 of each shape.
 
-use shearcotter::{lock, Refusal, Shape};
+use shearcotter::{lock, Name, Refusal, Shape};
 
 use super::{at, loaded, same_pattern, same_records};
 use crate::independent::key::Key;
@@ -13,16 +13,16 @@ fn published_vector(shape: Shape) {
     let at = |part: &str| at(&name, part);
     let (public, capsule, pattern) = (at("public.bin"), at("capsule.bin"), at("pattern.bin"));
     let mut station = loaded(&at("key.bin"));
-    assert_eq!(station.shape(), Some(shape));
-    assert!(station.publish().expect("publish accepts") == public, "public key of {name}");
+    assert_eq!(station.shape(Name::A), Some(shape));
+    assert!(station.publish(Name::A).expect("publish accepts") == public, "public key of {name}");
     assert_eq!(lock(shape, &public, &pattern), Ok(capsule.clone()));
-    let opened = station.open(&capsule).expect("it opens");
+    let opened = station.open(Name::A, &capsule).expect("it opens");
     assert_eq!((opened.bytes(), opened.ones()), (&pattern[..], shape.t()));
-    assert_eq!(station.open(&at("capsule_reject.bin")), Err(Refusal::NoPattern));
+    assert_eq!(station.open(Name::A, &at("capsule_reject.bin")), Err(Refusal::NoPattern));
     let cases = cases(&format!("{name}/count0/many.txt"));
     for case in &cases {
         assert_eq!(case[0], "open");
-        same_pattern(station.open(&bytes(&case[1])), &case[2..]);
+        same_pattern(station.open(Name::A, &bytes(&case[1])), &case[2..]);
     }
     let raw = holding(2, &Key::parse(&at("key.bin")).expect("a key"));
     assert!(same_records(&raw, &cases) > 10, "{name}");

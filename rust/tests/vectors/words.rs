@@ -1,19 +1,20 @@
 //! words: publishing, reading, opening and locking with one key a folder.
 
-use shearcotter::{lock, Pattern, Refusal, Station};
+use shearcotter::raw::{Slot, B};
+use shearcotter::{lock, Name, Pattern, Refusal, Station};
 
 use super::{expected, loaded, same_pattern, same_records, with_a_factor};
 use crate::independent::held::Held;
 use crate::independent::key::Key;
-use crate::support::raw_calls;
+use crate::support::raw_calls::{self, held, placed};
 use crate::support::vectors::{cases, exists, file, names};
-use crate::support::{bytes, raw_calls::held, UNTOUCHED};
+use crate::support::{bytes, UNTOUCHED};
 
 /// One folder's key, as the cases use it.
 struct Label {
     station: Station,
-    /// The same key on a station made by hand with the mark, for keys that publish refuses.
-    marked: shearcotter::raw::Station,
+    /// The same key in a slot made by hand with the mark, for keys that publish refuses.
+    marked: Slot,
     /// What [I|T] is made of, whether or not publish writes it.
     public: Option<Vec<u8>>,
     /// Whether g has a proper factor, by the second implementation.
@@ -28,9 +29,9 @@ impl Label {
         let public = exists(&name).then(|| file(&name));
         let split = Held::new(Key::parse(&key).expect("a key")).has_factor();
         let written = if split { None } else { public.clone() };
-        assert!(station.publish().ok() == written, "public key of {folder}");
-        let raw = raw_calls::load(raw_calls::fresh(), &key).station;
-        let marked = raw_calls::holding(2, &held(&raw));
+        assert!(station.publish(Name::A).ok() == written, "public key of {folder}");
+        let raw = raw_calls::load(raw_calls::fresh(), B, &key).station;
+        let marked = raw_calls::holding(2, &held(&raw.b));
         Label { station, marked, public, split }
     }
 
@@ -50,19 +51,21 @@ impl Label {
     /// Opening as if published; with a proper factor also before.
     fn open(&self, capsule: &[u8], case: &[String]) {
         if self.split || self.public.is_some() {
-            same_pattern(self.station.open(capsule), case);
+            same_pattern(self.station.open(Name::A, capsule), case);
         }
-        let mut out = vec![0; usize::from(self.marked.key.n).div_ceil(8)];
-        let reply = raw_calls::open(self.marked, capsule, &mut out);
-        match expected(case) {
-            Ok(fields) => assert_eq!((reply.refused, out), (0, bytes(fields[0])), "{case:?}"),
-            Err(number) => assert_eq!(reply.refused, number, "{case:?}"),
+        for (name, station) in placed(self.marked) {
+            let mut out = vec![0; usize::from(self.marked.key.n).div_ceil(8)];
+            let reply = raw_calls::open(station, name, capsule, &mut out);
+            match expected(case) {
+                Ok(fields) => assert_eq!((reply.refused, out), (0, bytes(fields[0])), "{case:?}"),
+                Err(number) => assert_eq!(reply.refused, number, "{case:?}"),
+            }
         }
     }
 
     fn lock(&self, pattern: &[u8], case: &[String]) {
         let public = self.public.as_deref().expect("a public key");
-        let shape = self.station.shape().expect("a shape");
+        let shape = self.station.shape(Name::A).expect("a shape");
         let capsule = lock(shape, public, pattern);
         let expected = expected(case).map(|fields| bytes(fields[0]));
         assert_eq!(capsule.map_err(Refusal::number), expected, "{case:?}");
@@ -81,11 +84,11 @@ impl Label {
         }
     }
 
-    /// The number of publish on a loaded station, with all the room that it needs.
+    /// The number of publish on a loaded slot, with all the room that it needs.
     fn publish(&self) -> u8 {
-        let (key, loaded) = (held(&self.marked), shearcotter::raw::Station { state: 1, ..self.marked });
+        let (key, [_, (name, loaded)]) = (held(&self.marked), placed(Slot { state: 1, ..self.marked }));
         let (mut out, mut work) = (vec![0; key.public_length()], vec![0; key.work_length()]);
-        raw_calls::publish(loaded, &mut out, &mut work).refused
+        raw_calls::publish(loaded, name, &mut out, &mut work).refused
     }
 
     /// The reports on the capsules of the cases; how many stand in them. With a proper factor all are refused with 34.
@@ -94,15 +97,17 @@ impl Label {
             return same_records(&self.marked, cases);
         }
         for case in cases.iter().filter(|case| case[0] == "open") {
-            let mut records = [UNTOUCHED];
-            let reported = raw_calls::report(self.marked, &bytes(&case[1]), &mut records);
-            assert_eq!((reported.refused, reported.counts, records), (34, [0; 256], [UNTOUCHED]), "{case:?}");
+            for (name, station) in placed(self.marked) {
+                let mut records = [UNTOUCHED];
+                let reported = raw_calls::report(station, name, &bytes(&case[1]), &mut records);
+                assert_eq!((reported.refused, reported.counts, records), (34, [0; 256], [UNTOUCHED]), "{case:?}");
+            }
         }
         0
     }
 
     fn read(&self, word: &str) -> Result<Pattern, Refusal> {
-        self.station.read(&bytes(word))
+        self.station.read(Name::A, &bytes(word))
     }
 }
 

@@ -41,7 +41,8 @@ impl Row {
         }
     }
 
-    fn bits(self, shape: Shape) -> usize {
+    /// Bits of a row.
+    pub fn bits(self, shape: Shape) -> usize {
         match self {
             Row::Capsule | Row::SessionCapsule => capsule_bits(shape),
             Row::Word | Row::Pattern => usize::from(shape.n()),
