@@ -1,3 +1,4 @@
+pub mod SameAnswers
 pub mod Table
 pub mod NameLaws
 pub mod Slotted

@@ -179,16 +179,7 @@ pub fn open<'a>(
     if is_empty(state) {
         return refuse(21);
     }
-    let answer = reading::open(
-        m,
-        n,
-        t,
-        support,
-        g,
-        is_published(state),
-        capsule,
-        out,
-    );
+    let answer = reading::open(m, n, t, support, g, is_published(state), capsule, out);
     let Answer::Ones(ones) = answer else {
         return refuse(answer_number(answer));
     };

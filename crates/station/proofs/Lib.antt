@@ -1,3 +1,4 @@
 pub mod Picked
 pub mod Named
 pub mod Demands
+pub mod Table
