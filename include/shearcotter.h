@@ -39,15 +39,15 @@ enum shearcotter_limit {
 /* KiB of stack that a call takes, its argument and reply in the caller included: as measured at (13, 8192, 128), rounded up; the
  * calls of the field and shape_at take less than one. */
 enum shearcotter_stack_kib {
-    SHEARCOTTER_STACK_FRESH = 36,
-    SHEARCOTTER_STACK_LOAD = 192,
-    SHEARCOTTER_STACK_PUBLISH = 231,
+    SHEARCOTTER_STACK_FRESH = 52,
+    SHEARCOTTER_STACK_LOAD = 306,
+    SHEARCOTTER_STACK_PUBLISH = 280,
     SHEARCOTTER_STACK_LOCK = 2,
-    SHEARCOTTER_STACK_OPEN = 225,
-    SHEARCOTTER_STACK_READ = 225,
-    SHEARCOTTER_STACK_REPORT = 229,
-    SHEARCOTTER_STACK_SESSION = 243,
-    SHEARCOTTER_STACK_DROP = 49,
+    SHEARCOTTER_STACK_OPEN = 273,
+    SHEARCOTTER_STACK_READ = 273,
+    SHEARCOTTER_STACK_REPORT = 278,
+    SHEARCOTTER_STACK_SESSION = 308,
+    SHEARCOTTER_STACK_DROP = 163,
     SHEARCOTTER_STACK_REGISTER = 4,
     SHEARCOTTER_STACK_SHAKE = 2
 };

@@ -19,21 +19,21 @@ pub const SESSION_BYTES: usize = 32;
 /// Bytes of stack that each safe call makes sure of.
 pub const STACK: usize = 512 * 1024;
 /// Bytes of stack that `shearcotter_load` takes, its argument and reply in the caller included.
-pub const STACK_LOAD: usize = 192 * 1024;
+pub const STACK_LOAD: usize = 306 * 1024;
 /// The same for `shearcotter_publish`.
-pub const STACK_PUBLISH: usize = 231 * 1024;
+pub const STACK_PUBLISH: usize = 280 * 1024;
 /// Bytes of stack that `shearcotter_lock` takes.
 pub const STACK_LOCK: usize = 2 * 1024;
 /// The same as [`STACK_LOAD`] for `shearcotter_open`.
-pub const STACK_OPEN: usize = 225 * 1024;
+pub const STACK_OPEN: usize = 273 * 1024;
 /// The same for `shearcotter_read`.
-pub const STACK_READ: usize = 225 * 1024;
+pub const STACK_READ: usize = 273 * 1024;
 /// The same for `shearcotter_report`.
-pub const STACK_REPORT: usize = 229 * 1024;
+pub const STACK_REPORT: usize = 278 * 1024;
 /// The same for `shearcotter_session`.
-pub const STACK_SESSION: usize = 243 * 1024;
+pub const STACK_SESSION: usize = 308 * 1024;
 /// The same for `shearcotter_drop`.
-pub const STACK_DROP: usize = 49 * 1024;
+pub const STACK_DROP: usize = 163 * 1024;
 /// Bytes of stack that `shearcotter_shake256` takes.
 pub const STACK_SHAKE: usize = 2 * 1024;
 
