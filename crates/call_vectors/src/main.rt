@@ -1,9 +1,12 @@
-// Replays the lists of calls of data/calls.txt on the station and counts agreements and differences.
-// `list K` starts a fresh station. A call is `load FILE`, `publish OUTLEN WORKLEN`, `open CAPSULE OUTLEN`, `read WORD OUTLEN`
-// or `drop`, then `->` and `ok`, `ok T`, `ok PATTERN ONES` or `refused NUMBER`. `end FILE PUBLISHED` says the file of the
-// key that is held and 1 where it is published, `end - 0` that none is. Bytes are in hexadecimal, and `-` is none.
+// Replays lists of calls on the station and counts agreements and differences: those of data/calls.txt as calls that name A, while B
+// is empty and while B holds a published key, and those of data/named.txt, which name A, B or neither.
+// `list K` starts a list. A call is `load FILE`, `publish OUTLEN WORKLEN`, `open CAPSULE OUTLEN`, `read WORD OUTLEN` or `drop`, in
+// named.txt behind its name in decimal, then `->` and `ok`, `ok T`, `ok PATTERN ONES` or `refused NUMBER`. `end FILE PUBLISHED` says
+// the file of A's key and 1 where it is published, `- 0` that there is none; in named.txt B's follow, else B is as at the list's
+// start. Bytes are in hexadecimal, and `-` is none.
 use key::kept::Key;
 use libc::STDOUT_FILENO;
+use slot::Slot;
 use station::Reply;
 use station::Station;
 use vectors::line::Bytes;
@@ -16,12 +19,13 @@ use vectors::line::number_of;
 use vectors::line::output;
 use vectors::line::refused;
 use vectors::line::size;
+use vectors::line::start;
 use vectors::tally::Tally;
 use vectors::tally::agreements;
 use vectors::tally::counted;
 use vectors::tally::differences;
 
-// The bytes of calls.txt at most.
+// The bytes of a file at most.
 const TEXT: usize = 300000;
 
 // What is counted: every call, the calls of each kind, the ends, and the lists.
@@ -63,11 +67,19 @@ fn count(line: &[u8], k: u8) -> usize {
     number_of(line, k) as usize
 }
 
-fn loads(station: Station, line: &[u8]) -> Outcome {
+fn loads(station: Station, name: u8, line: &[u8]) -> Outcome {
     let b = bytes_of(line, 1);
     let file = b.bytes;
     let n = size(&file, b.count);
-    outcome_of(station.load(&file[..n]), line, 3, true)
+    outcome_of(station.load(name, &file[..n]), line, 3, true)
+}
+
+// The slot of a name.
+fn slot_of(station: Station, name: u8) -> Slot {
+    if name == Station::A {
+        return station.a;
+    }
+    station.b
 }
 
 // The bytes of the workspace that are free: m·t·ceil(n/8), once the checks before 23 have passed. The lists' keys have t at most 3
@@ -88,13 +100,14 @@ fn free_bytes(key: Key, number: u8) -> usize {
 }
 
 // The bytes of the workspace that are not free keep their filler.
-fn publishes(station: Station, line: &[u8]) -> Outcome {
-    let key = station.key;
+fn publishes(station: Station, name: u8, line: &[u8]) -> Outcome {
+    let slot = slot_of(station, name);
+    let key = slot.key;
     let mut out = [FILLER; 64];
     let mut work = [FILLER; 64];
     let n = size(&out, count(line, 1));
     let w = size(&work, count(line, 2));
-    let r = station.publish(&mut out[..n], &mut work[..w]);
+    let r = station.publish(name, &mut out[..n], &mut work[..w]);
     let free = Bytes {
         bytes: work,
         count: free_bytes(key, r.refused),
@@ -107,23 +120,23 @@ fn publishes(station: Station, line: &[u8]) -> Outcome {
     )
 }
 
-fn opens(station: Station, line: &[u8]) -> Outcome {
+fn opens(station: Station, name: u8, line: &[u8]) -> Outcome {
     let mut out = [FILLER; 64];
     let n = size(&out, count(line, 2));
     let b = bytes_of(line, 1);
     let capsule = b.bytes;
     let l = size(&capsule, b.count);
-    let r = station.open(&capsule[..l], &mut out[..n]);
+    let r = station.open(name, &capsule[..l], &mut out[..n]);
     outcome_of(r, line, 4, holds(&out, output(line, 4)))
 }
 
-fn reads(station: Station, line: &[u8]) -> Outcome {
+fn reads(station: Station, name: u8, line: &[u8]) -> Outcome {
     let mut out = [FILLER; 64];
     let n = size(&out, count(line, 2));
     let b = bytes_of(line, 1);
     let word = b.bytes;
     let l = size(&word, b.count);
-    let r = station.read(&word[..l], &mut out[..n]);
+    let r = station.read(name, &word[..l], &mut out[..n]);
     outcome_of(r, line, 4, holds(&out, output(line, 4)))
 }
 
@@ -145,71 +158,97 @@ fn same_key(a: Key, b: Key) -> bool {
     a.m == b.m && a.n == b.n && a.t == b.t && same(&a.support, &b.support) && same(&a.g, &b.g)
 }
 
-// The station is what the list's last line says.
-fn ends(station: Station, line: &[u8]) -> bool {
-    let state = station.state as u16;
-    let key = station.key;
-    let b = bytes_of(line, 1);
+// The slot is what fields k and k + 1 of the list's last line say: as at the list's start where they say none.
+fn ends(slot: Slot, first: Slot, line: &[u8], k: u8) -> bool {
+    let key = slot.key;
+    let b = bytes_of(line, k);
     if b.count == 0 {
-        return state == 0 && same_key(key, key::kept::none());
+        return slot.state == first.state && same_key(key, first.key);
     }
     let file = b.bytes;
     let n = size(&file, b.count);
-    let r = Station::fresh().load(&file[..n]);
+    let r = Station::fresh().load(Station::A, &file[..n]);
     let loaded = r.station;
-    let held = loaded.key;
-    r.refused == 0 && state == number_of(line, 2) % 100 + 1 && same_key(key, held)
+    let held = loaded.a.key;
+    r.refused == 0
+        && slot.state as u16 == number_of(line, k % 100 + 1) % 100 + 1
+        && same_key(key, held)
 }
 
-// The station, and what was counted.
+// The station at each list's start, the station now, and what was counted.
 struct Replay {
+    first: Station,
     station: Station,
     tally: Tally,
 }
 
-// After a call.
-fn called(tally: Tally, kind: usize, o: Outcome) -> Replay {
-    let station = o.station;
+// From a station, with nothing counted.
+fn from(station: Station) -> Replay {
     Replay {
+        first: station,
         station,
-        tally: counted(counted(tally, CALL, o.agrees), kind, o.agrees),
+        tally: vectors::tally::none(),
     }
 }
 
-// After a line that starts with l.
-fn listed(station: Station, tally: Tally, line: &[u8]) -> Replay {
-    if letter(line, 1) == b'o' {
-        return called(tally, LOAD, loads(station, line));
-    }
-    Replay {
-        station: Station::fresh(),
-        tally: counted(tally, LIST, true),
+// After a call.
+fn called(mut s: Replay, kind: usize, o: Outcome) -> Replay {
+    let station = o.station;
+    let tally = s.tally;
+    s.station = station;
+    s.tally = counted(counted(tally, CALL, o.agrees), kind, o.agrees);
+    s
+}
+
+// After the call of a line without its name.
+fn call(s: Replay, name: u8, line: &[u8]) -> Replay {
+    let station = s.station;
+    match letter(line, 0) {
+        b'l' => called(s, LOAD, loads(station, name, line)),
+        b'p' => called(s, PUBLISH, publishes(station, name, line)),
+        b'o' => called(s, OPEN, opens(station, name, line)),
+        b'r' => called(s, READ, reads(station, name, line)),
+        _ => called(s, DROP, outcome_of(station.drop(name), line, 2, true)),
     }
 }
 
-// After a line.
-fn step(s: Replay, line: &[u8]) -> Replay {
+// At a list's start.
+fn listed(mut s: Replay) -> Replay {
+    let first = s.first;
+    let tally = s.tally;
+    s.station = first;
+    s.tally = counted(tally, LIST, true);
+    s
+}
+
+// At a list's end.
+fn ended(mut s: Replay, line: &[u8]) -> Replay {
+    let first = s.first;
     let station = s.station;
     let tally = s.tally;
-    match letter(line, 0) {
-        b'l' => listed(station, tally, line),
-        b'p' => called(tally, PUBLISH, publishes(station, line)),
-        b'o' => called(tally, OPEN, opens(station, line)),
-        b'r' => called(tally, READ, reads(station, line)),
-        b'd' => called(tally, DROP, outcome_of(station.drop(), line, 2, true)),
-        _ => Replay {
-            station,
-            tally: counted(tally, END, ends(station, line)),
-        },
+    let agrees = ends(station.a, first.a, line, 1) && ends(station.b, first.b, line, 3);
+    s.tally = counted(tally, END, agrees);
+    s
+}
+
+// After a line. A call without a name is A's.
+fn step(s: Replay, line: &[u8]) -> Replay {
+    if letter(line, 0) < b'a' {
+        let k = start(line, 1);
+        return call(s, (number_of(line, 0) % 256) as u8, &line[k..]);
     }
+    if letter(line, 0) == b'e' {
+        return ended(s, line);
+    }
+    if letter(line, 1) == b'i' {
+        return listed(s);
+    }
+    call(s, Station::A, line)
 }
 
 // After the text.
-fn run(text: &[u8]) -> Replay {
-    let mut s = Replay {
-        station: Station::fresh(),
-        tally: vectors::tally::none(),
-    };
+fn run(begin: Replay, text: &[u8]) -> Replay {
+    let mut s = begin;
     let mut i = 0;
     while i < text.len() {
         let rest = &text[i..];
@@ -217,6 +256,15 @@ fn run(text: &[u8]) -> Replay {
         s = step(s, &rest[..e]);
         i += e + 1;
     }
+    s
+}
+
+// From the station in which B holds K1 of document 01, published; both calls are counted.
+fn beside_k1() -> Replay {
+    let text = b"2 load 040600010009000d000f000e000b0001000000 -> ok\n2 publish 4 4 -> ok 03010200";
+    let mut s = run(from(Station::fresh()), text);
+    let station = s.station;
+    s.first = station;
     s
 }
 
@@ -229,18 +277,9 @@ fn print(t: Tally, kind: usize, name: &[u8]) {
     io::write_all(STDOUT_FILENO, b" differences\n");
 }
 
-fn main() {
-    let name = b"calls.txt";
-    let fd = os::open_read(name);
-    if fd < 0 {
-        os::fail(name);
-        return;
-    }
-    let mut text = [0u8; TEXT];
-    let n = io::read_full(fd, &mut text);
-    libc::close(fd);
-    let s = run(&text[..n]);
-    let t = s.tally;
+// Writes what was counted behind a heading.
+fn print_all(t: Tally, heading: &[u8]) {
+    io::write_all(STDOUT_FILENO, heading);
     io::write_all(STDOUT_FILENO, b"lists: ");
     io::print_decimal(STDOUT_FILENO, agreements(t, LIST));
     print(t, CALL, b", calls: ");
@@ -250,4 +289,25 @@ fn main() {
     print(t, READ, b"read: ");
     print(t, DROP, b"drop: ");
     print(t, END, b"ends: ");
+}
+
+// Replays the lists of a file from a station on.
+fn replay_file(begin: Replay, file: &[u8], heading: &[u8]) {
+    let fd = os::open_read(file);
+    if fd < 0 {
+        os::fail(file);
+        return;
+    }
+    let mut text = [0u8; TEXT];
+    let n = io::read_full(fd, &mut text);
+    libc::close(fd);
+    let s = run(begin, &text[..n]);
+    print_all(s.tally, heading);
+}
+
+fn main() {
+    let fresh = from(Station::fresh());
+    replay_file(fresh, b"calls.txt", b"A, B is empty\n");
+    replay_file(beside_k1(), b"calls.txt", b"A, B holds a published key\n");
+    replay_file(fresh, b"named.txt", b"A, B and other names\n");
 }

@@ -34,13 +34,19 @@ fn unhex(out: &mut [u8], line: &[u8], n: usize)
     }
 }
 
-// Load gives the file's first n bytes that number.
-fn gives(file: &[u8], n: usize, number: u8) -> bool {
+// Load's number for a recipient.
+fn number(name: u8, file: &[u8]) -> u8 {
+    let r = Station::fresh().load(name, file);
+    r.refused
+}
+
+// Load gives the file's first n bytes that number, for both recipients.
+fn gives(file: &[u8], n: usize, wanted: u8) -> bool {
     if file.len() < n {
         return false;
     }
-    let r = Station::fresh().load(&file[..n]);
-    r.refused == number
+    let part = &file[..n];
+    number(Station::A, part) == wanted && number(Station::B, part) == wanted
 }
 
 // Load answers what the line says.
@@ -72,9 +78,9 @@ fn tally_of(text: &[u8]) -> Tally {
 
 // Load accepts the key and it has the shape at the position.
 fn has_shape(file: &[u8], position: u8) -> bool {
-    let r = Station::fresh().load(file);
+    let r = Station::fresh().load(Station::A, file);
     let held = r.station;
-    let k = held.key;
+    let k = held.a.key;
     match shape(position) {
         ShapeAnswer::Sizes(s) => r.refused == 0 && k.m == s.m && k.n == s.n && k.t == s.t,
         ShapeAnswer::Refused(x) => false,

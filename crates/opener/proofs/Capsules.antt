@@ -13,25 +13,29 @@ use Rattle.key.specs.Keys.{Key}
 use Rattle.code.specs.Publish.{capsuleBits}
 use Rattle.records.specs.Records.{cut, capsulesOf}
 use Rattle.records.proofs.Cut.{take-within, cut-next}
-use Rattle.ledger.specs.Slot.{Station}
+use Rattle.ledger.specs.Slot.{Slot}
 use Rattle.ledger.specs.Questions.{open-capsule}
-use Rattle.ledger.specs.Calls.{ask}
-use Rattle.station.specs.Replies.{view, handed}
+use Rattle.ledger.specs.Calls.{ask, step}
+use Rattle.slot.specs.Replies.{view}
+use Rattle.recipients.specs.Names.{A, naming}
+use Rattle.station.specs.Replies.{handed}
+use Rattle.station.specs.declared.Station.{Station}
 use Rattle.station.specs.declared.Reply.{Reply}
-use Rattle.station.proofs.StepView.{same}
-use Rattle.station.specs.declared.Station as Code
 use Rattle.opener.specs.Report.{newline, decimal, answer, room, line, lines}
+use Rattle.opener.specs.Prepared.{slotA, replyA}
+use Rattle.opener.proofs.NamesA.{same-number, same-output}
 use Rattle.opener.proofs.Shape.{Four}
 
 -- the line, from what the station hands back
-pub line-parts : (s : Code.Station) (p : ℕ) (capsule : List ℕ) {r : Reply} {out : List ℕ}
-    → r ≡ handed s (ask (open-capsule capsule room)) .reply → out ≡ handed s (ask (open-capsule capsule room)) .output
-    → line (view s) p capsule ≡ decimal p ++ (answer (r .refused) (unpack (s .key .n) out) ++ newline)
-unfolding line view kept handed
+pub line-parts : (s : Station) (p : ℕ) (capsule : List ℕ) {r : Reply} {out : List ℕ}
+    → r ≡ replyA s (ask (open-capsule capsule room)) → out ≡ handed s (naming A (ask (open-capsule capsule room))) .output
+    → line (slotA s) p capsule ≡ decimal p ++ (answer (r .refused) (unpack (s .a .key .n) out) ++ newline)
+unfolding line view kept
 line-parts s p capsule {r} {out} e f =
-    ap (λ (k : ℕ). decimal p ++ (answer k (unpack (s .key .n) (handed s (ask (open-capsule capsule room)) .output)) ++ newline))
-    (sym (same s (ask (open-capsule capsule room)) .number) ∙ sym (ap (λ (x : Reply). x .refused) e))
-    ∙ ap (λ (o : List ℕ). decimal p ++ (answer (r .refused) (unpack (s .key .n) o) ++ newline)) (sym f)
+    ap (λ (k : ℕ). decimal p ++ (answer k (unpack (s .a .key .n) (step (slotA s) (ask (open-capsule capsule room)) .output)) ++ newline))
+    (sym (same-number s (ask (open-capsule capsule room))) ∙ sym (ap (λ (x : Reply). x .refused) e))
+    ∙ ap (λ (o : List ℕ). decimal p ++ (answer (r .refused) (unpack (s .a .key .n) o) ++ newline))
+    (sym (same-output s (ask (open-capsule capsule room))) ∙ sym f)
 
 -- the first c bytes, or all
 pub taken : (c : ℕ) (l : List ℕ) {k : ℕ} → k ≡ min c (length l) → take k l ≡ take c l
@@ -43,10 +47,10 @@ pub taken-length : (c : ℕ) (l : List ℕ) {k : ℕ} → k ≡ min c (length l)
 taken-length c l {k} e = length-take-le k l (omega (arith, min-le-right c (length l)))
 
 -- the lines from byte i and position p on
-pub linesLeft : Station → ℕ → ℕ → List ℕ → ℕ → List ℕ
+pub linesLeft : Slot → ℕ → ℕ → List ℕ → ℕ → List ℕ
 linesLeft s c p input i = lines s p (cut (length (drop i input)) c (drop i input))
 
-module _ (s : Station) (c p : ℕ) (input : List ℕ) where
+module _ (s : Slot) (c p : ℕ) (input : List ℕ) where
   pub lines-next : (i : ℕ) → 0 < c → i < length input
       → linesLeft s c p input i ≡ line s p (take c (drop i input)) ++ linesLeft s c (p + 1) input (i + c)
   unfolding linesLeft lines
@@ -67,7 +71,7 @@ module _ (s : Station) (c p : ℕ) (input : List ℕ) where
   line-room i h b =
       rw (lines-next i h b) (simp length-append (omega arith))
 
-pub lines-all : (s : Station) (input : List ℕ) {c : ℕ} → c ≡ bytesFor (capsuleBits (s .key)) → linesLeft s c 1 input 0 ≡ lines s 1 (capsulesOf (s .key) input)
+pub lines-all : (s : Slot) (input : List ℕ) {c : ℕ} → c ≡ bytesFor (capsuleBits (s .key)) → linesLeft s c 1 input 0 ≡ lines s 1 (capsulesOf (s .key) input)
 unfolding linesLeft capsulesOf
 lines-all s input e = ap (λ (k : ℕ). lines s 1 (cut (length input) k input)) e
 

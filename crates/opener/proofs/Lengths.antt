@@ -22,7 +22,7 @@ use Rattle.decoder.proofs.Sanity.{Corrects, reading-sound}
 use Rattle.decoder.proofs.Openings.{exactly-some}
 use Rattle.records.specs.Records.{cut, capsulesOf}
 use Rattle.records.proofs.Cut.{cut-number}
-use Rattle.ledger.specs.Slot.{Station, heldBy, Result}
+use Rattle.ledger.specs.Slot.{Slot, heldBy, Result}
 use Rattle.ledger.specs.Questions.{open-capsule, questionConditions, gives, given}
 use Rattle.ledger.specs.Calls.{ask, conditionsOf, made, step}
 use Rattle.ledger.proofs.StepLaws.{step-number, step-made}
@@ -56,7 +56,7 @@ found-some k w (some e) h i =
     let c : Corrects k w e = reading-sound k w e (exactly-some (k .t) (reading k w) e h .0) in
     record { bits = c .bits; few = c .few }
 
-module _ (s : Station) (capsule out : List ℕ) where
+module _ (s : Slot) (capsule out : List ℕ) where
   -- open's numbers are at most 34
   open-number : step s (ask (open-capsule capsule out)) .number < 35
   unfolding Numbered conditionsOf questionConditions openConditions
@@ -93,7 +93,7 @@ places-few (on {e = e} r) i h =
     omega (arith, t, length-append (decimal i) (places (suc i) e), decimal-short 1 i (omega arith))
 
 -- b is t, or 2: ` refused 13` is as long as ` open` with two places
-module _ (s : Station) (f : Four (s .key)) (b : ℕ) (h : s .key .t ≤ b) (two : 2 ≤ b) where
+module _ (s : Slot) (f : Four (s .key)) (b : ℕ) (h : s .key .t ≤ b) (two : 2 ≤ b) where
   answer-few : (n : ℕ) (e : List ℕ) → n < 35 → (n ≡ 0 → Pattern (s .key) e) → length (answer n e) ≤ 5 + 3 * b
   unfolding answer opens refuses
   answer-few zero e l p =
@@ -116,7 +116,7 @@ module _ (s : Station) (f : Four (s .key)) (b : ℕ) (h : s .key .t ≤ b) (two 
       let r = lines-few cs (suc p) (omega arith) in
       omega (arith, r, length-append (line s p c) (lines s (suc p) cs), line-few p c (omega arith), suc-mul (length cs) (11 + 3 * b))
 
-module _ (s : Station) (f : Four (s .key)) (input : List ℕ) where
+module _ (s : Slot) (f : Four (s .key)) (input : List ℕ) where
   -- capsules of c bytes
   lines-cut : (c b : ℕ) → bytesFor (capsuleBits (s .key)) ≡ c → 0 < c → s .key .t ≤ b → 2 ≤ b → (length input + (c - 1)) / c < 100000
       → length (lines s 1 (capsulesOf (s .key) input)) ≤ (length input + (c - 1)) / c * (11 + 3 * b)

@@ -6,3 +6,4 @@ pub mod Capsules
 pub mod Lengths
 pub mod Total
 pub mod Stages
+pub mod NamesA

@@ -17,16 +17,16 @@ use Rattle.ledger.specs.Publishing.{systematic}
 use Rattle.ledger.specs.Calls.{load, publish, conditionsOf, step}
 use Rattle.ledger.proofs.StepLaws.{step-number, load-station, publish-station}
 use Rattle.ledger.specs.Slot as Definition
-use Rattle.station.specs.Replies.{view, freshStation, handed}
+use Rattle.station.specs.Replies.{freshStation}
 use Rattle.station.specs.declared.Station.{Station}
 use Rattle.station.specs.declared.Reply.{Reply}
-use Rattle.station.proofs.StepView.{same, view-fresh}
 use Rattle.opener.specs.Report.{tooLarge, room, opened, unlessRefused, afterPublish, afterLoad, large, whole, report}
-use Rattle.opener.specs.Prepared.{keyAnswer, readyOf, publishedAfter, preparedWhole, prepared, keyText, isFour, capsuleLines}
+use Rattle.opener.specs.Prepared.{slotA, replyA, keyAnswer, readyOf, publishedAfter, preparedWhole, prepared, keyText, isFour, capsuleLines}
 use Rattle.opener.specs.declared.KeyAnswer.{KeyAnswer}
 use Rattle.opener.specs.declared.KeyAnswer.the-variants.{Accepted, Refused, TooLarge}
 use Rattle.opener.specs.declared.Ready.{Ready}
 use Rattle.opener.proofs.KeyAnswer.{enum}
+use Rattle.opener.proofs.NamesA.{fresh-shown, same-number, same-slot}
 use Rattle.opener.proofs.Shape.{accepted-four}
 use Rattle.opener.proofs.Text.{key-accepted}
 
@@ -67,14 +67,14 @@ text-other TooLarge text h = refl
 
 module _ (file : List ℕ) where
   abbrev loads : Reply
-  loads = handed freshStation (load (key-file file)) .reply
+  loads = replyA freshStation (load (key-file file))
 
   abbrev publishes : Reply
-  publishes = handed (loads .station) (publish (systematic room room)) .reply
+  publishes = replyA (loads .station) (publish (systematic room room))
 
   -- load on the station that was made
-  pub loaded : {s : Station} {r : Reply} → s ≡ freshStation → r ≡ handed s (load (key-file file)) .reply → r ≡ loads
-  loaded e h = h ∙ ap (λ (s : Station). handed s (load (key-file file)) .reply) e
+  pub loaded : {s : Station} {r : Reply} → s ≡ freshStation → r ≡ replyA s (load (key-file file)) → r ≡ loads
+  loaded e h = h ∙ ap (λ (s : Station). replyA s (load (key-file file))) e
 
   pub prepared-large : large file ≡ true → preparedWhole file ≡ record { station = freshStation; answer = TooLarge }
   unfolding preparedWhole
@@ -94,32 +94,32 @@ module _ (file : List ℕ) where
     prepared-published h = prepared-small ∙ ap (λ (b : Bool). cond b (readyOf publishes) (readyOf loads)) (eq-eqb (loads .refused) 0 h)
 
   number : loads .refused ≡ step fresh (load (key-file file)) .number
-  number = same freshStation (load (key-file file)) .number ∙ ap (λ (t : Definition.Station). step t (load (key-file file)) .number) view-fresh
+  number = same-number freshStation (load (key-file file)) ∙ ap (λ (t : Definition.Slot). step t (load (key-file file)) .number) fresh-shown
 
-  station : view (loads .station) ≡ step fresh (load (key-file file)) .station
-  station = same freshStation (load (key-file file)) .station ∙ ap (λ (t : Definition.Station). step t (load (key-file file)) .station) view-fresh
+  station : slotA (loads .station) ≡ step fresh (load (key-file file)) .station
+  station = same-slot freshStation (load (key-file file)) ∙ ap (λ (t : Definition.Slot). step t (load (key-file file)) .station) fresh-shown
 
-  published-number : publishes .refused ≡ step (view (loads .station)) (publish (systematic room room)) .number
-  published-number = same (loads .station) (publish (systematic room room)) .number
+  published-number : publishes .refused ≡ step (slotA (loads .station)) (publish (systematic room room)) .number
+  published-number = same-number (loads .station) (publish (systematic room room))
 
-  published-station : view (publishes .station) ≡ step (view (loads .station)) (publish (systematic room room)) .station
-  published-station = same (loads .station) (publish (systematic room room)) .station
+  published-station : slotA (publishes .station) ≡ step (slotA (loads .station)) (publish (systematic room room)) .station
+  published-station = same-slot (loads .station) (publish (systematic room room))
 
   -- a key that both accept is one of width 4
-  four-wide : large file ≡ false → loads .refused ≡ 0 → publishes .refused ≡ 0 → isFour (view (publishes .station) .key) ≡ true
+  four-wide : large file ≡ false → loads .refused ≡ 0 → publishes .refused ≡ 0 → isFour (slotA (publishes .station) .key) ≡ true
   unfolding parse large conditionsOf loadingConditions loadedKey heldBy fresh isEmpty firstOf
   four-wide small a b =
       let sound : keyNumber (parse file) ≡ 0 = accepted-key file (sym (step-number fresh (load (key-file file))) ∙ sym number ∙ a) in
-      let key : view (publishes .station) .key ≡ parse file =
-      ap (λ (t : Definition.Station). t .key)
-      (published-station ∙ publish-station (view (loads .station)) (systematic room room) (sym published-number ∙ b))
-      ∙ ap (λ (t : Definition.Station). t .key) (station ∙ load-station fresh (key-file file) (sym number ∙ a)) in
+      let key : slotA (publishes .station) .key ≡ parse file =
+      ap (λ (t : Definition.Slot). t .key)
+      (published-station ∙ publish-station (slotA (loads .station)) (systematic room room) (sym published-number ∙ b))
+      ∙ ap (λ (t : Definition.Slot). t .key) (station ∙ load-station fresh (key-file file) (sym number ∙ a)) in
       rw key (accepted-four (parse file) sound small)
 
   module _ (input : List ℕ) where
     -- the text of what is prepared
     text : Ready → List ℕ
-    text y = keyText (y .answer) (cond (isFour (view (y .station) .key)) (opened (view (y .station)) input) [])
+    text y = keyText (y .answer) (cond (isFour (slotA (y .station) .key)) (opened (slotA (y .station)) input) [])
 
     whole-large : large file ≡ true → whole file input ≡ text (preparedWhole file)
     unfolding whole text keyText
@@ -128,23 +128,23 @@ module _ (file : List ℕ) where
 
     module _ (small : large file ≡ false) where
       -- the numbers and the station of the calls for those of the definitions
-      by-replies : whole file input ≡ unlessRefused (loads .refused) (unlessRefused (publishes .refused) (opened (view (publishes .station)) input))
+      by-replies : whole file input ≡ unlessRefused (loads .refused) (unlessRefused (publishes .refused) (opened (slotA (publishes .station)) input))
       unfolding whole afterLoad afterPublish
       by-replies =
           ap (λ (b : Bool). cond b tooLarge (afterLoad (step fresh (load (key-file file))) input)) small
           ∙ ap (λ (n : ℕ). unlessRefused n (afterPublish (step (step fresh (load (key-file file)) .station) (publish (systematic room room))) input)) (sym number)
-          ∙ ap (λ (t : Definition.Station). unlessRefused (loads .refused) (afterPublish (step t (publish (systematic room room))) input)) (sym station)
+          ∙ ap (λ (t : Definition.Slot). unlessRefused (loads .refused) (afterPublish (step t (publish (systematic room room))) input)) (sym station)
           ∙ ap
-          (λ (n : ℕ). unlessRefused (loads .refused) (unlessRefused n (opened (step (view (loads .station)) (publish (systematic room room)) .station) input)))
+          (λ (n : ℕ). unlessRefused (loads .refused) (unlessRefused n (opened (step (slotA (loads .station)) (publish (systematic room room)) .station) input)))
           (sym published-number)
-          ∙ ap (λ (t : Definition.Station). unlessRefused (loads .refused) (unlessRefused (publishes .refused) (opened t input))) (sym published-station)
+          ∙ ap (λ (t : Definition.Slot). unlessRefused (loads .refused) (unlessRefused (publishes .refused) (opened t input))) (sym published-station)
 
       whole-small : (n : ℕ) → loads .refused ≡ n → whole file input ≡ text (preparedWhole file)
       unfolding text readyOf
       whole-small zero a =
           by-replies
           ∙ key-accepted (loads .refused) _ a
-          ∙ answer-text (publishes .refused) (λ b. sym (ap (λ (t : Bool). cond t (opened (view (publishes .station)) input) []) (four-wide small a b)))
+          ∙ answer-text (publishes .refused) (λ b. sym (ap (λ (t : Bool). cond t (opened (slotA (publishes .station)) input) []) (four-wide small a b)))
           ∙ sym (ap text (prepared-published small a))
       whole-small (suc n) a =
           let h : loads .refused ≡ 0 → ⊥ = λ z. omega (arith, a, z) in
@@ -155,12 +155,12 @@ module _ (file : List ℕ) where
     whole-parts false h = whole-small h (loads .refused) refl
 
 -- the program's text: that of the key, or the lines of the capsules
-pub report-parts : (file input : List ℕ) → report file input ≡ keyText (prepared file .answer) (capsuleLines (view (prepared file .station)) input)
+pub report-parts : (file input : List ℕ) → report file input ≡ keyText (prepared file .answer) (capsuleLines (slotA (prepared file .station)) input)
 unfolding report prepared capsuleLines text
 report-parts file input = whole-parts (take 4096 file) (take 65536 input) (large (take 4096 file)) refl
 
 -- the lines, by the test of the key
-module _ (s : Definition.Station) (input : List ℕ) where
+module _ (s : Definition.Slot) (input : List ℕ) where
   pub lines-none : isFour (s .key) ≡ false → capsuleLines s input ≡ []
   unfolding capsuleLines
   lines-none h = ap (λ (b : Bool). cond b (opened s (take 65536 input)) []) h

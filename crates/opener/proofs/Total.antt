@@ -13,21 +13,23 @@ use Rattle.decoder.specs.Calls.{openConditions}
 use Rattle.records.specs.Records.{cut, capsulesOf, recordsOf, occurrences, reportConditions}
 use Rattle.records.proofs.Counts.{occurrences-most, counts-at}
 use Rattle.records.proofs.Values.{record-open, capsules-few}
-use Rattle.ledger.specs.Slot.{Station, isEmpty, isUnpublished, heldBy, Result}
+use Rattle.ledger.specs.Slot.{Slot, isEmpty, isUnpublished, heldBy, Result}
 use Rattle.ledger.specs.Questions.{open-capsule, report, questionConditions, given, answerSize}
 use Rattle.ledger.specs.Calls.{ask, conditionsOf, noAnswer, made, step}
 use Rattle.ledger.proofs.StepLaws.{callNumber, step-number, step-made, step-answer}
-use Rattle.station.specs.Replies.{view, handed, reportedOf}
-use Rattle.station.specs.declared.Station as Code
+use Rattle.recipients.specs.Names.{A, naming}
+use Rattle.station.specs.Replies.{handed, reportedOf}
+use Rattle.station.specs.declared.Station.{Station}
 use Rattle.opener.specs.Report.{refuses, totalIs, areOpened, newline, digits, decimal, room, lines, numbers, totalLine, opened}
-use Rattle.opener.specs.Prepared.{isFour}
+use Rattle.opener.specs.Prepared.{slotA, isFour}
+use Rattle.opener.proofs.NamesA.{same-answer}
 use Rattle.opener.proofs.Digits.{decimal-short}
 use Rattle.opener.proofs.Text.{total-length}
 use Rattle.opener.proofs.Shape.{four}
 use Rattle.opener.proofs.Lengths.{room-enough}
 
 -- no more capsules are opened than there are
-numbers-most : (s : Station) (cs : List (List ℕ)) → occurrences 0 (numbers s cs) ≤ length cs
+numbers-most : (s : Slot) (cs : List (List ℕ)) → occurrences 0 (numbers s cs) ≤ length cs
 unfolding numbers
 numbers-most s cs = omega (arith, occurrences-most 0 (numbers s cs), length-map cs (λ c. step s (ask (open-capsule c room)) .number))
 
@@ -37,7 +39,7 @@ total-short n a h l =
     omega (arith, total-length n a, decimal-short 4 n (omega arith), decimal-short 4 a (omega arith), decimal-short 4 (n - a) (omega arith))
 
 -- the line of the numbers n and a
-module _ (s : Station) (input : List ℕ) {n a : ℕ}
+module _ (s : Slot) (input : List ℕ) {n a : ℕ}
     (e : n ≡ length (capsulesOf (s .key) input)) (f : a ≡ occurrences 0 (numbers s (capsulesOf (s .key) input))) where
   pub opened-most : a ≤ n
   opened-most = omega (arith, numbers-most s (capsulesOf (s .key) input))
@@ -50,7 +52,7 @@ module _ (s : Station) (input : List ℕ) {n a : ℕ}
   opened-parts = ap (λ (l : List ℕ). lines s 1 (capsulesOf (s .key) input) ++ l) (ap₂ totalLine e f)
 
 -- no capsules: `total 0 opened 0 refused 0`
-pub opened-none : (s : Station) → opened s []
+pub opened-none : (s : Slot) → opened s []
     ≡ 116 ∷ 111 ∷ 116 ∷ 97 ∷ 108 ∷ 32 ∷ 48 ∷ 32 ∷ 111 ∷ 112 ∷ 101 ∷ 110 ∷ 101 ∷ 100 ∷ 32 ∷ 48
     ∷ 32 ∷ 114 ∷ 101 ∷ 102 ∷ 117 ∷ 115 ∷ 101 ∷ 100 ∷ 32 ∷ 48 ∷ 10 ∷ []
 unfolding opened lines numbers cut capsulesOf occurrences totalLine totalIs areOpened refuses newline decimal digits
@@ -81,7 +83,7 @@ module _ (k : Key) (input records : List ℕ) (wide : bytesFor (k .n) ≤ length
       ap (λ (f : List ℕ → ℕ). occurrences 0 (map f (capsulesOf k input))) (fun-ext (λ c. record-open k c e room wide))
       ∙ rw e (sym (ap (λ (b : Bool). unlessNumber (cond b 31 0) (occurrences 0 (recordsOf k input))) (le-ltb (length records) (length (capsulesOf k input)) long)))
 
-module _ (s : Station) (input records : List ℕ) where
+module _ (s : Slot) (input records : List ℕ) where
   -- the first of a report's counts
   count-first : (n : ℕ) → callNumber s (ask (report input records)) ≡ n
       → getD (step s (ask (report input records)) .answer) 0 0 ≡ unlessNumber n (occurrences 0 (recordsOf (s .key) input))
@@ -102,9 +104,10 @@ module _ (s : Station) (input records : List ℕ) where
       ∙ sym (count-first _ refl)
 
 -- the report of the call, with a record for each byte
-pub opened-counted : (s : Code.Station) (input : List ℕ) (n : ℕ) → isFour (view s .key) ≡ true → length input ≤ n
-    → getD (reportedOf (handed s (ask (report input (replicate n 0)))) .counts) 0 0 ≡ occurrences 0 (numbers (view s) (capsulesOf (view s .key) input))
-unfolding reportedOf handed
+pub opened-counted : (s : Station) (input : List ℕ) (n : ℕ) → isFour (slotA s .key) ≡ true → length input ≤ n
+    → getD (reportedOf (handed s (naming A (ask (report input (replicate n 0))))) .counts) 0 0 ≡ occurrences 0 (numbers (slotA s) (capsulesOf (slotA s .key) input))
+unfolding reportedOf
 opened-counted s input n f h =
-    sym (opened-report (view s) input (replicate n 0) (room-enough (view s .key) (four (view s .key) f) .2)
-    (omega (arith, capsules-few (view s .key) input, length-replicate {A = ℕ} n 0)))
+    ap (λ (l : List ℕ). getD l 0 0) (same-answer s (ask (report input (replicate n 0))))
+    ∙ sym (opened-report (slotA s) input (replicate n 0) (room-enough (slotA s .key) (four (slotA s .key) f) .2)
+    (omega (arith, capsules-few (slotA s .key) input, length-replicate {A = ℕ} n 0)))

@@ -7,7 +7,7 @@ use lib.Dec.{eqb, ltb}
 use lib.ListN.{length, getD, take, replicate}
 use Rattle.bits.specs.Bits.{unpack}
 use Rattle.records.specs.Records.{capsulesOf, occurrences}
-use Rattle.ledger.specs.Slot.{Station, fresh, Result}
+use Rattle.ledger.specs.Slot.{Slot, fresh, Result}
 use Rattle.ledger.specs.Loading.{key-file}
 use Rattle.ledger.specs.Publishing.{systematic}
 use Rattle.ledger.specs.Questions.{open-capsule}
@@ -71,26 +71,26 @@ unfoldable pub room : List ℕ
 room = replicate 64 0
 
 -- the line of the capsule at position p
-unfoldable pub line : Station → ℕ → List ℕ → List ℕ
+unfoldable pub line : Slot → ℕ → List ℕ → List ℕ
 line s p capsule =
     let r : Result = step s (ask (open-capsule capsule room)) in
     decimal p ++ (answer (r .number) (unpack (s .key .n) (r .output)) ++ newline)
 
 -- the lines of the capsules from position p on
-unfoldable pub lines : Station → ℕ → List (List ℕ) → List ℕ
+unfoldable pub lines : Slot → ℕ → List (List ℕ) → List ℕ
 lines s p [] = []
 lines s p (c ∷ cs) = line s p c ++ lines s (suc p) cs
 
 -- the numbers with which the capsules are answered in their lines
-unfoldable pub numbers : Station → List (List ℕ) → List ℕ
+unfoldable pub numbers : Slot → List (List ℕ) → List ℕ
 numbers s capsules = map (λ c. step s (ask (open-capsule c room)) .number) capsules
 
 -- of n capsules a are opened, the others refused
 unfoldable pub totalLine : ℕ → ℕ → List ℕ
 totalLine n a = (totalIs ++ decimal n) ++ ((areOpened ++ decimal a) ++ ((refuses ++ decimal (n - a)) ++ newline))
 
--- the lines of a published station, and how many of the capsules are opened
-unfoldable pub opened : Station → List ℕ → List ℕ
+-- the lines of a published slot, and how many of the capsules are opened
+unfoldable pub opened : Slot → List ℕ → List ℕ
 opened s input =
     let cs : List (List ℕ) = capsulesOf (s .key) input in
     lines s 1 cs ++ totalLine (length cs) (occurrences 0 (numbers s cs))

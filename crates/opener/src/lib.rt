@@ -1,4 +1,5 @@
-// The text that the program prints, from a key file and capsules (document 01, 'Bench keys', and request L1's last line).
+// The text that the program prints, from a key file and capsules (document 01, 'Bench keys', and request L1's last line). All calls
+// name A (request L6).
 // A function with a place `at` writes its part from there on, as far as the output reaches, and gives the place behind it.
 use station::Reply;
 use station::Station;
@@ -12,10 +13,9 @@ ghost use Rattle.code.specs.Publish.{capsuleBits};
 ghost use Rattle.records.specs.Records.{capsulesOf, occurrences};
 ghost use Rattle.ledger.specs.Publishing.{systematic};
 ghost use Rattle.ledger.specs.Calls.{publish};
-ghost use Rattle.station.specs.Replies.{view, handed};
 ghost use Rattle.opener.specs.Report.{keyRefused, newline, room, numbers};
 ghost use Rattle.opener.specs.Report as Report;
-ghost use Rattle.opener.specs.Prepared.{keyAnswer, preparedWhole, prepared, keyText, isFour, capsuleLines};
+ghost use Rattle.opener.specs.Prepared.{slotA, replyA, keyAnswer, preparedWhole, prepared, keyText, isFour, capsuleLines};
 ghost use Rattle.opener.specs.Wrote.{Wrote, Printed};
 
 // What became of the key: accepted by load and publish, refused by one of them with its number, or of width 12 or 13.
@@ -117,12 +117,12 @@ fn answer(refused: u8, pattern: &[u8], n: usize, out: &mut [u8], at: usize) -> u
 
 // The line of the capsule at position p.
 fn line(station: Station, p: usize, capsule: &[u8], out: &mut [u8], at: usize) -> usize
-    requires { ⌜ at + length (Report.line (view station) p (now capsule)) < 2 ^ 64 ⌝ }
-    ensures { λ r. ⌜ Wrote (Report.line (view station) p (now (capsule .entry))) (now (out .entry)) at r (now (out .exit)) ⌝ }
+    requires { ⌜ at + length (Report.line (slotA station) p (now capsule)) < 2 ^ 64 ⌝ }
+    ensures { λ r. ⌜ Wrote (Report.line (slotA station) p (now (capsule .entry))) (now (out .entry)) at r (now (out .exit)) ⌝ }
 {
-    let key = station.key;
+    let key = station.a.key;
     let mut pattern = [0u8; 64];
-    let reply = station.open(capsule, &mut pattern);
+    let reply = station.open(Station::A, capsule, &mut pattern);
     let next = decimal(p, out, at);
     let next = answer(reply.refused, &pattern, key.n as usize, out, next);
     put(b'\n', out, next)
@@ -139,8 +139,8 @@ fn line_at(
     at: usize,
 ) -> usize
     requires { ⌜ i ≤ length (now input) ⌝ }
-    requires { ⌜ at + length (Report.line (view station) p (take c (drop i (now input)))) < 2 ^ 64 ⌝ }
-    ensures { λ r. ⌜ Wrote (Report.line (view station) p (take c (drop i (now (input .entry))))) (now (out .entry)) at r (now (out .exit)) ⌝ }
+    requires { ⌜ at + length (Report.line (slotA station) p (take c (drop i (now input)))) < 2 ^ 64 ⌝ }
+    ensures { λ r. ⌜ Wrote (Report.line (slotA station) p (take c (drop i (now (input .entry))))) (now (out .entry)) at r (now (out .exit)) ⌝ }
 {
     let e = i + bits::smaller(c, input.len() - i);
     line(station, p, &input[i..e], out, at)
@@ -148,16 +148,16 @@ fn line_at(
 
 // The bytes of a capsule.
 fn capsule_bytes(station: Station) -> usize
-    ensures { λ r. ⌜ r ≡ bytesFor (capsuleBits (view station .key)) ⌝ }
+    ensures { λ r. ⌜ r ≡ bytesFor (capsuleBits (slotA station .key)) ⌝ }
 {
-    let key = station.key;
+    let key = station.a.key;
     reading::capsule_bytes(key.m, key.t)
 }
 
 // The lines of the capsules.
 fn lines(station: Station, input: &[u8], out: &mut [u8]) -> usize
-    requires { ⌜ (isFour (view station .key) ≡ true) × (length (now input) ≤ 65536) ⌝ }
-    ensures { λ r. ⌜ Wrote (Report.lines (view station) 1 (capsulesOf (view station .key) (now (input .entry)))) (now (out .entry)) 0 r (now (out .exit)) ⌝ }
+    requires { ⌜ (isFour (slotA station .key) ≡ true) × (length (now input) ≤ 65536) ⌝ }
+    ensures { λ r. ⌜ Wrote (Report.lines (slotA station) 1 (capsulesOf (slotA station .key) (now (input .entry)))) (now (out .entry)) 0 r (now (out .exit)) ⌝ }
 {
     let c = capsule_bytes(station);
     let mut at = 0;
@@ -173,19 +173,19 @@ fn lines(station: Station, input: &[u8], out: &mut [u8]) -> usize
 
 // The number of capsules: a short tail is one of them.
 fn capsule_count(station: Station, input: &[u8]) -> usize
-    requires { ⌜ (isFour (view station .key) ≡ true) × (length (now input) ≤ 65536) ⌝ }
-    ensures { λ r. ⌜ r ≡ length (capsulesOf (view station .key) (now (input .entry))) ⌝ }
+    requires { ⌜ (isFour (slotA station .key) ≡ true) × (length (now input) ≤ 65536) ⌝ }
+    ensures { λ r. ⌜ r ≡ length (capsulesOf (slotA station .key) (now (input .entry))) ⌝ }
 {
     reporting::capsule_count(input.len(), capsule_bytes(station))
 }
 
 // How many of the capsules are opened: the count of 0 among the records of a report.
 fn opened_count(station: Station, input: &[u8]) -> usize
-    requires { ⌜ (isFour (view station .key) ≡ true) × (length (now input) ≤ 65536) ⌝ }
-    ensures { λ r. ⌜ r ≡ occurrences 0 (numbers (view station) (capsulesOf (view station .key) (now (input .entry)))) ⌝ }
+    requires { ⌜ (isFour (slotA station .key) ≡ true) × (length (now input) ≤ 65536) ⌝ }
+    ensures { λ r. ⌜ r ≡ occurrences 0 (numbers (slotA station) (capsulesOf (slotA station .key) (now (input .entry)))) ⌝ }
 {
     let mut records = [0u8; 65536];
-    let reported = station.report(input, &mut records);
+    let reported = station.report(Station::A, input, &mut records);
     let counts = reported.counts;
     counts[0]
 }
@@ -203,8 +203,8 @@ fn total_line(total: usize, opened: usize, out: &mut [u8], at: usize) -> usize
 
 // The lines of the capsules, and the total.
 fn opened(station: Station, input: &[u8], out: &mut [u8]) -> usize
-    requires { ⌜ (isFour (view station .key) ≡ true) × (length (now input) ≤ 65536) ⌝ }
-    ensures text { λ r. ⌜ Wrote (Report.opened (view station) (now (input .entry))) (now (out .entry)) 0 r (now (out .exit)) ⌝ }
+    requires { ⌜ (isFour (slotA station .key) ≡ true) × (length (now input) ≤ 65536) ⌝ }
+    ensures text { λ r. ⌜ Wrote (Report.opened (slotA station) (now (input .entry))) (now (out .entry)) 0 r (now (out .exit)) ⌝ }
     ensures fits { λ r. ⌜ r ≤ 1114176 ⌝ }
 {
     let at = lines(station, input, out);
@@ -223,11 +223,11 @@ fn key_refused(number: u8, out: &mut [u8]) -> usize
 
 // Publish with room for T and its workspace.
 fn publish(station: Station) -> Reply
-    ensures { λ r. ⌜ r ≡ handed station (publish (systematic room room)) .reply ⌝ }
+    ensures { λ r. ⌜ r ≡ replyA station (publish (systematic room room)) ⌝ }
 {
     let mut public = [0u8; 64];
     let mut work = [0u8; 64];
-    station.publish(&mut public, &mut work)
+    station.publish(Station::A, &mut public, &mut work)
 }
 
 // The width is 12 or 13.
@@ -262,7 +262,7 @@ fn prepare_whole(file: &[u8]) -> Ready
             answer: KeyAnswer::TooLarge,
         };
     }
-    let loaded = station.load(file);
+    let loaded = station.load(Station::A, file);
     let station = loaded.station;
     let answer = key_answer(loaded.refused);
     let KeyAnswer::Accepted = answer else {
@@ -295,9 +295,9 @@ pub fn key_text(answer: KeyAnswer, out: &mut [u8]) -> usize
 
 // m is 4, and the key's shape is within its limits.
 fn is_four(station: Station) -> bool
-    ensures { λ r. ⌜ r ≡ isFour (view station .key) ⌝ }
+    ensures { λ r. ⌜ r ≡ isFour (slotA station .key) ⌝ }
 {
-    let key = station.key;
+    let key = station.a.key;
     if key.m != 4 {
         return false;
     }
@@ -306,7 +306,7 @@ fn is_four(station: Station) -> bool
 
 // The lines of the capsules in the first 65,536 bytes of the input, and the total; nothing under a key of another shape.
 pub fn open_lines(station: Station, input: &[u8], out: &mut [u8]) -> usize
-    ensures { λ r. ⌜ Printed (capsuleLines (view station) (now (input .entry))) (now (out .entry)) r (now (out .exit)) ⌝ }
+    ensures { λ r. ⌜ Printed (capsuleLines (slotA station) (now (input .entry))) (now (out .entry)) r (now (out .exit)) ⌝ }
 {
     if !is_four(station) {
         return 0;

@@ -60,7 +60,7 @@ fn publishes(s: Station, name: &[u8]) -> Reply {
     let n = read_file(name, &mut public);
     let mut out = [0u8; PUBLIC];
     let mut work = [0u8; WORK];
-    let r = s.publish(&mut out, &mut work);
+    let r = s.publish(Station::A, &mut out, &mut work);
     print(
         b"public key",
         r.refused == 0 && 0 < n && same(&out, &public, n),
@@ -80,7 +80,7 @@ fn locks(m: u8, n: u16, t: u16, name: &[u8], pattern: &[u8], capsule: &[u8]) {
 // Open gives the pattern with t ones.
 fn opens(s: Station, t: u16, capsule: &[u8], pattern: &[u8]) {
     let mut out = [0u8; 1024];
-    let r = s.open(capsule, &mut out);
+    let r = s.open(Station::A, capsule, &mut out);
     print(
         b"opened",
         r.refused == 0 && r.ones == t && same(&out, pattern, pattern.len()),
@@ -90,7 +90,7 @@ fn opens(s: Station, t: u16, capsule: &[u8], pattern: &[u8]) {
 // So does read, of the capsule filled up with zeros.
 fn reads(s: Station, t: u16, word: &[u8], pattern: &[u8]) {
     let mut out = [0u8; 1024];
-    let r = s.read(word, &mut out);
+    let r = s.read(Station::A, word, &mut out);
     print(
         b"read",
         r.refused == 0 && r.ones == t && same(&out, pattern, pattern.len()),
@@ -102,7 +102,7 @@ fn refuses(s: Station, name: &[u8]) {
     let mut capsule = [0u8; FILE];
     let n = read_file(name, &mut capsule);
     let mut out = [0u8; 1024];
-    let r = s.open(&capsule[..n], &mut out);
+    let r = s.open(Station::A, &capsule[..n], &mut out);
     print(b"refused with 13", r.refused == 13);
 }
 
@@ -114,7 +114,7 @@ fn derives(s: Station, what: &[u8], capsule: &[u8], secret: &[u8], session: &[u8
     let zn = read_file(secret, &mut z);
     let mut key = [0u8; FILE];
     let n = read_file(session, &mut key);
-    let r = s.session(&c[..cn], &z[..zn]);
+    let r = s.session(Station::A, &c[..cn], &z[..zn]);
     let own = r.key;
     print(what, r.refused == 0 && n == 32 && same(&own, &key, 32));
 }
@@ -133,7 +133,7 @@ fn shape(
     let mut file = [0u8; FILE];
     let k = read_file(key, &mut file);
     let fresh = Station::fresh();
-    let loaded = fresh.load(&file[..k]);
+    let loaded = fresh.load(Station::A, &file[..k]);
     print(b"key", loaded.refused == 0);
     let a = loaded.station;
     let r = publishes(a, public);

@@ -1,4 +1,5 @@
 // Runs data/words.txt through load, publish, read, open, session, report and lock, and counts agreements and differences.
+// The keys are loaded for A and B by turns.
 // A line is `key FILE`; `public T`, what publish writes and what is locked with, or `public -` for none; or a case of the key
 // before it: `publish ok`, `read WORD ok PATTERN ONES`, `open CAPSULE ok PATTERN` as if published, `lock PATTERN ok CAPSULE`,
 // or one of the four with `refused NUMBER` from `ok` on; or `session CAPSULE SECRET KEY` as if published, or with
@@ -66,12 +67,12 @@ fn outcome_of(a: Answer) -> Outcome {
     }
 }
 
-// The key of a line, loaded.
-fn key_of(line: &[u8]) -> Reply {
+// The key of a line, loaded for a recipient.
+fn key_of(name: u8, line: &[u8]) -> Reply {
     let b = bytes_of(line, 1);
     let file = b.bytes;
     let n = size(&file, b.count);
-    Station::fresh().load(&file[..n])
+    Station::fresh().load(name, &file[..n])
 }
 
 // Publish gives the number and the public key.
@@ -220,13 +221,22 @@ fn reported(s: State, line: &[u8]) -> State {
     counted(s, REPORT, reports(key, line))
 }
 
-// The state at a key's line.
-fn keyed(mut s: State, line: &[u8]) -> State {
-    let r = key_of(line);
-    let held = r.station;
-    let key = held.key;
+// The state with a key; `accepted` says whether load took it.
+fn with_key(mut s: State, key: Key, accepted: bool) -> State {
     s.key = key;
-    counted(s, KEY, r.refused == 0)
+    counted(s, KEY, accepted)
+}
+
+// The state at a key's line: the keys are loaded for A and B by turns.
+fn keyed(s: State, line: &[u8]) -> State {
+    if agreements(s.tally, KEY) % 2 == 0 {
+        let r = key_of(Station::A, line);
+        let held = r.station;
+        return with_key(s, held.a.key, r.refused == 0);
+    }
+    let r = key_of(Station::B, line);
+    let held = r.station;
+    with_key(s, held.b.key, r.refused == 0)
 }
 
 // The state after a line.
@@ -277,18 +287,19 @@ fn say(name: &[u8], holds: bool) {
 
 // Two facts of document 01, 'by running'.
 fn by_running() {
-    let k1 = key_of(b"key 040600010009000d000f000e000b0001000000");
+    let k1 = key_of(Station::A, b"key 040600010009000d000f000e000b0001000000");
     let k2 = key_of(
+        Station::B,
         b"key 04100000000100020003000400050006000700080009000a000b000c000d000e000f00020008000100",
     );
     let held = k1.station;
-    let key = held.key;
+    let key = held.a.key;
     say(
         b"K1 lock 00 gives 12",
         locks(key, bytes_of(b"public 03010200", 1), b"lock 00 refused 12"),
     );
     let held = k2.station;
-    let key = held.key;
+    let key = held.b.key;
     say(
         b"K2 read 03 00 gives 03 00, two ones",
         reads(key, b"read 0300 ok 0300 2"),

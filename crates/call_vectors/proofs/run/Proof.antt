@@ -13,12 +13,6 @@ Inv-loop text s₀ i₀ s i = i ≤ suc (length text)
 abbrev μ-loop : tie.MeasureT-loop
 μ-loop text s₀ i₀ s i = suc (length text) - i
 
-fresh-requires : tie.Need-fresh-requires Inv-loop μ-loop
-fresh-requires c κs = search needs
-
-none-requires : tie.Need-none-requires Inv-loop μ-loop
-none-requires c κs = search needs
-
 loop-holds : tie.Need-loop-holds Inv-loop μ-loop
 loop-holds c = search needs
 
@@ -61,8 +55,6 @@ run-spec =
     (tie.spec
     Inv-loop
     μ-loop
-    fresh-requires
-    none-requires
     loop-holds
     sub-rest
     part-rest-start

@@ -9,17 +9,22 @@ use Rattle.key_vectors.proofs.gives.Tie as tie
 returns : tie.Need-returns
 returns c = search needs
 
-slice-aggregate-load : tie.Need-slice-aggregate-load
-slice-aggregate-load c = sym (length-take-le _ _ (omega arith))
+slice-aggregate-part : tie.Need-slice-aggregate-part
+slice-aggregate-part c = sym (length-take-le _ _ (omega arith))
 
-fresh-requires : tie.Need-fresh-requires
-fresh-requires c κs = tt
+number-requires : tie.Need-number-requires
+number-requires c κs = search needs
 
-load-requires : tie.Need-load-requires
-load-requires c κs = search needs
+number-requires-2 : tie.Need-number-requires-2
+number-requires-2 c κs = search needs
 
 returns-2 : tie.Need-returns-2
 returns-2 c = search needs
 
+returns-3 : tie.Need-returns-3
+returns-3 c = search needs
+
 pub gives-spec : {M : Type 1} → statement M
-gives-spec = tie.close (tie.spec returns fresh-requires slice-aggregate-load load-requires returns-2)
+gives-spec =
+    tie.close
+    (tie.spec returns slice-aggregate-part number-requires number-requires-2 returns-2 returns-3)

@@ -1,7 +1,7 @@
 -- The bytes of m·t bits. Assumes nothing.
 use Rattle.key.specs.Kept.{kept}
 use Rattle.code.specs.Publish.{capsuleBits}
-use Rattle.station.specs.Replies.{view}
+use Rattle.slot.specs.Replies.{view}
 use Rattle.opener.proofs.capsule_bytes.Statement.{statement}
 use Rattle.opener.proofs.capsule_bytes.Tie as tie
 

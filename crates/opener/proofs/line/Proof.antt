@@ -5,6 +5,7 @@ use native.Mathlib.Omega.{arith}
 use borrow.Author.Needs.{needs}
 use lib.ListN.{length, length-append}
 use Rattle.bits.specs.Bits.{unpack}
+use Rattle.recipients.specs.Names.{byteOf}
 use Rattle.opener.specs.Report.{room, newline, decimal, answer}
 use Rattle.opener.proofs.Written.{joined, same-text}
 use Rattle.opener.proofs.Capsules.{line-parts}
@@ -18,7 +19,7 @@ open-requires : tie.Need-open-requires
 open-requires c κs = search needs
 
 decimal-requires : tie.Need-decimal-requires
-unfolding room newline
+unfolding room newline byteOf
 decimal-requires c κs =
     let s = c .before .before .before .before .before .before .before in
     let a = s .args in
@@ -33,7 +34,7 @@ cast-answer : tie.Need-cast-answer
 cast-answer c = search needs
 
 answer-requires : tie.Need-answer-requires
-unfolding room newline
+unfolding room newline byteOf
 answer-requires c κs =
     let s = c .before .before .before .before .before .before .before .before .before .before .before .before .before in
     let a = s .args in
@@ -42,7 +43,7 @@ answer-requires c κs =
     omega (arith, s .pre, c .before .before .before .before .before .decimal .ensures .place, simp length-append at (ap length e))
 
 put-requires : tie.Need-put-requires
-unfolding room newline
+unfolding room newline byteOf
 put-requires c κs =
     let w = c .before .before .before in
     let s = w .before .before .before .before .before .before .before .before .before .before .before .before .before .before in
@@ -55,14 +56,14 @@ same-length : tie.Need-same-length
 same-length c = search needs
 
 returns : tie.Need-returns
-unfolding room newline
+unfolding room newline byteOf
 returns c =
     let w = c .before .before .before .before .before .before in
     let s = w .before .before .before .before .before .before .before .before .before .before .before .before .before .before in
     let a = s .args in
     let o = w .before .before .before .before .before .before .before .before .before in
     let e = line-parts (a .station) (a .p) (a .capsule .now) (o .«open» .ensures .0) (o .«open» .ensures .1) in
-    let t = answer (o .«open» .result .refused) (unpack (a .station .key .n) (o .«open» .last .1 .1 .0)) in
+    let t = answer (o .«open» .result .refused) (unpack (a .station .a .key .n) (o .«open» .last .1 .1 .1 .0)) in
     same-text (sym e)
     (joined (decimal (a .p)) (t ++ newline) (w .before .before .before .before .before .before .decimal .ensures)
     (joined t newline (w .answer .ensures) (c .before .before .put .ensures)))

@@ -4,8 +4,8 @@ use Prim.Native.Nat.{_+_, _-_}
 use borrow.Author.Needs.{needs}
 use lib.ListN.{take, drop}
 use Rattle.records.proofs.Cut.{take-within}
-use Rattle.station.specs.Replies.{view}
 use Rattle.opener.specs.Report.{line}
+use Rattle.opener.specs.Prepared.{slotA}
 use Rattle.opener.proofs.Written.{same-text}
 use Rattle.opener.proofs.line_at.Statement.{statement}
 use Rattle.opener.proofs.line_at.Tie as tie
@@ -43,7 +43,7 @@ returns : tie.Need-returns
 returns c =
     let a = c .before .before .before .before .before .before .before .before .args in
     let e = take-within (a .c) (a .i) (a .input .now) (c .before .before .before .before .before .smaller .ensures) in
-    same-text (ap (line (view (a .station)) (a .p)) e) (c .before .before .line .ensures)
+    same-text (ap (line (slotA (a .station)) (a .p)) e) (c .before .before .line .ensures)
 
 pub line-at-spec : {M : Type 1} → statement M
 line-at-spec =

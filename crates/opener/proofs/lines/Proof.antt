@@ -5,8 +5,8 @@ use native.Mathlib.Omega.{arith}
 use lib.ListN.{length, take, drop}
 use Rattle.records.specs.Records.{capsulesOf}
 use Rattle.records.proofs.Values.{bytes-some}
-use Rattle.station.specs.Replies.{view}
 use Rattle.opener.specs.Report.{line, lines}
+use Rattle.opener.specs.Prepared.{slotA}
 use Rattle.opener.proofs.Written.{Left, left-start, left-step, left-none}
 use Rattle.opener.proofs.Shape.{four}
 use Rattle.opener.proofs.Capsules.{linesLeft, lines-all, lines-next, lines-done, line-room, capsule-few, capsule-bits}
@@ -16,7 +16,7 @@ use Rattle.opener.proofs.lines.Tie as tie
 
 abbrev Inv-loop : tie.InvT-loop
 Inv-loop station input out₀ c at₀ i₀ p₀ out at i p =
-    (length out ≡ length out₀) × (p ≤ i + 1) × Left (linesLeft (view station) c p input i) out at (lines (view station) 1 (capsulesOf (view station .key) input)) out₀ 0
+    (length out ≡ length out₀) × (p ≤ i + 1) × Left (linesLeft (slotA station) c p input i) out at (lines (slotA station) 1 (capsulesOf (slotA station .key) input)) out₀ 0
 
 abbrev μ-loop : tie.MeasureT-loop
 μ-loop station input out₀ c at₀ i₀ p₀ out at i p = length input - i
@@ -27,7 +27,7 @@ capsule-bytes-requires c κs = tt
 loop-holds : tie.Need-loop-holds Inv-loop μ-loop
 loop-holds c =
     let a = c .before .before .before .args in
-    (refl, omega arith, left-start (a .out .now) 0 (lines-all (view (a .station)) (a .input .now) (c .capsule-bytes .ensures)))
+    (refl, omega arith, left-start (a .out .now) 0 (lines-all (slotA (a .station)) (a .input .now) (c .capsule-bytes .ensures)))
 
 line-at-requires : tie.Need-line-at-requires Inv-loop μ-loop
 line-at-requires c κs =
@@ -36,8 +36,8 @@ line-at-requires c κs =
     let l = c .before .before .loop in
     let n = c .before .before .before .capsule-bytes in
     let h = bytes-some (n .ensures) (capsule-bits (four _ (s .pre .0)) .0) in
-    let r = line-room (view (a .station)) (n .result) (l .p) (a .input .now) (l .i) h (omega arith) in
-    let b = lines-short (view (a .station)) (four _ (s .pre .0)) (a .input .now) (s .pre .1) in
+    let r = line-room (slotA (a .station)) (n .result) (l .p) (a .input .now) (l .i) h (omega arith) in
+    let b = lines-short (slotA (a .station)) (four _ (s .pre .0)) (a .input .now) (s .pre .1) in
     (omega arith, omega (arith, l .inv .2 .place, r, b))
 
 add-i : tie.Need-add-i Inv-loop μ-loop
@@ -66,9 +66,9 @@ loop-again c =
       p .kept .1 .1 .1 .1 .1 .0 ∙ l .inv .0,
       omega (arith, h, l .inv .1),
       left-step
-          (line (view (a .station)) (l .p) (take (n .result) (drop (l .i) (a .input .now))))
-          (linesLeft (view (a .station)) (n .result) (l .p + 1) (a .input .now) (l .i + n .result))
-          (lines-next (view (a .station)) (n .result) (l .p) (a .input .now) (l .i) h (omega arith))
+          (line (slotA (a .station)) (l .p) (take (n .result) (drop (l .i) (a .input .now))))
+          (linesLeft (slotA (a .station)) (n .result) (l .p + 1) (a .input .now) (l .i + n .result))
+          (lines-next (slotA (a .station)) (n .result) (l .p) (a .input .now) (l .i) h (omega arith))
           (l .inv .2) (p .ensures),
     )
 
@@ -80,7 +80,7 @@ returns c =
     let a = c .before .before .before .before .before .args in
     let l = c .before .loop in
     left-none
-    (lines-done (view (a .station)) (c .before .before .capsule-bytes .result) (l .p) (a .input .now) (l .i) (c .loop-test .left))
+    (lines-done (slotA (a .station)) (c .before .before .capsule-bytes .result) (l .p) (a .input .now) (l .i) (c .loop-test .left))
     (l .inv .2)
 
 pub lines-spec : {M : Type 1} → statement M

@@ -5,8 +5,8 @@ use native.Mathlib.Omega.{arith}
 use borrow.Author.Needs.{needs}
 use borrow.Author.Tests.{not-true, not-false}
 use lib.ListN.{length}
-use Rattle.station.specs.Replies.{view}
 use Rattle.opener.specs.Report.{opened}
+use Rattle.opener.specs.Prepared.{slotA}
 use Rattle.opener.proofs.Written.{printed, printed-nothing, same-printed}
 use Rattle.opener.proofs.Capsules.{taken, taken-length}
 use Rattle.opener.proofs.Stages.{lines-none, lines-four}
@@ -19,7 +19,7 @@ is-four-requires c κs = search needs
 returns : tie.Need-returns
 returns c =
     let a = c .before .before .before .before .args in
-    same-printed (sym (lines-none (view (a .station)) (a .input .now) (sym (c .before .is-four .ensures) ∙ not-true _ (c .if1 .taken)))) (printed-nothing (a .out .now))
+    same-printed (sym (lines-none (slotA (a .station)) (a .input .now) (sym (c .before .is-four .ensures) ∙ not-true _ (c .if1 .taken)))) (printed-nothing (a .out .now))
 
 smaller-requires : tie.Need-smaller-requires
 smaller-requires c κs = search needs
@@ -45,8 +45,8 @@ returns-2 c =
     let f = c .before .before .before .before .before .before in
     let a = f .before .before .before .before .args in
     let e =
-    lines-four (view (a .station)) (a .input .now) (sym (f .before .is-four .ensures) ∙ not-false _ (f .if1 .left))
-    ∙ ap (opened (view (a .station))) (sym (taken 65536 (a .input .now) (n .ensures))) in
+    lines-four (slotA (a .station)) (a .input .now) (sym (f .before .is-four .ensures) ∙ not-false _ (f .if1 .left))
+    ∙ ap (opened (slotA (a .station))) (sym (taken 65536 (a .input .now) (n .ensures))) in
     same-printed (sym e) (printed (l .0) (l .1))
 
 pub open-lines-spec : {M : Type 1} → statement M

@@ -2,8 +2,8 @@
 use native.Mathlib.Omega.{arith}
 use borrow.Author.Needs.{needs}
 use Rattle.records.specs.Records.{capsulesOf}
-use Rattle.station.specs.Replies.{view}
 use Rattle.opener.specs.Report.{lines, totalLine}
+use Rattle.opener.specs.Prepared.{slotA}
 use Rattle.opener.proofs.Written.{joined, same-text}
 use Rattle.opener.proofs.Shape.{four}
 use Rattle.opener.proofs.Lengths.{lines-short}
@@ -26,7 +26,7 @@ total-line-requires c κs =
     let n = c .before .before .capsule-count .ensures in
     let l = c .before .before .before .before .before in
     let s = l .before .before .before .before in
-    let v = view (s .args .station) in
+    let v = slotA (s .args .station) in
     let i = s .args .input .now in
     (opened-most v i n o, omega (arith, l .lines .ensures .place, lines-short v (four _ (s .pre .0)) i (s .pre .1), total-few v i n o (s .pre .1)))
 
@@ -40,7 +40,7 @@ returns c =
     let n = c .before .before .before .before .before .capsule-count .ensures in
     let l = c .before .before .before .before .before .before .before .before in
     let s = l .before .before .before .before in
-    let v = view (s .args .station) in
+    let v = slotA (s .args .station) in
     let i = s .args .input .now in (
       same-text (opened-parts v i n o) (joined (lines v 1 (capsulesOf (v .key) i)) (totalLine _ _) (l .lines .ensures) t),
       omega (arith, t .place, l .lines .ensures .place, lines-short v (four _ (s .pre .0)) i (s .pre .1), total-few v i n o (s .pre .1)),

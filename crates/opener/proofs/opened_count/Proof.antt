@@ -2,6 +2,7 @@
 use mathlib.Core.Path.{ap, _∙_}
 use borrow.Author.Needs.{needs}
 use lib.ListN.{getD}
+use Rattle.recipients.specs.Names.{byteOf}
 use Rattle.station.specs.declared.Reported.{Reported}
 use Rattle.opener.proofs.Total.{opened-counted}
 use Rattle.opener.proofs.opened_count.Statement.{statement}
@@ -17,6 +18,7 @@ array-read-result : tie.Need-array-read-result
 array-read-result c = search needs
 
 returns : tie.Need-returns
+unfolding byteOf
 returns c =
     let s = c .before .before .before .before .before in
     ap (λ (r : Reported). getD (r .counts) 0 0) (c .before .before .report .ensures .0)

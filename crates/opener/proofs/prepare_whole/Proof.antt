@@ -3,11 +3,11 @@ use mathlib.Core.Path.{_≡_, sym, ap, _∙_}
 use borrow.Author.Needs.{needs}
 use Rattle.ledger.specs.Publishing.{systematic}
 use Rattle.ledger.specs.Calls.{publish}
-use Rattle.station.specs.Replies.{handed}
+use Rattle.recipients.specs.Names.{byteOf}
 use Rattle.station.specs.declared.Station.{Station}
 use Rattle.station.specs.declared.Reply.{Reply}
 use Rattle.opener.specs.Report.{room}
-use Rattle.opener.specs.Prepared.{keyAnswer, readyOf}
+use Rattle.opener.specs.Prepared.{replyA, keyAnswer, readyOf}
 use Rattle.opener.specs.declared.KeyAnswer.{KeyAnswer}
 use Rattle.opener.specs.declared.KeyAnswer.the-variants.{TooLarge}
 use Rattle.opener.proofs.Stages.{zero-accepted, number-accepted, not-accepted, loaded, prepared-large, prepared-refused, prepared-published}
@@ -37,7 +37,7 @@ enum-told : tie.Need-enum-told
 enum-told c = search needs
 
 returns-2 : tie.Need-returns-2
-unfolding readyOf
+unfolding readyOf byteOf
 returns-2 c =
     let l = c .before .before .before in
     let f = l .before .before .before in
@@ -56,7 +56,7 @@ key-answer-requires-2 : tie.Need-key-answer-requires-2
 key-answer-requires-2 c κs = search needs
 
 returns-3 : tie.Need-returns-3
-unfolding readyOf
+unfolding readyOf byteOf
 returns-3 c =
     let p = c .before .before in
     let k = p .before .before .before in
@@ -66,7 +66,7 @@ returns-3 c =
     let e = loaded (a .file .now) (f .fresh .ensures) (l .load .ensures) in
     let n = number-accepted (l .load .result .refused) (k .key-answer .ensures) (p .before .enum-told .given .1) in
     ap (λ (x : KeyAnswer). record { station = p .publish .result .station; answer = x }) (c .key-answer2 .ensures)
-    ∙ ap readyOf (p .publish .ensures ∙ ap (λ (r : Reply). handed (r .station) (publish (systematic room room)) .reply) e)
+    ∙ ap readyOf (p .publish .ensures ∙ ap (λ (r : Reply). replyA (r .station) (publish (systematic room room))) e)
     ∙ sym (prepared-published (a .file .now) (sym (l .before .before .large .ensures) ∙ l .before .if1 .left) (sym (ap (λ (r : Reply). r .refused) e) ∙ n))
 
 pub prepare-whole-spec : {M : Type 1} → statement M

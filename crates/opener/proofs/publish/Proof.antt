@@ -1,5 +1,6 @@
 -- The station's call, with room for both buffers. Assumes nothing.
 use mathlib.Core.Path.{refl}
+use Rattle.recipients.specs.Names.{byteOf}
 use Rattle.opener.specs.Report.{room}
 use Rattle.opener.proofs.publish.Statement.{statement}
 use Rattle.opener.proofs.publish.Tie as tie
@@ -14,7 +15,7 @@ publish-requires : tie.Need-publish-requires
 publish-requires c κs = tt
 
 returns : tie.Need-returns
-unfolding room
+unfolding room byteOf
 returns c = c .before .before .publish .ensures .0
 
 pub publish-spec : {M : Type 1} → statement M

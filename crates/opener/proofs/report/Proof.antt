@@ -1,8 +1,7 @@
 -- The text of the key, or the lines. Assumes nothing.
 use mathlib.Core.Path.{sym, ap, _∙_}
 use borrow.Author.Needs.{needs}
-use Rattle.station.specs.Replies.{view}
-use Rattle.opener.specs.Prepared.{keyText, capsuleLines}
+use Rattle.opener.specs.Prepared.{slotA, keyText, capsuleLines}
 use Rattle.opener.specs.declared.KeyAnswer.{KeyAnswer}
 use Rattle.opener.specs.declared.Ready.{Ready}
 use Rattle.opener.proofs.Written.{same-printed}
@@ -31,8 +30,8 @@ returns c =
     let r = p .result in
     let e =
     report-parts (a .file .now) (a .input .now)
-    ∙ ap (λ (y : Ready). keyText (y .answer) (capsuleLines (view (y .station)) (a .input .now))) (sym (p .ensures))
-    ∙ text-other (r .answer) (capsuleLines (view (r .station)) (a .input .now)) (not-accepted (r .answer) (m .match .keys2)) in
+    ∙ ap (λ (y : Ready). keyText (y .answer) (capsuleLines (slotA (y .station)) (a .input .now))) (sym (p .ensures))
+    ∙ text-other (r .answer) (capsuleLines (slotA (r .station)) (a .input .now)) (not-accepted (r .answer) (m .match .keys2)) in
     same-printed (sym e) (k .key-text .ensures)
 
 open-lines-requires : tie.Need-open-lines-requires
@@ -51,8 +50,8 @@ returns-2 c =
     let r = p .result in
     let e =
     report-parts (a .file .now) (a .input .now)
-    ∙ ap (λ (y : Ready). keyText (y .answer) (capsuleLines (view (y .station)) (a .input .now))) (sym (p .ensures))
-    ∙ ap (λ (x : KeyAnswer). keyText x (capsuleLines (view (r .station)) (a .input .now))) (m .enum-told .given .1) in
+    ∙ ap (λ (y : Ready). keyText (y .answer) (capsuleLines (slotA (y .station)) (a .input .now))) (sym (p .ensures))
+    ∙ ap (λ (x : KeyAnswer). keyText x (capsuleLines (slotA (r .station)) (a .input .now))) (m .enum-told .given .1) in
     same-printed (sym e) (k .open-lines .ensures)
 
 pub report-spec : {M : Type 1} → statement M
