@@ -33,7 +33,7 @@ pub const STACK_REPORT: usize = 278 * 1024;
 /// The same for `shearcotter_session`.
 pub const STACK_SESSION: usize = 308 * 1024;
 /// The same for `shearcotter_drop`.
-pub const STACK_DROP: usize = 163 * 1024;
+pub const STACK_DROP: usize = 147 * 1024;
 /// Bytes of stack that `shearcotter_shake256` takes.
 pub const STACK_SHAKE: usize = 2 * 1024;
 

@@ -215,13 +215,5 @@ pub extern "C" fn shearcotter_session(
 pub extern "C" fn shearcotter_drop(own: Station, name: u8) -> Reply
     ensures { λ r. ⌜ r ≡ replyOf (handed own (named name drop-key)) ⌝ }
 {
-    let dropped = own.drop(name);
-    if dropped.refused != 0 {
-        return Reply {
-            station: own,
-            refused: dropped.refused,
-            ones: 0,
-        };
-    }
-    dropped
+    own.drop(name)
 }

@@ -128,8 +128,9 @@ that opens it is said:
     POSITION open B PLACES...
 
 In json the name is the member `recipient`, and raw has none. A capsule that
-both refuse is refused 13. The summary says how many each opened. Both keys have
-capsules of the same number of bits, m*t, and with raw the same n too.
+A refuses 13 and B does not open is refused 13. The summary says how many each
+opened. Both keys have capsules of the same number of bytes, and with raw the
+same n too.
 ",
         run: opening::open,
     },
@@ -207,7 +208,7 @@ are opened stand by their names, and the record is 0 for both:
     0  opened under A  2
     0  opened under B  1
 
-Both keys have capsules of the same number of bits, m*t.
+Both keys have capsules of the same number of bytes.
 ",
         run: reporting::report,
     },

@@ -11,8 +11,7 @@ use crate::explain::{self, Row};
 use crate::failure::Failure;
 use crate::{keys, names};
 
-/// A station that has published A's key, and B's where there is one. Capsules of both have the same number of bits, so that 8
-/// and 9 are the same under both.
+/// A station that has published A's key, and B's where there is one. Capsules of both have the same number of bytes.
 pub struct Recipients {
     station: Station,
     shape: Shape,
@@ -40,10 +39,10 @@ impl Recipients {
             return Ok(Recipients::one(station, shape));
         };
         let (second, _) = keys::publish_for(station.recipient_mut(Name::B), other)?;
-        let [bits, others] = [shape, second].map(|shape| Row::Capsule.bits(shape));
-        if bits != others {
+        let [bytes, others] = [shape, second].map(Shape::capsule_length);
+        if bytes != others {
             let [key, other] = [key, other].map(names::input);
-            return Err(Failure::usage(format!("{key} has capsules of {bits} bits, and {other} of {others}")));
+            return Err(Failure::usage(format!("{key} has capsules of length {bytes}, and {other} of {others}")));
         }
         Ok(Recipients { station, shape, second: Some(Second { shape: second, opened: AtomicUsize::new(0) }) })
     }
@@ -64,7 +63,7 @@ impl Recipients {
         }
     }
 
-    /// Under A, and where that has no pattern for it under B; with two keys the name too.
+    /// Under A, and where that has no pattern for it under B; with two keys the name too. What B does not open is refused as A has it.
     pub fn open(&self, capsule: &[u8]) -> Result<(Option<Name>, Pattern), Refusal> {
         let first = self.station.open(Name::A, capsule);
         let Some(second) = &self.second else {
@@ -73,12 +72,12 @@ impl Recipients {
         if first != Err(Refusal::NoPattern) {
             return first.map(|pattern| (Some(Name::A), pattern));
         }
-        let pattern = self.station.open(Name::B, capsule)?;
+        let pattern = self.station.open(Name::B, capsule).map_err(|_| Refusal::NoPattern)?;
         second.opened.fetch_add(1, Ordering::Relaxed);
         Ok((Some(Name::B), pattern))
     }
 
-    /// A record for each capsule: A's, and B's where that is 13.
+    /// A record for each capsule: A's, and where that is 13 and B opens it, B's.
     pub fn report(&self, capsules: &[u8]) -> Result<Vec<u8>, Refusal> {
         let mut records = self.station.report(Name::A, capsules).map(Report::into_records)?;
         let Some(second) = &self.second else {
@@ -89,8 +88,8 @@ impl Recipients {
         let tried: Vec<u8> = parts.filter(|(_, record)| left(record)).flat_map(|(part, _)| part).copied().collect();
         let report = self.station.report(Name::B, &tried)?;
         second.opened.fetch_add(report.counts().opened(), Ordering::Relaxed);
-        let places = records.iter_mut().filter(|record| left(record));
-        places.zip(report.records()).for_each(|(record, other)| *record = *other);
+        let places = records.iter_mut().filter(|record| left(record)).zip(report.records());
+        places.filter(|(_, other)| **other == 0).for_each(|(record, _)| *record = 0);
         Ok(records)
     }
 
