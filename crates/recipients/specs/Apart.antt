@@ -4,8 +4,6 @@ use Prim.Native.Nat.{ℕ}
 use mathlib.Core.Path.{_≡_}
 use mathlib.Core.Bool.{not}
 use mathlib.Core.List.{List, [], _∷_, map}
-use mathlib.Core.Option.{Option}
-use Rattle.key.specs.Keys.{Key}
 use Rattle.ledger.specs.Slot.{Outcome}
 use Rattle.ledger.specs.Calls.{Call, run}
 use Rattle.ledger.specs.Ledger.{Ledger, ledgerAfter}

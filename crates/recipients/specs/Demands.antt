@@ -3,16 +3,15 @@
 use Prim.Native.Nat.{ℕ, suc}
 use mathlib.Core.Path.{_≡_}
 use mathlib.Core.Logic.{_↔_, _⊎_}
-use mathlib.Core.Bool.{true, false}
+use mathlib.Core.Bool.{true}
 use mathlib.Core.List.{List}
 use mathlib.Core.Option.{none, some}
 use Rattle.field.specs.Numbers.{First, Clear}
 use Rattle.key.specs.Keys.{Key, reducible}
 use Rattle.code.specs.Publish.{workBytes}
 use Rattle.ledger.specs.Slot.{loaded, published, heldBy}
-use Rattle.ledger.specs.Calls.{Call, load, outputOf, noAnswer, run, answered}
+use Rattle.ledger.specs.Calls.{load, outputOf, noAnswer, run, answered}
 use Rattle.ledger.specs.Ledger.{blank, ledgerAfter}
-use Rattle.ledger.specs.Systems.{System}
 use Rattle.ledger.specs.Demands.{keyHeld, at, After, Demand2}
 use Rattle.ledger.specs.OwnWords.{Loaded, SomePublish, LocksAndOpens, ReadsCodeWords}
 use Rattle.ledger.specs.Reports.{ImportReport}

@@ -5,7 +5,7 @@ use mathlib.Core.List.{List, [], _∷_}
 use mathlib.Core.Option.{none, some}
 use Rattle.field.specs.Numbers.{firstOf}
 use Rattle.ledger.specs.Ledger.{Ledger, blank, heldIn, ledgerNumber, fed}
-use Rattle.recipients.specs.Names.{Name, nameOf, NamedCall}
+use Rattle.recipients.specs.Names.{nameOf, NamedCall}
 use Rattle.recipients.specs.Recipients.{namedConditions, Both, of, put}
 
 abbrev pub Ledgers : Type 0

@@ -1,7 +1,6 @@
 -- Replies that hold the caller's own station, or its keys. Assumes nothing.
 use Prim.Native.Nat.{ℕ, zero, suc}
 use mathlib.Core.Path.{_≡_, refl, sym, ap, _∙_}
-use Rattle.ledger.specs.Slot.{Outcome}
 use Rattle.ledger.specs.Publishing.{Publishing}
 use Rattle.ledger.specs.Questions.{Question}
 use Rattle.ledger.specs.Calls.{publish, ask}

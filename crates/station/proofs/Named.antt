@@ -23,7 +23,6 @@ use Rattle.recipients.specs.Recipients.{unknown, within, called}
 use Rattle.station.specs.Replies.{slotOf, put, handed, replyOf, reportedOf, derivedOf}
 use Rattle.station.specs.Chosen.{known, pick, chosen, refusal, placed, marked}
 use Rattle.station.specs.declared.Station.{Station}
-use Rattle.station.specs.declared.Reply.{Reply}
 
 -- the slot that is there, put back
 pub put-same : (x : Name) (s : Station) → put x (slotOf x s) s ≡ s

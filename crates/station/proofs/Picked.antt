@@ -1,6 +1,6 @@
 -- The parts that a byte picks: those of the slot of its name. Assumes nothing.
 use Prim.Native.Nat.{ℕ}
-use mathlib.Core.Path.{_≡_, refl, sym, ap}
+use mathlib.Core.Path.{_≡_, refl, ap}
 use mathlib.Core.Bool.{Bool, true, false, cond}
 use mathlib.Core.List.{List}
 use lib.Dec.{eqb}
@@ -13,7 +13,6 @@ use Rattle.recipients.specs.Names.{A, B}
 use Rattle.station.specs.Replies.{slotOf, put}
 use Rattle.station.specs.Chosen.{known, pick, chosen, placed, marked}
 use Rattle.station.specs.declared.Station.{Station}
-use Rattle.station.specs.declared.Reply.{Reply}
 
 -- the byte is 1, or not
 module _ (b : ℕ) where

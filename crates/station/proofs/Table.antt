@@ -5,7 +5,7 @@ use Rattle.ledger.proofs.Table.{answers}
 use Rattle.slot.proofs.StepView.{code-simulates}
 use Rattle.recipients.specs.Names.{NamedCall}
 use Rattle.recipients.specs.Recipients.{definitions}
-use Rattle.recipients.specs.Apart.{Answer, transcript}
+use Rattle.recipients.specs.Apart.{transcript}
 use Rattle.recipients.proofs.SameAnswers.{same-answers, rows-answers}
 use Rattle.recipients.proofs.Table.{story, calls}
 use Rattle.recipients.proofs.Table as Definitions

@@ -1,5 +1,5 @@
 -- The state, then the lower call. Assumes nothing.
-use mathlib.Core.Path.{refl, sym, ap, _∙_}
+use mathlib.Core.Path.{refl, sym, _∙_}
 use borrow.Author.Needs.{needs}
 use Rattle.reporting.specs.Answers.{reportAnswer}
 use Rattle.slot.specs.Parts.{slotIn}

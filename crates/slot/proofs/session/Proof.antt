@@ -1,5 +1,5 @@
 -- The state, then the lower call. Assumes nothing.
-use mathlib.Core.Path.{refl, sym, ap, _∙_}
+use mathlib.Core.Path.{refl, sym, _∙_}
 use Rattle.session_key.specs.Answers.{sessionAnswer}
 use Rattle.slot.specs.Parts.{slotIn}
 use Rattle.ledger.specs.Questions.{answerSize}

@@ -6,7 +6,6 @@ use Rattle.ledger.specs.Publishing.{systematic, publicBuffer}
 use Rattle.ledger.specs.Calls.{publish, outputOf}
 use Rattle.slot.specs.Replies.{Handed, handed}
 use Rattle.slot.specs.declared.Slot.{Slot}
-use Rattle.station.specs.Chosen.{refusal}
 use Rattle.station.proofs.Picked.{slot-parts}
 use Rattle.station.proofs.Named.{reply-unknown, output-unknown, reply-refused, publish-marked, output-known, free-known, same-rest}
 use Rattle.station.proofs.Station.publish.Statement.{statement}
