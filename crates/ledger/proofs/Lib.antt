@@ -1,4 +1,5 @@
 pub mod Table
+pub mod TableOf
 pub mod Forms
 pub mod Numbers
 pub mod StepLaws

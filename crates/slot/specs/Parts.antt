@@ -7,6 +7,7 @@ use Rattle.session_key.specs.declared.SessionKey.{SessionKey}
 use Rattle.slot.specs.Replies.{Handed}
 use Rattle.slot.specs.declared.Slot.{Slot}
 use Rattle.slot.specs.declared.Loaded.{Loaded}
+use Rattle.slot.specs.declared.Published.{Published}
 use Rattle.slot.specs.declared.Answered.{Answered}
 
 -- the slot of these parts
@@ -21,9 +22,13 @@ keyless state = record { state = state; key = noKey }
 abbrev pub refusedBy : ℕ → Answered
 refusedBy n = record { refused = n; ones = 0 }
 
--- of what a call hands back: the slot after a load; the number of ones; the counts of a report; the key of a session
+-- of what a call hands back: the slot after a load or a drop; the state after a publish; the number of ones; the counts of a report; the
+-- key of a session
 unfoldable pub loadedOf : Handed → Loaded
 loadedOf h = record { slot = h .reply .slot; refused = h .reply .refused }
+
+unfoldable pub publishedOf : Handed → Published
+publishedOf h = record { state = h .reply .slot .state; refused = h .reply .refused }
 
 unfoldable pub answeredOf : Handed → Answered
 answeredOf h = record { refused = h .reply .refused; ones = h .reply .ones }

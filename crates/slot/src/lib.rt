@@ -15,7 +15,7 @@ ghost use Rattle.ledger.specs.Publishing.{systematic};
 ghost use Rattle.ledger.specs.Questions.{open-capsule, read-word, report, session-key};
 ghost use Rattle.ledger.specs.Calls.{load, publish, ask, drop-key};
 ghost use Rattle.slot.specs.Replies.{stateOf, answerNumber, freshSlot, handed};
-ghost use Rattle.slot.specs.Parts.{slotIn, keyless, refusedBy, loadedOf, answeredOf, countedOf, derivedOf};
+ghost use Rattle.slot.specs.Parts.{slotIn, keyless, refusedBy, loadedOf, publishedOf, answeredOf, countedOf, derivedOf};
 
 // The state and the key, the key of zeros where it is empty. State 0 is no key, 1 a key, any other a published key.
 #[repr(C)]
@@ -24,9 +24,15 @@ pub struct Slot {
     pub key: Key,
 }
 
-// The slot after a load, without a key where it is refused, and the number of the refusal, 0 for none.
+// The slot after a load or a drop, without a key where it is refused, and the number of the refusal, 0 for none.
 pub struct Loaded {
     pub slot: Slot,
+    pub refused: u8,
+}
+
+// The state after a publish, and the number of the refusal, 0 for none.
+pub struct Published {
+    pub state: u8,
     pub refused: u8,
 }
 
@@ -135,8 +141,8 @@ pub fn load(state: u8, file: &[u8]) -> Loaded
     }
 }
 
-// T is written from the output's start, made in the first m·t × ceil(n/8) bytes of work; 21, 25, 34, 10, 11 or 23 on refusal, else 0.
-// All other bytes of work keep their contents, and these too under 21, 25, 34, 10 and 11.
+// T is written from the output's start, made in the first m·t × ceil(n/8) bytes of work; 21, 25, 34, 10, 11 or 23 on refusal.
+// All other bytes of work keep their contents, and these too under 21, 25, 34, 10 and 11. The key stays.
 pub fn publish<'a>(
     state: u8,
     m: u8,
@@ -146,20 +152,24 @@ pub fn publish<'a>(
     g: &'a [u16; Key::MOST_ERRORS],
     out: &mut [u8],
     work: &mut [u8],
-) -> u8
-    ensures number { λ r. ⌜ r ≡ handed (slotIn state m n t (now (support .entry)) (now (g .entry))) (publish (systematic (now (out .entry)) (now (work .entry)))) .reply .refused ⌝ }
+) -> Published
+    ensures answer { λ r. ⌜ r ≡ publishedOf (handed (slotIn state m n t (now (support .entry)) (now (g .entry))) (publish (systematic (now (out .entry)) (now (work .entry))))) ⌝ }
     ensures output { λ _. ⌜ now (out .exit) ≡ handed (slotIn state m n t (now (support .entry)) (now (g .entry))) (publish (systematic (now (out .entry)) (now (work .entry)))) .output ⌝ }
     ensures workspace { λ _. ⌜ (let f = handed (slotIn state m n t (now (support .entry)) (now (g .entry))) (publish (systematic (now (out .entry)) (now (work .entry)))) .free in
         drop f (now (work .exit)) ≡ drop f (now (work .entry))) ⌝ }
 {
     if is_empty(state) {
-        return 21;
+        return Published { state, refused: 21 };
     }
     let answer = publishing::publish(m, n, t, support, g, out, work);
     let Verdict::Accepted = answer else {
-        return field::number(answer);
+        let refused = field::number(answer);
+        return Published { state, refused };
     };
-    0
+    Published {
+        state: Slot::PUBLISHED,
+        refused: 0,
+    }
 }
 
 // The pattern of a capsule is written from the output's start; 21, 25, 34, 24, 8, 9, 10 or 13 on refusal.
@@ -258,12 +268,15 @@ pub fn session<'a>(
     session_key::session(m, n, t, support, g, marked, capsule, secret)
 }
 
-// Whether a slot in this state is dropped: 21 on refusal, else 0, and then it is to be a fresh one.
-pub fn drop(state: u8) -> u8
-    ensures { λ r. ⌜ r ≡ handed (keyless state) drop-key .reply .refused ⌝ }
+// The fresh slot; 21 on refusal. A drop asks for nothing but the state.
+pub fn drop(state: u8) -> Loaded
+    ensures { λ r. ⌜ r ≡ loadedOf (handed (keyless state) drop-key) ⌝ }
 {
     if is_empty(state) {
-        return 21;
+        return refuse_load(state, 21);
     }
-    0
+    Loaded {
+        slot: Slot::fresh(),
+        refused: 0,
+    }
 }

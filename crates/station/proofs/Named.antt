@@ -14,9 +14,10 @@ use Rattle.ledger.specs.Questions.{Question}
 use Rattle.ledger.specs.Calls.{Call, load, publish, ask, drop-key, conditionsOf, outputOf, noAnswer, made}
 use Rattle.slot.specs.Replies.{view, Reply as SlotReply, refusal as slotRefusal, acceptance, moved, outcomeOf}
 use Rattle.slot.specs.Replies as Slots
-use Rattle.slot.specs.Parts.{keyless, loadedOf}
+use Rattle.slot.specs.Parts.{keyless, loadedOf, publishedOf}
 use Rattle.slot.specs.declared.Slot.{Slot}
 use Rattle.slot.specs.declared.Loaded.{Loaded}
+use Rattle.slot.specs.declared.Published.{Published}
 use Rattle.slot.proofs.StepView.{refused-reply, accepted-reply, state-number, publish-key, question-left}
 use Rattle.recipients.specs.Names.{Name, A, B, nameOf, named}
 use Rattle.recipients.specs.Recipients.{unknown, within, called}
@@ -106,47 +107,60 @@ module _ (s : Station) (b : ℕ) (c : Call) where
   unfolding acceptance
   reply-accepted h none e = reply-known h (accepted-reply (slotOf (chosen b) s) c none e)
 
--- Load and drop ask for the state alone.
+-- A call that asks for the state alone, and after which the slot does not depend on what it was.
 module _ (s : Station) (b : ℕ) (h : known b ≡ true) {state : ℕ} (at : state ≡ slotOf (chosen b) s .state) where
-  module _ (f : Loading) {r : Loaded} (e : r ≡ loadedOf (Slots.handed (keyless state) (load f))) where
-    load-number : r .refused ≡ Slots.handed (slotOf (chosen b) s) (load f) .reply .refused
-    unfolding loadedOf conditionsOf heldBy view
-    load-number =
+  module _ (c : Call) (asks : conditionsOf (heldBy (view (keyless (slotOf (chosen b) s .state)))) c ≡ conditionsOf (heldBy (view (slotOf (chosen b) s))) c)
+      (none : (t : Slot) → made (view t) c .count ≡ 0) (next : moved (keyless state) c ≡ moved (slotOf (chosen b) s) c)
+      {r : Loaded} (e : r ≡ loadedOf (Slots.handed (keyless state) c)) where
+    state-refusal : r .refused ≡ Slots.handed (slotOf (chosen b) s) c .reply .refused
+    unfolding loadedOf
+    state-refusal =
         ap (λ (l : Loaded). l .refused) e
-        ∙ ap (λ (n : ℕ). Slots.handed (keyless n) (load f) .reply .refused) at
-        ∙ state-number (slotOf (chosen b) s) (load f) refl
+        ∙ ap (λ (n : ℕ). Slots.handed (keyless n) c .reply .refused) at
+        ∙ state-number (slotOf (chosen b) s) c asks
 
-    pub load-refused : (r .refused ≡ 0 → ⊥) → refusal s (r .refused) ≡ replyOf (handed s (named b (load f)))
-    load-refused some = reply-refused s b (load f) h load-number some
+    state-refused : (r .refused ≡ 0 → ⊥) → refusal s (r .refused) ≡ replyOf (handed s (named b c))
+    state-refused some = reply-refused s b c h state-refusal some
 
-    pub load-placed : r .refused ≡ 0 → placed b (r .slot) s ≡ replyOf (handed s (named b (load f)))
-    unfolding loadedOf made moved acceptance
-    load-placed z =
+    state-placed : r .refused ≡ 0 → placed b (r .slot) s ≡ replyOf (handed s (named b c))
+    unfolding loadedOf acceptance
+    state-placed z =
         let n = sym (ap (λ (l : Loaded). l .refused) e) ∙ z in
         ap (λ (t : Slot). placed b t s)
-        (ap (λ (l : Loaded). l .slot) e ∙ ap (λ (q : SlotReply). q .slot) (accepted-reply (keyless state) (load f) refl n))
-        ∙ reply-accepted s b (load f) h refl (sym load-number ∙ z)
+        (ap (λ (l : Loaded). l .slot) e ∙ ap (λ (q : SlotReply). q .slot) (accepted-reply (keyless state) c (none (keyless state)) n) ∙ next)
+        ∙ reply-accepted s b c h (none (slotOf (chosen b) s)) (sym state-refusal ∙ z)
 
-  module _ {n : ℕ} (e : n ≡ Slots.handed (keyless state) drop-key .reply .refused) where
-    drop-number : n ≡ Slots.handed (slotOf (chosen b) s) drop-key .reply .refused
-    unfolding conditionsOf heldBy view
-    drop-number =
-        e
-        ∙ ap (λ (n : ℕ). Slots.handed (keyless n) drop-key .reply .refused) at
-        ∙ state-number (slotOf (chosen b) s) drop-key refl
+  module _ (f : Loading) {r : Loaded} (e : r ≡ loadedOf (Slots.handed (keyless state) (load f))) where
+    pub load-refused : (r .refused ≡ 0 → ⊥) → refusal s (r .refused) ≡ replyOf (handed s (named b (load f)))
+    unfolding conditionsOf heldBy view made moved
+    load-refused = state-refused (load f) refl (λ t. refl) refl e
 
-    pub drop-refused : (n ≡ 0 → ⊥) → refusal s n ≡ replyOf (handed s (named b drop-key))
-    drop-refused some = reply-refused s b drop-key h drop-number some
+    pub load-placed : r .refused ≡ 0 → placed b (r .slot) s ≡ replyOf (handed s (named b (load f)))
+    unfolding conditionsOf heldBy view made moved
+    load-placed = state-placed (load f) refl (λ t. refl) refl e
 
-    pub drop-placed : n ≡ 0 → placed b Slots.freshSlot s ≡ replyOf (handed s (named b drop-key))
-    unfolding made moved
-    drop-placed z = reply-accepted s b drop-key h refl (sym drop-number ∙ z)
+  module _ {r : Loaded} (e : r ≡ loadedOf (Slots.handed (keyless state) drop-key)) where
+    pub drop-refused : (r .refused ≡ 0 → ⊥) → refusal s (r .refused) ≡ replyOf (handed s (named b drop-key))
+    unfolding conditionsOf heldBy view made moved
+    drop-refused = state-refused drop-key refl (λ t. refl) refl e
 
--- Publish marks the slot.
-pub publish-marked : (s : Station) (b : ℕ) (p : Publishing) → known b ≡ true → Slots.handed (slotOf (chosen b) s) (publish p) .reply .refused ≡ 0
-    → marked b s ≡ replyOf (handed s (named b (publish p)))
-unfolding made moved
-publish-marked s b p h e = reply-accepted s b (publish p) h refl e
+    pub drop-placed : r .refused ≡ 0 → placed b (r .slot) s ≡ replyOf (handed s (named b drop-key))
+    unfolding conditionsOf heldBy view made moved
+    drop-placed = state-placed drop-key refl (λ t. refl) refl e
+
+-- Publish sets the state.
+module _ (s : Station) (b : ℕ) (p : Publishing) (h : known b ≡ true) {r : Published} (e : r ≡ publishedOf (Slots.handed (slotOf (chosen b) s) (publish p))) where
+  pub publish-refused : (r .refused ≡ 0 → ⊥) → refusal s (r .refused) ≡ replyOf (handed s (named b (publish p)))
+  unfolding publishedOf
+  publish-refused some = reply-refused s b (publish p) h (ap (λ (x : Published). x .refused) e) some
+
+  pub publish-marked : r .refused ≡ 0 → marked b (r .state) s ≡ replyOf (handed s (named b (publish p)))
+  unfolding publishedOf made moved acceptance
+  publish-marked z =
+      let n = sym (ap (λ (x : Published). x .refused) e) ∙ z in
+      ap (λ (state : ℕ). marked b state s)
+      (ap (λ (x : Published). x .state) e ∙ ap (λ (q : SlotReply). q .slot .state) (accepted-reply (slotOf (chosen b) s) (publish p) refl n))
+      ∙ reply-accepted s b (publish p) h refl n
 
 -- the free bytes are as many
 pub same-rest : (x y : List ℕ) {f g : ℕ} → f ≡ g → drop f x ≡ drop f y → drop g x ≡ drop g y

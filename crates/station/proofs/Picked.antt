@@ -5,8 +5,6 @@ use mathlib.Core.Bool.{Bool, true, false, cond}
 use mathlib.Core.List.{List}
 use lib.Dec.{eqb}
 use borrow.Author.Tests.{eq-eqb, ne-eqb}
-use Rattle.ledger.specs.Slot.{published}
-use Rattle.slot.specs.Replies.{byteOf}
 use Rattle.slot.specs.Parts.{slotIn}
 use Rattle.slot.specs.declared.Slot.{Slot}
 use Rattle.recipients.specs.Names.{A, B}
@@ -40,13 +38,13 @@ module _ (b : ℕ) where
   unfolding put pick
   placed-second t s e = rw (ne-eqb b 1 e) refl
 
-  pub marked-first : (s : Station) → b ≡ 1 → placed b (record { state = byteOf published; key = s .a .key }) s ≡ marked b s
+  pub marked-first : (state : ℕ) (s : Station) → b ≡ 1 → placed b (record { state = state; key = s .a .key }) s ≡ marked b state s
   unfolding slotOf pick
-  marked-first s e = rw (eq-eqb b 1 e) refl
+  marked-first state s e = rw (eq-eqb b 1 e) refl
 
-  pub marked-second : (s : Station) → (b ≡ 1 → ⊥) → placed b (record { state = byteOf published; key = s .b .key }) s ≡ marked b s
+  pub marked-second : (state : ℕ) (s : Station) → (b ≡ 1 → ⊥) → placed b (record { state = state; key = s .b .key }) s ≡ marked b state s
   unfolding slotOf pick
-  marked-second s e = rw (ne-eqb b 1 e) refl
+  marked-second state s e = rw (ne-eqb b 1 e) refl
 
 -- the state alone, and the whole slot
 picked : (x : Bool) (s : Station) → slotIn (cond x (s .a .state) (s .b .state)) (cond x (s .a .key .m) (s .b .key .m)) (cond x (s .a .key .n) (s .b .key .n)) (cond x (s .a .key .t) (s .b .key .t)) (cond x (s .a .key .support) (s .b .key .support)) (cond x (s .a .key .g) (s .b .key .g))

@@ -147,15 +147,15 @@ impl Station {
         }
     }
 
-    // Accepted, with the slot of the name published.
-    fn mark(self, name: u8) -> Reply
-        ensures { λ r. ⌜ r ≡ marked name self ⌝ }
+    // Accepted, with the slot of the name in another state.
+    fn mark(self, name: u8, state: u8) -> Reply
+        ensures { λ r. ⌜ r ≡ marked name state self ⌝ }
     {
         let mut station = self;
         if name == Station::A {
-            station.a.state = Slot::PUBLISHED;
+            station.a.state = state;
         } else {
-            station.b.state = Slot::PUBLISHED;
+            station.b.state = state;
         }
         Reply {
             station,
@@ -190,7 +190,7 @@ impl Station {
         if !is_name(name) {
             return self.refuse(35);
         }
-        let refused = slot::publish(
+        let published = slot::publish(
             byte(name, self.a.state, self.b.state),
             byte(name, self.a.key.m, self.b.key.m),
             number(name, self.a.key.n, self.b.key.n),
@@ -200,10 +200,10 @@ impl Station {
             out,
             work,
         );
-        if refused != 0 {
-            return self.refuse(refused);
+        if published.refused != 0 {
+            return self.refuse(published.refused);
         }
-        self.mark(name)
+        self.mark(name, published.state)
     }
 
     // The pattern of a capsule is written from the output's start; 35, 21, 25, 34, 24, 8, 9, 10 or 13 on refusal.
@@ -323,10 +323,11 @@ impl Station {
         if !is_name(name) {
             return self.refuse(35);
         }
-        let refused = slot::drop(byte(name, self.a.state, self.b.state));
-        if refused != 0 {
-            return self.refuse(refused);
+        let dropped = slot::drop(byte(name, self.a.state, self.b.state));
+        if dropped.refused != 0 {
+            return self.refuse(dropped.refused);
         }
-        self.place(name, Slot::fresh())
+        let slot = dropped.slot;
+        self.place(name, slot)
     }
 }

@@ -1,9 +1,7 @@
 -- The name, then the slot's call. Assumes nothing.
-use mathlib.Core.Path.{sym, ap, _∙_}
+use mathlib.Core.Path.{sym, _∙_}
 use borrow.Author.Tests.{not-true, not-false}
 use Rattle.ledger.specs.Calls.{drop-key}
-use Rattle.slot.specs.declared.Slot.{Slot}
-use Rattle.station.specs.Chosen.{placed}
 use Rattle.station.proofs.Picked.{slot-state}
 use Rattle.station.proofs.Named.{reply-unknown, drop-refused, drop-placed}
 use Rattle.station.proofs.Station.drop.Statement.{statement}
@@ -32,28 +30,24 @@ refuse-requires-2 c κs = tt
 
 returns-2 : tie.Need-returns-2
 returns-2 c =
-    let d = c .before .before in
+    let d = c .before .before .before in
     let e = d .before .before in
     let i = e .before in
     let a = i .before .args in
     let k = sym (i .is-name .ensures) ∙ not-false _ (e .if1 .left) in
     c .refuse2 .ensures ∙ drop-refused (a .self) (a .name) k (d .before .byte .ensures ∙ slot-state (a .name) (a .self)) (d .drop .ensures) (c .before .if2 .taken)
 
-fresh-requires : tie.Need-fresh-requires
-fresh-requires c κs = tt
-
 place-requires : tie.Need-place-requires
 place-requires c κs = tt
 
 returns-3 : tie.Need-returns-3
 returns-3 c =
-    let d = c .before .before .before in
+    let d = c .before .before .before .before in
     let e = d .before .before in
     let i = e .before in
     let a = i .before .args in
     let k = sym (i .is-name .ensures) ∙ not-false _ (e .if1 .left) in
     c .place .ensures
-    ∙ ap (λ (t : Slot). placed (a .name) t (a .self)) (c .before .fresh .ensures)
     ∙ drop-placed (a .self) (a .name) k (d .before .byte .ensures ∙ slot-state (a .name) (a .self)) (d .drop .ensures) (c .before .before .if2 .left)
 
 pub drop-spec : {M : Type 1} → statement M
@@ -67,6 +61,5 @@ drop-spec =
     drop-requires
     refuse-requires-2
     returns-2
-    fresh-requires
     place-requires
     returns-3)

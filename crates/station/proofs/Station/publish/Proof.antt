@@ -5,9 +5,10 @@ use borrow.Author.Tests.{not-true, not-false}
 use Rattle.ledger.specs.Publishing.{systematic, publicBuffer}
 use Rattle.ledger.specs.Calls.{publish, outputOf}
 use Rattle.slot.specs.Replies.{Handed, handed}
+use Rattle.slot.specs.Parts.{publishedOf}
 use Rattle.slot.specs.declared.Slot.{Slot}
 use Rattle.station.proofs.Picked.{slot-parts}
-use Rattle.station.proofs.Named.{reply-unknown, output-unknown, reply-refused, publish-marked, output-known, free-known, same-rest}
+use Rattle.station.proofs.Named.{reply-unknown, output-unknown, publish-refused, publish-marked, output-known, free-known, same-rest}
 use Rattle.station.proofs.Station.publish.Statement.{statement}
 use Rattle.station.proofs.Station.publish.Tie as tie
 
@@ -58,7 +59,7 @@ same-length-2 c = search needs
 
 returns-2 : tie.Need-returns-2
 returns-2 c =
-    let o = c .before .before .before .before .before .before in
+    let o = c .before .before .before .before .before .before .before in
     let f = o .before .before .before in
     let p = f .before .before .before in
     let n = p .before .before .before .before in
@@ -70,7 +71,7 @@ returns-2 c =
     let t = slot-parts (a .name) (a .t1) (m .before .byte .ensures) (m .byte2 .ensures) (n .before .number .ensures) (n .number2 .ensures) (p .places .ensures) (f .coefficients .ensures) in
     let q = publish (systematic (a .out .now) (a .work .now)) in
     let h = ap (λ (s : Slot). handed s q) t in (
-      c .refuse2 .ensures ∙ reply-refused (a .t1) (a .name) q k (o .publish .ensures .0 ∙ ap (λ (r : Handed). r .reply .refused) h) (c .before .if2 .taken),
+      c .refuse2 .ensures ∙ publish-refused (a .t1) (a .name) (systematic (a .out .now) (a .work .now)) k (o .publish .ensures .0 ∙ ap publishedOf h) (c .before .if2 .taken),
       (o .publish .ensures .1 .0 ∙ ap (λ (r : Handed). r .output) h ∙ output-known (a .t1) (a .name) q k, same-rest _ _ (ap (λ (r : Handed). r .free) h ∙ free-known (a .t1) (a .name) q k) (o .publish .ensures .1 .1)),
     )
 
@@ -85,7 +86,7 @@ same-length-4 c = search needs
 
 returns-3 : tie.Need-returns-3
 returns-3 c =
-    let o = c .before .before .before .before .before .before in
+    let o = c .before .before .before .before .before .before .before in
     let f = o .before .before .before in
     let p = f .before .before .before in
     let n = p .before .before .before .before in
@@ -98,7 +99,7 @@ returns-3 c =
     let p = systematic (a .out .now) (a .work .now) in
     let q = publish p in
     let h = ap (λ (s : Slot). handed s q) t in (
-      c .mark .ensures ∙ publish-marked (a .t1) (a .name) p k (sym (o .publish .ensures .0 ∙ ap (λ (r : Handed). r .reply .refused) h) ∙ c .before .if2 .left),
+      c .mark .ensures ∙ publish-marked (a .t1) (a .name) p k (o .publish .ensures .0 ∙ ap publishedOf h) (c .before .if2 .left),
       (o .publish .ensures .1 .0 ∙ ap (λ (r : Handed). r .output) h ∙ output-known (a .t1) (a .name) q k, same-rest _ _ (ap (λ (r : Handed). r .free) h ∙ free-known (a .t1) (a .name) q k) (o .publish .ensures .1 .1)),
     )
 
