@@ -1,6 +1,5 @@
--- The three demands, as statements about a system of calls: for every station, call, pattern, code word and list of calls.
--- The definitions are such a system, and the code's calls are: a slot's (`code` of crate slot), and the station's that name one
--- recipient (`recipient` of crate recipients). Assumes nothing.
+-- The three demands, as statements about a system of calls: for every station, call, pattern, code word and list of calls. The
+-- definitions are such a system, a slot's calls are, and the station's that name one recipient. Assumes nothing.
 use Prim.Native.Nat.{ℕ, suc, _≤_}
 use mathlib.Core.Path.{_≡_}
 use mathlib.Core.Logic.{_↔_, _⊎_}

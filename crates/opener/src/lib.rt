@@ -1,6 +1,5 @@
-// The text that the program prints, from a key file and capsules (document 01, 'Bench keys', and request L1's last line). All calls
-// name A (request L6).
-// A function with a place `at` writes its part from there on, as far as the output reaches, and gives the place behind it.
+// The text that the program prints, from a key file and capsules (document 01, 'Bench keys'; L1's last line); its calls name A. A
+// function with a place `at` writes its part from there on, as far as the output reaches, and gives the place behind it.
 use station::Reply;
 use station::Station;
 ghost use mathlib.Core.Path.{_≡_};

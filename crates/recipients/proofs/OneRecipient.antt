@@ -1,5 +1,5 @@
--- Nothing of what was claimed about one key is lost: demand 3's claim about every list of a slot's calls follows, for each
--- recipient, from the claim about every list of calls over both. Assumes nothing.
+-- Demand 3's claim about every list of calls that name one recipient follows from the claim about every list of calls over both.
+-- Assumes nothing.
 use mathlib.Core.Path.{_≡_, refl, subst}
 use mathlib.Core.List.{List, [], _∷_, map}
 use Rattle.ledger.specs.Slot.{Outcome}

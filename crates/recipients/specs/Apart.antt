@@ -40,12 +40,12 @@ module _ (r : Recipients) where
 
   -- Leaving out the calls that name x, from stations s and t with the same slot of another recipient y: every answer to another
   -- call, those with unknown names included, is the same, and so is the slot of y with its arrays, its key, and what its ledger has.
-  -- The slot of x stays as it was.
   pub record LeftOut (x y : Name) (s t : r .Stations) (calls : List NamedCall) : Type 0 where
     pub answers : keep (λ e. not (names x (e .0))) (transcript (r .call) s calls) ≡ transcript (r .call) t (leaveOut x calls)
     pub slot : r .slot y (run (r .call) s calls) ≡ r .slot y (run (r .call) t (leaveOut x calls))
     pub key : keyHeld (r .slots .view (r .slot y (run (r .call) s calls))) ≡ keyHeld (r .slots .view (r .slot y (run (r .call) t (leaveOut x calls))))
     pub ledger : (l : Ledger) → ledgerAfter l (callsOf y calls) ≡ ledgerAfter l (callsOf y (leaveOut x calls))
+    -- the slot of x stays as it was
     pub stays : r .slot x (run (r .call) t (leaveOut x calls)) ≡ r .slot x t
 
   -- one law about the two, and what follows from it

@@ -24,8 +24,7 @@ use Rattle.recipients.specs.Apart.{Apart}
 
 module _ (r : Recipients) where
   -- Demand 1: a number only where its condition is the first that holds, and then nothing changes, the workspace under 23 aside;
-  -- none where none holds. No byte of the workspace is free, or the first m·t × ceil(n/8) of the key that is named. 35 where no
-  -- recipient has the name, and nowhere else; then nothing changes, whatever else holds.
+  -- none where none holds. No byte of the workspace is free, or the first m·t × ceil(n/8) of the key that is named.
   pub record RefusesNamed (s : r .Stations) (c : NamedCall) : Type 0 where
     pub number : (n : ℕ) → r .call s c .number ≡ suc n → First (namedConditions (λ x. heldBy (r .slots .view (r .slot x s))) c) (suc n)
     pub accepts : r .call s c .number ≡ 0 → Clear (namedConditions (λ x. heldBy (r .slots .view (r .slot x s))) c)
@@ -35,6 +34,7 @@ module _ (r : Recipients) where
     pub output : (n : ℕ) → r .call s c .number ≡ suc n → r .call s c .output ≡ outputOf (c .call)
     pub work : (n : ℕ) → r .call s c .number ≡ suc n → (suc n ≡ 23 → ⊥) → r .call s c .free ≡ 0
     pub workspace : (r .call s c .free ≡ 0) ⊎ ((x : Name) × (nameOf (c .name) ≡ some x) × (r .call s c .free ≡ workBytes (r .slots .view (r .slot x s) .key)))
+    -- 35 where no recipient has the name, and nowhere else; then nothing changes, whatever else holds
     pub unknown-name : nameOf (c .name) ≡ none → r .call s c ≡ unknown s (c .call)
     pub known-name : r .call s c .number ≡ 35 → nameOf (c .name) ≡ none
 
@@ -48,7 +48,7 @@ module _ (r : Recipients) where
   abbrev pub AfterEveryNamedList : Type 0
   AfterEveryNamedList = (calls : List NamedCall) → AfterNamed calls (run (r .call) (r .fresh) calls)
 
-  -- in its own words: which key the recipient x holds, by its own loads and drops, and whether its own publish marked it; a key
+  -- in its own words, by the calls that name x: which key x holds, by its loads and drops, and whether its publish marked it; a key
   -- whose g has a proper factor is never published
   pub record HoldsNamed (x : Name) (calls : List NamedCall) (k : Key) : Type 0 where
     pub held : (keyHeld (recipient r x .view (run (r .call) (r .fresh) calls)) ≡ some k) ↔ Loaded (recipient r x) (r .fresh) (callsOf x calls) k
