@@ -15,11 +15,15 @@ static shearcotter_derived derived;
 static size_t copied;
 static int counting, failed;
 
-/* A station, a slot or its key, whose support and g lie side by side, or the support alone of A's key, which all calls name, or of
-   the file's. The decoder also copies arrays of about a support's size that are neither. */
+/* The recipient that the calls name, and what the name is in print. */
+static uint8_t name = SHEARCOTTER_A;
+static const char *const names[] = {[SHEARCOTTER_A] = "A", [SHEARCOTTER_B] = "B"};
+
+/* A station, a slot or its key, whose support and g lie side by side, or the support alone of the named recipient's key or of the
+   file's. The decoder also copies arrays of about a support's size that are neither. */
 static int counts(const void *from, size_t n)
 {
-    const shearcotter_key *key = &station.a.key;
+    const shearcotter_key *key = name == SHEARCOTTER_A ? &station.a.key : &station.b.key;
     return n >= ARRAY + sizeof key->g || (n == ARRAY && (memcmp(from, key->support, ARRAY) == 0 || memcmp(from, file + 3, 64) == 0));
 }
 
@@ -46,44 +50,60 @@ static void say(const char *call, size_t reply_size, int wrong)
     counting = 0;
     size_t tenths = (10 * (copied - sizeof station - reply_size) + sizeof station / 2) / sizeof station;
     size_t most = strcmp(call, "load") == 0 ? 55 : strcmp(call, "drop") == 0 || strncmp(call, "session", 7) == 0 ? 30 : 20;
-    printf("%-28s %zu.%zu\n", call, tenths / 10, tenths % 10);
+    printf("%s %-28s %zu.%zu\n", names[name], call, tenths / 10, tenths % 10);
     failed |= wrong || tenths > most;
 }
 
-#define COUNT_IN(reply, name, call, number) \
+#define COUNT_IN(reply, of, call, number) \
     do { \
         copied = 0, counting = 1, reply = call; \
-        say(name, sizeof reply, reply.refused != number); \
+        say(of, sizeof reply, reply.refused != number); \
         station = reply.station; \
     } while (0)
-#define COUNT(name, call, number) COUNT_IN(reply, name, call, number)
-#define COUNT_REPORT(name, call, number) COUNT_IN(reported, name, call, number)
-#define COUNT_SESSION(name, call, number) COUNT_IN(derived, name, call, number)
+#define COUNT(of, call, number) COUNT_IN(reply, of, call, number)
+#define COUNT_REPORT(of, call, number) COUNT_IN(reported, of, call, number)
+#define COUNT_SESSION(of, call, number) COUNT_IN(derived, of, call, number)
+
+/* The calls on a slot without a key. */
+static void empty(void)
+{
+    COUNT("drop, unknown name", shearcotter_drop(station, 3), 35);
+    COUNT("open, unknown name", shearcotter_open(station, 3, row, 1, out, sizeof out), 35);
+    COUNT("drop, refused", shearcotter_drop(station, name), 21);
+    COUNT("open, refused, no key", shearcotter_open(station, name, row, 1, out, sizeof out), 21);
+    COUNT_REPORT("report, refused, no key", shearcotter_report(station, name, row, 1, out, sizeof out), 21);
+    COUNT_SESSION("session, refused, no key", shearcotter_session(station, name, row, 1, out, 1), 21);
+}
+
+/* Load and publish, and the calls on the published key. */
+static void keyed(size_t size)
+{
+    const size_t capsule = SHEARCOTTER_CAPSULE_BYTES(12, 64), pattern = SHEARCOTTER_PATTERN_BYTES(3488);
+    COUNT("load, refused", shearcotter_load(station, name, file, size - 1), 2);
+    COUNT("load", shearcotter_load(station, name, file, size), 0);
+    COUNT("load, refused, key held", shearcotter_load(station, name, file, size), 22);
+    COUNT("publish, refused", shearcotter_publish(station, name, public_key, 1, work, sizeof work), 10);
+    COUNT("publish", shearcotter_publish(station, name, public_key, sizeof public_key, work, sizeof work), 0);
+    COUNT("open, refused", shearcotter_open(station, name, row, capsule, out, sizeof out), 13);
+    COUNT_REPORT("report, refused", shearcotter_report(station, name, row, 1, out, 0), 31);
+    COUNT_REPORT("report", shearcotter_report(station, name, row, sizeof row, out, sizeof out), 0);
+    COUNT_SESSION("session, refused", shearcotter_session(station, name, row, capsule, out, 1), 33);
+    COUNT_SESSION("session", shearcotter_session(station, name, row, capsule, out, pattern), 0);
+    COUNT("read, refused", shearcotter_read(station, name, row, 1, out, sizeof out), 8);
+    COUNT("read", shearcotter_read(station, name, row, pattern, out, sizeof out), 0);
+    COUNT("drop", shearcotter_drop(station, name), 0);
+}
 
 int main(int count, char **words)
 {
     FILE *key = count == 2 ? fopen(words[1], "rb") : NULL;
     size_t size = key ? fread(file, 1, sizeof file, key) : 0;
-    station = shearcotter_fresh();
-    COUNT("drop, unknown name", shearcotter_drop(station, 3), 35);
-    COUNT("open, unknown name", shearcotter_open(station, 3, row, 1, out, sizeof out), 35);
-    COUNT("drop, refused", shearcotter_drop(station, SHEARCOTTER_A), 21);
-    COUNT("open, refused, no key", shearcotter_open(station, SHEARCOTTER_A, row, 1, out, sizeof out), 21);
-    COUNT_REPORT("report, refused, no key", shearcotter_report(station, SHEARCOTTER_A, row, 1, out, sizeof out), 21);
-    COUNT_SESSION("session, refused, no key", shearcotter_session(station, SHEARCOTTER_A, row, 1, out, 1), 21);
-    COUNT("load, refused", shearcotter_load(station, SHEARCOTTER_A, file, size - 1), 2);
-    COUNT("load", shearcotter_load(station, SHEARCOTTER_A, file, size), 0);
-    COUNT("load, refused, key held", shearcotter_load(station, SHEARCOTTER_A, file, size), 22);
-    COUNT("publish, refused", shearcotter_publish(station, SHEARCOTTER_A, public_key, 1, work, sizeof work), 10);
-    COUNT("publish", shearcotter_publish(station, SHEARCOTTER_A, public_key, sizeof public_key, work, sizeof work), 0);
-    COUNT("open, refused", shearcotter_open(station, SHEARCOTTER_A, row, SHEARCOTTER_CAPSULE_BYTES(12, 64), out, sizeof out), 13);
-    COUNT_REPORT("report, refused", shearcotter_report(station, SHEARCOTTER_A, row, 1, out, 0), 31);
-    COUNT_REPORT("report", shearcotter_report(station, SHEARCOTTER_A, row, sizeof row, out, sizeof out), 0);
-    COUNT_SESSION("session, refused", shearcotter_session(station, SHEARCOTTER_A, row, SHEARCOTTER_CAPSULE_BYTES(12, 64), out, 1), 33);
-    COUNT_SESSION("session", shearcotter_session(station, SHEARCOTTER_A, row, SHEARCOTTER_CAPSULE_BYTES(12, 64), out, SHEARCOTTER_PATTERN_BYTES(3488)), 0);
-    COUNT("read, refused", shearcotter_read(station, SHEARCOTTER_A, row, 1, out, sizeof out), 8);
-    COUNT("read", shearcotter_read(station, SHEARCOTTER_A, row, SHEARCOTTER_PATTERN_BYTES(3488), out, sizeof out), 0);
-    COUNT("drop", shearcotter_drop(station, SHEARCOTTER_A), 0);
+    for (name = SHEARCOTTER_A; name <= SHEARCOTTER_B; name++) {
+        memset(out, 0, sizeof out); /* It is the secret of a session too. */
+        station = shearcotter_fresh();
+        empty();
+        keyed(size);
+    }
     puts(failed ? "copies: too many" : "copies: one station in and one out, one more in a session and an accepted drop, 5.5 in an accepted load");
     return failed;
 }

@@ -1,6 +1,6 @@
 /* The stack that each call takes at (13, 8192, 128), its caller's argument and reply included: a thread's stack is filled with a
    mark, the thread makes one call, and the lowest byte that lost its mark is looked for. What a thread without a call takes is
-   left out. Fails where a call takes more KiB than the header says. */
+   left out. Calls that take a name are made for both. Fails where a call takes more KiB than the header says. */
 #include <pthread.h>
 #include <stdio.h>
 #include <stdlib.h>
@@ -14,6 +14,7 @@ static uint8_t file[1 << 15], public_key[1 << 21], work[1 << 21], pattern[N / 8]
 static uint8_t card[3 * sizeof capsule + 1], records[4];
 static uint16_t list[SHEARCOTTER_LONGEST];
 static size_t size;
+static uint8_t name;
 static shearcotter_station station;
 static volatile int refused;
 
@@ -21,8 +22,8 @@ static void *nothing(void *none) { return none; }
 
 static void *fresh(void *none) { station = shearcotter_fresh(); return none; }
 
-#define CALL(name, call) \
-    static void *name(void *none) \
+#define CALL(made, call) \
+    static void *made(void *none) \
     { \
         shearcotter_reply reply = call; \
         station = reply.station; \
@@ -30,17 +31,17 @@ static void *fresh(void *none) { station = shearcotter_fresh(); return none; }
         return none; \
     }
 
-CALL(load, shearcotter_load(station, SHEARCOTTER_A, file, size))
-CALL(publish, shearcotter_publish(station, SHEARCOTTER_A, public_key, sizeof public_key, work, sizeof work))
-CALL(open_capsule, shearcotter_open(station, SHEARCOTTER_A, capsule, sizeof capsule, out, sizeof out))
-CALL(read_word, shearcotter_read(station, SHEARCOTTER_A, pattern, sizeof pattern, out, sizeof out))
-CALL(drop, shearcotter_drop(station, SHEARCOTTER_A))
+CALL(load, shearcotter_load(station, name, file, size))
+CALL(publish, shearcotter_publish(station, name, public_key, sizeof public_key, work, sizeof work))
+CALL(open_capsule, shearcotter_open(station, name, capsule, sizeof capsule, out, sizeof out))
+CALL(read_word, shearcotter_read(station, name, pattern, sizeof pattern, out, sizeof out))
+CALL(drop, shearcotter_drop(station, name))
 
 static void *report(void *none)
 {
     for (int i = 0; i < 3; i++)
         memcpy(card + i * sizeof capsule, capsule, sizeof capsule);
-    shearcotter_reported reported = shearcotter_report(station, SHEARCOTTER_A, card, sizeof card, records, sizeof records);
+    shearcotter_reported reported = shearcotter_report(station, name, card, sizeof card, records, sizeof records);
     station = reported.station;
     refused = reported.refused || reported.counts[SHEARCOTTER_ACCEPTED] != 3;
     return none;
@@ -49,7 +50,7 @@ static void *report(void *none)
 /* Of the capsule, which opens, or does not with a bit turned. */
 static void *session(void *none)
 {
-    shearcotter_derived derived = shearcotter_session(station, SHEARCOTTER_A, capsule, sizeof capsule, pattern, sizeof pattern);
+    shearcotter_derived derived = shearcotter_session(station, name, capsule, sizeof capsule, pattern, sizeof pattern);
     station = derived.station;
     refused = derived.refused;
     return none;
@@ -102,11 +103,25 @@ static size_t taken(void *(*call)(void *))
 
 static int failed;
 
-static void measure(const char *name, void *(*call)(void *), size_t stated)
+static void measure(const char *of, const char *call, void *(*made)(void *), size_t stated)
 {
-    size_t kib = (taken(call) - taken(nothing) + 1023) / 1024;
-    printf("%-12s %4zu KiB, stated %zu\n", name, kib, stated);
+    size_t kib = (taken(made) - taken(nothing) + 1023) / 1024;
+    printf("%-1s %-12s %4zu KiB, stated %zu\n", of, call, kib, stated);
     failed |= refused != 0 || kib > stated;
+}
+
+/* The calls that take a name; what is locked is for the named recipient's key. */
+static void measure_named(const char *of)
+{
+    measure(of, "load", load, SHEARCOTTER_STACK_LOAD);
+    measure(of, "publish", publish, SHEARCOTTER_STACK_PUBLISH);
+    measure("", "lock", lock, SHEARCOTTER_STACK_LOCK);
+    measure(of, "open", open_capsule, SHEARCOTTER_STACK_OPEN);
+    measure(of, "report", report, SHEARCOTTER_STACK_REPORT);
+    measure(of, "session", session, SHEARCOTTER_STACK_SESSION);
+    measure(of, "the same, 13", session_13, SHEARCOTTER_STACK_SESSION);
+    measure(of, "read", read_word, SHEARCOTTER_STACK_READ);
+    measure(of, "drop", drop, SHEARCOTTER_STACK_DROP);
 }
 
 int main(int count, char **words)
@@ -116,18 +131,11 @@ int main(int count, char **words)
     memset(pattern, 0xFF, T / 8);
     for (int i = 0; i < SHEARCOTTER_LONGEST; i++)
         list[i] = (uint16_t)(i * i % (1 << M));
-    measure("fresh", fresh, SHEARCOTTER_STACK_FRESH);
-    measure("load", load, SHEARCOTTER_STACK_LOAD);
-    measure("publish", publish, SHEARCOTTER_STACK_PUBLISH);
-    measure("lock", lock, SHEARCOTTER_STACK_LOCK);
-    measure("open", open_capsule, SHEARCOTTER_STACK_OPEN);
-    measure("report", report, SHEARCOTTER_STACK_REPORT);
-    measure("session", session, SHEARCOTTER_STACK_SESSION);
-    measure("the same, 13", session_13, SHEARCOTTER_STACK_SESSION);
-    measure("read", read_word, SHEARCOTTER_STACK_READ);
-    measure("drop", drop, SHEARCOTTER_STACK_DROP);
-    measure("register", shortest_register, SHEARCOTTER_STACK_REGISTER);
-    measure("shake256", shake, SHEARCOTTER_STACK_SHAKE);
+    measure("", "fresh", fresh, SHEARCOTTER_STACK_FRESH);
+    for (name = SHEARCOTTER_A; name <= SHEARCOTTER_B; name++)
+        measure_named(name == SHEARCOTTER_A ? "A" : "B");
+    measure("", "register", shortest_register, SHEARCOTTER_STACK_REGISTER);
+    measure("", "shake256", shake, SHEARCOTTER_STACK_SHAKE);
     puts(failed ? "stack: a call takes more than the header says, or was refused" : "stack: no call takes more than the header says");
     return failed;
 }

@@ -13,9 +13,10 @@ use crate::{raw, wiping, Counts, Name, Refusal};
 const FRAMES: usize = 4096;
 /// The same with the copies of station and reply that builds without optimisation make.
 const COPIES: usize = FRAMES + size_of::<raw::Station>() + size_of::<raw::Reported>();
-// What each call on a secret takes lies in the stack that is made sure of.
+// What each call takes lies in the stack that is made sure of.
 const _: () = {
     let taken = [
+        raw::STACK_FRESH,
         raw::STACK_LOAD,
         raw::STACK_PUBLISH,
         raw::STACK_LOCK,
@@ -33,15 +34,15 @@ const _: () = {
     }
 };
 
-/// Touches [`raw::STACK`] bytes of stack, page after page, so that a call that would not fit ends here.
+/// Touches `LENGTH` bytes of stack, page after page, so that a call that would not fit ends here.
 #[inline(never)]
-fn touch_stack() {
-    wiping::keep(MaybeUninit::<[u8; raw::STACK]>::uninit().as_ptr().cast());
+fn touch_stack<const LENGTH: usize>() {
+    wiping::keep(MaybeUninit::<[u8; LENGTH]>::uninit().as_ptr().cast());
 }
 
 /// Runs a call on a secret that takes up to `LENGTH` bytes of stack, and wipes them. What it answers is no secret.
 fn secretly<const LENGTH: usize, A>(call: impl FnOnce() -> A) -> A {
-    touch_stack();
+    touch_stack::<{ raw::STACK }>();
     unsafe { wiping::wiping_stack::<LENGTH, A>(call) }
 }
 
@@ -67,7 +68,7 @@ pub(crate) fn shape_at(position: u8) -> Result<raw::Shape, Refusal> {
 }
 
 pub(crate) fn register(m: u8, list: &[u16]) -> Result<raw::Register, Refusal> {
-    touch_stack();
+    touch_stack::<{ raw::STACK }>();
     let found = unsafe { raw::shearcotter_shortest_register(m, list.as_ptr(), list.len()) };
     Refusal::check(found.refused).map(|()| found)
 }
@@ -98,9 +99,11 @@ pub(crate) fn lock(shape: (u8, u16, u16), public: &[u8], pattern: &[u8], out: &m
     })
 }
 
-pub(crate) fn fresh() -> raw::Station {
-    touch_stack();
-    unsafe { raw::shearcotter_fresh() }
+/// Not inlined, so that no caller's frame holds the station; its own does, and so it makes sure of what it needs alone.
+#[inline(never)]
+pub(crate) fn fresh() -> Box<raw::Station> {
+    touch_stack::<{ raw::STACK_FRESH + COPIES }>();
+    Box::new(unsafe { raw::shearcotter_fresh() })
 }
 
 pub(crate) fn load(station: &mut raw::Station, name: Name, file: &[u8]) -> Result<(), Refusal> {

@@ -28,7 +28,8 @@
 //! # Stack
 //!
 //! A call takes up to 308 KiB of stack, at most 380 without optimisation, since the station passes by value. Each call touches
-//! [`raw::STACK`] bytes of stack first, 512 KiB, so that a thread with less ends at its guard page and nowhere else.
+//! [`raw::STACK`] bytes of stack first, 512 KiB, and [`Station::fresh`] fewer, so that a thread with less ends at its guard
+//! page and nowhere else. Beyond these 512 KiB a thread needs what its own functions take.
 //!
 //! # Secrets
 //!

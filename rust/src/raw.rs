@@ -16,8 +16,10 @@ pub const COEFFICIENTS: usize = LONGEST + 1;
 pub const BYTE_VALUES: usize = 256;
 /// Bytes of a session key.
 pub const SESSION_BYTES: usize = 32;
-/// Bytes of stack that each safe call makes sure of.
+/// Bytes of stack that each safe call makes sure of, but for a fresh station, which takes less.
 pub const STACK: usize = 512 * 1024;
+/// Bytes of stack that `shearcotter_fresh` takes, the station in the caller included.
+pub const STACK_FRESH: usize = 52 * 1024;
 /// Bytes of stack that `shearcotter_load` takes, its argument and reply in the caller included.
 pub const STACK_LOAD: usize = 306 * 1024;
 /// The same for `shearcotter_publish`.

@@ -32,7 +32,7 @@ pub struct Station {
 impl Station {
     /// A station without keys.
     pub fn fresh() -> Station {
-        Station { raw: Box::new(calls::fresh()) }
+        Station { raw: calls::fresh() }
     }
 
     /// One recipient, for what leaves the station as it is: opening, reports, session keys and reading.

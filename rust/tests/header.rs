@@ -53,6 +53,7 @@ fn limits_states_names_and_stack() {
         ("PUBLISHED", raw::PUBLISHED.into()),
         ("A", raw::A.into()),
         ("B", raw::B.into()),
+        ("STACK_FRESH", raw::STACK_FRESH / 1024),
         ("STACK_LOAD", raw::STACK_LOAD / 1024),
         ("STACK_PUBLISH", raw::STACK_PUBLISH / 1024),
         ("STACK_LOCK", raw::STACK_LOCK / 1024),

@@ -5,7 +5,9 @@ use std::collections::BTreeMap;
 
 use shearcotter::raw::{Slot, Station, A, B};
 
+use crate::bench_keys::K3;
 use crate::independent::held::Held;
+use crate::independent::key::Key;
 use crate::independent::named::Drawing;
 use crate::independent::random::Random;
 use crate::independent::recipients::{Answer, Call, Ledger, Named};
@@ -18,16 +20,17 @@ const CALLS: [&str; 16] = [
     "session", "session", "session", "drop",
 ];
 
-/// Exchange keys with a public key and one perhaps without, and reading keys.
+/// Exchange keys with a public key, one without and one perhaps without, and reading keys.
 fn keys(random: &mut Random) -> Vec<Held> {
     let mut keys: Vec<Held> = [(6, 1), (7, 1), (12, 2), (14, 3)].map(|(n, t)| random.published(4, n, t)).into();
     let others = [random.exchange_key(4, 16, 3), random.reading_key(4, 14, 2), random.reading_key(4, 15, 3)];
     keys.extend(others.map(Held::new));
+    keys.push(Held::new(Key::parse(&K3).expect("a key")));
     keys
 }
 
 fn drawing<'a>(random: &'a mut Random, keys: &'a [Held]) -> Drawing<'a> {
-    Drawing { random, keys, unknown: 12, longest: usize::MAX }
+    Drawing { random, keys, unknown: 12, damages: &[1, 2, 3, 4, 5, 6, 7], longest: usize::MAX }
 }
 
 /// How many calls of each kind, under which name, had which number.
@@ -58,8 +61,8 @@ fn answers_and_stations_of_random_lists() {
     all_met(
         &met,
         &[
-            ("load", &[0, 22, 1, 2, 3, 4, 5, 7]),
-            ("publish", &[0, 21, 34, 10, 11]),
+            ("load", &[0, 22, 1, 2, 3, 4, 5, 6, 7]),
+            ("publish", &[0, 21, 34, 10, 11, 23]),
             ("open", &[0, 21, 34, 24, 8, 9, 10, 13]),
             ("report", &[0, 21, 34, 24, 31]),
             ("session", &[0, 21, 34, 24, 8, 9, 33]),

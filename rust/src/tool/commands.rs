@@ -130,7 +130,8 @@ that opens it is said:
 In json the name is the member `recipient`, and raw has none. A capsule that
 A refuses 13 and B does not open is refused 13. The summary says how many each
 opened. Both keys have capsules of the same number of bytes, and with raw the
-same n too.
+same n too. Where m*t differs within these bytes, KEY had better be the key with
+the larger m*t: what is filler under A is refused 9 and not tried under B.
 ",
         run: opening::open,
     },
@@ -208,7 +209,9 @@ are opened stand by their names, and the record is 0 for both:
     0  opened under A  2
     0  opened under B  1
 
-Both keys have capsules of the same number of bytes.
+Both keys have capsules of the same number of bytes. Where m*t differs within
+these bytes, KEY had better be the key with the larger m*t: what is filler under
+A is refused 9 and not tried under B.
 ",
         run: reporting::report,
     },

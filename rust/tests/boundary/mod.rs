@@ -14,11 +14,19 @@ use std::collections::BTreeMap;
 use std::io::Write;
 use std::{env, io, thread};
 
+use shearcotter::raw::{A, B};
+
 use crate::independent::random::Random;
 use pool::Pool;
 
-/// How many calls of each kind had which number.
-type Tally = BTreeMap<(&'static str, u8), u64>;
+/// A call, the recipient that it named, and its number.
+type Met = (&'static str, u8, u8);
+
+/// For calls that name no recipient.
+const NONE: u8 = 0;
+
+/// How many calls of each kind, under which name, had which number.
+type Tally = BTreeMap<Met, u64>;
 
 const STREAMS: u64 = 2;
 
@@ -40,13 +48,17 @@ const CALLS: [(&str, &[u8]); 14] = [
     ("shake256", &[0]),
 ];
 
-fn one_call(random: &mut Random, pool: &Pool) -> (&'static str, u8) {
+fn unnamed((call, number): (&'static str, u8)) -> Met {
+    (call, NONE, number)
+}
+
+fn one_call(random: &mut Random, pool: &Pool) -> Met {
     match random.below(100) {
-        0..=9 => plain::field(random),
-        10..=11 => plain::shape_at(random),
-        12..=17 => plain::register(random),
-        18..=29 => plain::lock(random, pool),
-        30 => plain::shake256(random),
+        0..=9 => unnamed(plain::field(random)),
+        10..=11 => unnamed(plain::shape_at(random)),
+        12..=17 => unnamed(plain::register(random)),
+        18..=29 => unnamed(plain::lock(random, pool)),
+        30 => unnamed(plain::shake256(random)),
         31..=41 => stations::load(random, pool),
         42..=51 => stations::publish(random, pool),
         52..=62 => stations::open(random, pool),
@@ -72,27 +84,39 @@ fn trials() -> u64 {
     set.parse().expect("SHEARCOTTER_TRIALS is a number")
 }
 
+/// What a call under a name, or under none, answered how often.
+fn counts(tally: &Tally, call: &str, name: u8) -> String {
+    let of_call = tally.iter().filter(|((of, under, _), _)| (*of, *under) == (call, name));
+    let counts = of_call.map(|((_, _, number), count)| match number {
+        0 => format!("accepted {count}"),
+        _ => format!("{number}: {count}"),
+    });
+    counts.collect::<Vec<String>>().join(", ")
+}
+
 /// Past the capture of test output, so that the count is always seen.
 fn report(total: u64, tally: &Tally) {
     let mut lines = format!("boundary: {total} calls tried\n");
-    for (name, _) in CALLS {
-        let of_name = tally.iter().filter(|((call, _), _)| *call == name);
-        let counts: Vec<String> = of_name
-            .map(|((_, number), count)| match number {
-                0 => format!("accepted {count}"),
-                _ => format!("{number}: {count}"),
-            })
-            .collect();
-        lines += &format!("  {name}: {}\n", counts.join(", "));
+    for (call, _) in CALLS {
+        for (name, under) in [(A, " A"), (B, " B"), (NONE, "")] {
+            let counts = counts(tally, call, name);
+            if !counts.is_empty() {
+                lines += &format!("  {call}{under}: {counts}\n");
+            }
+        }
     }
     io::stderr().write_all(lines.as_bytes()).expect("standard error");
 }
 
-/// Every number of every call was met.
+/// Every number of every call was met: under both names where it takes one, and 35 under none.
 fn all_numbers_met(tally: &Tally) {
     for (call, numbers) in CALLS {
+        let takes_name = numbers.contains(&35);
         for number in numbers {
-            assert!(tally.contains_key(&(call, *number)), "{call} never answered {number}");
+            let names = if takes_name && *number != 35 { &[A, B][..] } else { &[NONE] };
+            for name in names {
+                assert!(tally.contains_key(&(call, *name, *number)), "{call} of {name} never answered {number}");
+            }
         }
     }
 }

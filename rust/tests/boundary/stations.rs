@@ -6,6 +6,7 @@ use shearcotter::raw::{self, Reply, Slot, Station, A, B};
 
 use super::buffers::{awkward, cut, holding, noise};
 use super::pool::{capsule, word, Pool};
+use super::{Met, NONE};
 use crate::independent::calls::{self as expected, Outcome};
 use crate::independent::held::Held;
 use crate::independent::key::Key;
@@ -128,6 +129,11 @@ impl Case {
         }
     }
 
+    /// What is counted of the call.
+    fn met(&self, call: &'static str, number: u8) -> Met {
+        (call, if [A, B].contains(&self.name) { self.name } else { NONE }, number)
+    }
+
     /// The reply beside what is expected; the named slot after an accepted call. The other one stays.
     fn same(&self, reply: &Reply, expected: &Outcome, accepted: Slot) {
         let said = || format!("{} state {} {:?}", self.name, self.slot.state, raw_calls::held(&self.slot));
@@ -169,7 +175,7 @@ fn file(random: &mut Random, held: &Held) -> Vec<u8> {
     }
 }
 
-pub fn load(random: &mut Random, pool: &Pool) -> (&'static str, u8) {
+pub fn load(random: &mut Random, pool: &Pool) -> Met {
     let (mut slot, held) = any_slot(random, pool);
     if !random.one_in(8) {
         slot.state = 0;
@@ -187,10 +193,10 @@ pub fn load(random: &mut Random, pool: &Pool) -> (&'static str, u8) {
         _ => case.slot,
     };
     case.same(&reply, &expected, accepted);
-    ("load", reply.refused)
+    case.met("load", reply.refused)
 }
 
-pub fn publish(random: &mut Random, pool: &Pool) -> (&'static str, u8) {
+pub fn publish(random: &mut Random, pool: &Pool) -> Met {
     let case = any(random, pool);
     let key = &fitting(random, pool, &case).key;
     let (out, work) = (awkward(random, key.public_length()), awkward(random, key.work_length()));
@@ -204,10 +210,10 @@ pub fn publish(random: &mut Random, pool: &Pool) -> (&'static str, u8) {
         0 | 23 => work.free(case.held.key.work_length()),
         _ => work.same(),
     }
-    ("publish", reply.refused)
+    case.met("publish", reply.refused)
 }
 
-pub fn open(random: &mut Random, pool: &Pool) -> (&'static str, u8) {
+pub fn open(random: &mut Random, pool: &Pool) -> Met {
     let case = any(random, pool);
     let held = fitting(random, pool, &case);
     let mut row = capsule(random, &held);
@@ -223,7 +229,7 @@ pub fn open(random: &mut Random, pool: &Pool) -> (&'static str, u8) {
     case.same(&reply, &expected, case.slot);
     out.written(&expected.written);
     capsule.same();
-    ("open", reply.refused)
+    case.met("open", reply.refused)
 }
 
 /// Some capsules back to back, the last of any length.
@@ -237,7 +243,7 @@ fn capsules(random: &mut Random, held: &Held) -> Vec<u8> {
     rows
 }
 
-pub fn report(random: &mut Random, pool: &Pool) -> (&'static str, u8) {
+pub fn report(random: &mut Random, pool: &Pool) -> Met {
     let case = any(random, pool);
     let held = fitting(random, pool, &case);
     let rows = capsules(random, &held);
@@ -253,10 +259,10 @@ pub fn report(random: &mut Random, pool: &Pool) -> (&'static str, u8) {
     assert_eq!(reported.counts, expected::counts(&expected.written), "{:?}", expected.written);
     records.written(&expected.written);
     capsules.same();
-    ("report", reported.refused)
+    case.met("report", reported.refused)
 }
 
-pub fn session(random: &mut Random, pool: &Pool) -> (&'static str, u8) {
+pub fn session(random: &mut Random, pool: &Pool) -> Met {
     let case = any(random, pool);
     let held = fitting(random, pool, &case);
     let mut row = capsule(random, &held);
@@ -279,10 +285,10 @@ pub fn session(random: &mut Random, pool: &Pool) -> (&'static str, u8) {
     assert_eq!(derived.key, key, "{:02x?} {lent:02x?} {:?}", capsule.content(), case.held.key);
     capsule.same();
     secret.same();
-    ("session", derived.refused)
+    case.met("session", derived.refused)
 }
 
-pub fn read(random: &mut Random, pool: &Pool) -> (&'static str, u8) {
+pub fn read(random: &mut Random, pool: &Pool) -> Met {
     let case = any(random, pool);
     let held = fitting(random, pool, &case);
     let mut row = word(random, &held);
@@ -298,13 +304,13 @@ pub fn read(random: &mut Random, pool: &Pool) -> (&'static str, u8) {
     case.same(&reply, &expected, case.slot);
     out.written(&expected.written);
     word.same();
-    ("read", reply.refused)
+    case.met("read", reply.refused)
 }
 
-pub fn drop(random: &mut Random, pool: &Pool) -> (&'static str, u8) {
+pub fn drop(random: &mut Random, pool: &Pool) -> Met {
     let case = any(random, pool);
     let reply = unsafe { raw::shearcotter_drop(case.station, case.name) };
     let expected = case.expected(|state, _| Outcome { number: expected::drop(state), ..Outcome::default() });
     case.same(&reply, &expected, empty());
-    ("drop", reply.refused)
+    case.met("drop", reply.refused)
 }

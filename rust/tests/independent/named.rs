@@ -17,6 +17,8 @@ pub struct Drawing<'a> {
     pub keys: &'a [Held],
     /// One of so many names is neither A nor B.
     pub unknown: usize,
+    /// The numbers of damaged key files.
+    pub damages: &'a [u8],
     /// The most bytes of a key file.
     pub longest: usize,
 }
@@ -101,8 +103,8 @@ impl Drawing<'_> {
             return key.file();
         }
         loop {
-            let number = *self.random.pick(&[1, 2, 3, 4, 5, 7]);
-            let file = self.random.damaged(key, number);
+            let number = *self.random.pick(self.damages);
+            let file = self.random.damaged(key, if number == 6 && key.t == 1 { 7 } else { number });
             if file.len() <= self.longest {
                 return file;
             }

@@ -2,6 +2,7 @@
 
 mod child;
 mod freed;
+mod least;
 mod parts;
 mod stack;
 
