@@ -1,6 +1,6 @@
 -- What is left of a line from place i on: the steps of the loops. Assumes nothing.
 use mathlib.Core.Path.{_≡_, refl, sym, ap, _∙_}
-use mathlib.Core.Bool.{Bool, true, false, cond, _&&_}
+use mathlib.Core.Bool.{Bool, cond}
 use mathlib.Core.List.{List, [], _∷_}
 use Prim.Native.Nat.{ℕ, zero, suc, _+_, _-_, _*_, _%_, _≤_, _<_}
 use native.Mathlib.Nat.{add-assoc}
@@ -10,12 +10,11 @@ use borrow.Author.Tests.{eq-eqb, ne-eqb, lt-ltb, le-ltb}
 use lib.Dec.{eqb, ltb}
 use lib.ListN.{length, drop, getD, length-drop, drop-of-length-le}
 use lib.Seq.{drop-cons}
-use Rattle.bits.specs.Bits.{from, every}
-use Rattle.vectors.specs.Lines.{endOf, startOf, digitOf, hexBytes, decimalFrom, withByte, withBytes, byteOrFiller, holdsOf}
+use Rattle.vectors.specs.Lines.{endOf, startOf, digitOf, hexBytes, decimalFrom, withByte, withBytes}
 use Rattle.vectors.specs.declared.line.Bytes.{Bytes}
 
 -- the byte at i, then the rest
-next : (l : List ℕ) (i : ℕ) → i < length l → drop i l ≡ getD l i 0 ∷ drop (i + 1) l
+pub next : (l : List ℕ) (i : ℕ) → i < length l → drop i l ≡ getD l i 0 ∷ drop (i + 1) l
 next l i h = drop-cons l i 0 h ∙ ap (λ (k : ℕ). getD l i 0 ∷ drop k l) (sym (add-one i))
 
 -- the newline
@@ -114,34 +113,3 @@ module _ (l : List ℕ) (i x : ℕ) where
       ap (decimalFrom x) (next l i h)
       ∙ ap (λ (b : Bool). cond b x (decimalFrom (x % 6000 * 10 + digitOf (getD l i 0)) (drop (i + 1) l))) (ne-eqb (getD l i 0) 32 e)
       ∙ ap (λ (y : ℕ). decimalFrom (x % 6000 * 10 + y) (drop (i + 1) l)) (sym f)
-
--- the places from i on
-unfoldable pub holdsFrom : List ℕ → Bytes → ℕ → Bool
-holdsFrom buffer b i = every (λ j. eqb (getD buffer j 0) (byteOrFiller b j)) (from i (64 - i))
-
-module _ (buffer : List ℕ) (b : Bytes) where
-  pub holds-all : holdsFrom buffer b 0 ≡ holdsOf buffer b
-  unfolding holdsFrom holdsOf
-  holds-all = refl
-
-  module _ (i : ℕ) where
-    pub holds-end : 64 ≤ i → holdsFrom buffer b i ≡ true
-    unfolding holdsFrom every from
-    holds-end h =
-        let e : 64 - i ≡ 0 = omega arith in
-        ap (λ (k : ℕ). every (λ j. eqb (getD buffer j 0) (byteOrFiller b j)) (from i k)) e
-
-    split : i < 64 → holdsFrom buffer b i ≡ eqb (getD buffer i 0) (byteOrFiller b i) && holdsFrom buffer b (i + 1)
-    unfolding holdsFrom every from
-    split h =
-        let e : 64 - i ≡ suc (64 - (i + 1)) = omega arith in
-        ap (λ (k : ℕ). every (λ j. eqb (getD buffer j 0) (byteOrFiller b j)) (from i k)) e
-        ∙ ap (λ (k : ℕ). eqb (getD buffer i 0) (byteOrFiller b i) && every (λ j. eqb (getD buffer j 0) (byteOrFiller b j)) (from k (64 - (i + 1)))) (sym (add-one i))
-
-    module _ {x : ℕ} (f : x ≡ byteOrFiller b i) (h : i < 64) where
-      pub holds-next : getD buffer i 0 ≡ x → holdsFrom buffer b i ≡ holdsFrom buffer b (i + 1)
-      holds-next e = split h ∙ ap (λ (t : Bool). t && holdsFrom buffer b (i + 1)) (eq-eqb (getD buffer i 0) (byteOrFiller b i) (e ∙ f))
-
-      pub holds-stop : (getD buffer i 0 ≡ x → ⊥) → holdsFrom buffer b i ≡ false
-      holds-stop e =
-          split h ∙ ap (λ (t : Bool). t && holdsFrom buffer b (i + 1)) (ne-eqb (getD buffer i 0) (byteOrFiller b i) (λ z. e (z ∙ sym f)))

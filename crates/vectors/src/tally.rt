@@ -5,11 +5,11 @@ ghost use lib.ListN.{getD};
 ghost use Rattle.vectors.specs.Tallies.{noCases, countedOf};
 
 // The kinds at most.
-const KINDS: usize = 8;
+const KINDS: usize = 16;
 
 pub struct Tally {
-    pub agree: [u64; 8],
-    pub differ: [u64; 8],
+    pub agree: [u64; 16],
+    pub differ: [u64; 16],
 }
 
 // No case yet.
@@ -37,7 +37,7 @@ pub fn counted(mut t: Tally, kind: usize, agrees: bool) -> Tally
 
 // The agreements of a kind.
 pub fn agreements(t: Tally, kind: usize) -> u64
-    ensures { λ r. ⌜ r ≡ getD (t .agree) (kind % 8) 0 ⌝ }
+    ensures { λ r. ⌜ r ≡ getD (t .agree) (kind % 16) 0 ⌝ }
 {
     let k = kind % KINDS;
     t.agree[k]
@@ -45,7 +45,7 @@ pub fn agreements(t: Tally, kind: usize) -> u64
 
 // The differences of a kind.
 pub fn differences(t: Tally, kind: usize) -> u64
-    ensures { λ r. ⌜ r ≡ getD (t .differ) (kind % 8) 0 ⌝ }
+    ensures { λ r. ⌜ r ≡ getD (t .differ) (kind % 16) 0 ⌝ }
 {
     let k = kind % KINDS;
     t.differ[k]

@@ -1,21 +1,23 @@
 -- The invariant: the places from i on decide. Assumes nothing.
-use mathlib.Core.Path.{_≡_, sym, _∙_}
+use mathlib.Core.Path.{_≡_, refl, sym, _∙_}
 use Prim.Native.Nat.{_-_, _≤_}
 use native.Mathlib.Omega.{arith}
 use borrow.Author.Needs.{needs}
-use Rattle.vectors.specs.Lines.{holdsOf}
-use Rattle.vectors.proofs.Fields.{holdsFrom, holds-all, holds-end, holds-next, holds-stop}
+use lib.ListN.{getD}
+use Rattle.vectors.specs.Lines.{byteOrFiller, holdsOf}
+use Rattle.vectors.proofs.Places.{sameFrom, same-end, same-next, same-stop}
 use Rattle.vectors.proofs.line.holds.Statement.{statement}
 use Rattle.vectors.proofs.line.holds.Tie as tie
 
 abbrev Inv-loop : tie.InvT-loop
-Inv-loop buffer b i₀ i = (i ≤ 64) × (holdsFrom buffer b i ≡ holdsOf buffer b)
+Inv-loop buffer b i₀ i = (i ≤ 64) × (sameFrom (λ j. getD buffer j 0) (byteOrFiller b) 64 i ≡ holdsOf buffer b)
 
 abbrev μ-loop : tie.MeasureT-loop
 μ-loop buffer b i₀ i = 64 - i
 
 loop-holds : tie.Need-loop-holds Inv-loop μ-loop
-loop-holds c = let a = c .args in (omega arith, holds-all (a .buffer .now) (a .b))
+unfolding sameFrom holdsOf
+loop-holds c = (omega arith, refl)
 
 element-copy-out-if1 : tie.Need-element-copy-out-if1 Inv-loop μ-loop
 element-copy-out-if1 c = search needs
@@ -27,7 +29,7 @@ returns : tie.Need-returns Inv-loop μ-loop
 returns c =
     let l = c .before .before .before .before .loop in
     let a = c .before .before .before .before .before .args in
-    sym (holds-stop (a .buffer .now) (a .b) (l .i) (c .before .byte-or-filler .ensures) (omega arith) (c .if1 .taken)) ∙ l .inv .1
+    sym (same-stop (λ j. getD (a .buffer .now) j 0) (byteOrFiller (a .b)) 64 (l .i) (c .before .byte-or-filler .ensures) (omega arith) (c .if1 .taken)) ∙ l .inv .1
 
 add-i : tie.Need-add-i Inv-loop μ-loop
 add-i c = search needs
@@ -39,13 +41,13 @@ loop-again : tie.Need-loop-again Inv-loop μ-loop
 loop-again c =
     let l = c .before .before .before .before .loop in
     let a = c .before .before .before .before .before .args in
-    (omega arith, sym (holds-next (a .buffer .now) (a .b) (l .i) (c .before .byte-or-filler .ensures) (omega arith) (c .if1 .left)) ∙ l .inv .1)
+    (omega arith, sym (same-next (λ j. getD (a .buffer .now) j 0) (byteOrFiller (a .b)) 64 (l .i) (c .before .byte-or-filler .ensures) (omega arith) (c .if1 .left)) ∙ l .inv .1)
 
 returns-2 : tie.Need-returns-2 Inv-loop μ-loop
 returns-2 c =
     let l = c .before .loop in
     let a = c .before .before .args in
-    sym (holds-end (a .buffer .now) (a .b) (l .i) (c .loop-test .left)) ∙ l .inv .1
+    sym (same-end (λ j. getD (a .buffer .now) j 0) (byteOrFiller (a .b)) 64 (l .i) (c .loop-test .left)) ∙ l .inv .1
 
 pub holds-spec : {M : Type 1} → statement M
 holds-spec =
