@@ -1,9 +1,10 @@
 // Replays lists of calls on the station and counts agreements and differences: those of data/calls.txt as calls that name A, while B
 // is empty and while B holds a published key, and those of data/named.txt, which name A, B or neither.
 // `list K` starts a list. A call is `load FILE`, `publish OUTLEN WORKLEN`, `open CAPSULE OUTLEN`, `read WORD OUTLEN` or `drop`, in
-// named.txt behind its name in decimal, then `->` and `ok`, `ok T`, `ok PATTERN ONES` or `refused NUMBER`. `end FILE PUBLISHED` says
-// the file of A's key and 1 where it is published, `- 0` that there is none; in named.txt B's follow, else B is as at the list's
-// start. Bytes are in hexadecimal, and `-` is none.
+// named.txt behind its name in decimal and also `report CAPSULES OUTLEN` or `session CAPSULE SECRET`, then `->` and `ok`, `ok T`,
+// `ok PATTERN ONES`, `ok RECORDS`, `ok KEY` or `refused NUMBER`. `end FILE PUBLISHED` says the file of A's key and 1 where it is
+// published, `- 0` that there is none; in named.txt B's follow, else B is as at the list's start. Bytes are in hexadecimal, and `-`
+// is none.
 use key::kept::Key;
 use libc::STDOUT_FILENO;
 use slot::Slot;
@@ -24,6 +25,7 @@ use vectors::tally::Tally;
 use vectors::tally::agreements;
 use vectors::tally::counted;
 use vectors::tally::differences;
+use vectors::values::counts_hold;
 
 // The bytes of a file at most.
 const TEXT: usize = 300000;
@@ -39,11 +41,18 @@ const OPEN: usize = 3;
 
 const READ: usize = 4;
 
-const DROP: usize = 5;
+const REPORT: usize = 5;
 
-const END: usize = 6;
+const SESSION: usize = 6;
 
-const LIST: usize = 7;
+const DROP: usize = 7;
+
+const END: usize = 8;
+
+const LIST: usize = 9;
+
+// The bytes of a session key.
+const KEY_BYTES: usize = 32;
 
 // The station after a call, and whether the call did what its line says.
 struct Outcome {
@@ -140,6 +149,46 @@ fn reads(station: Station, name: u8, line: &[u8]) -> Outcome {
     outcome_of(r, line, 4, holds(&out, output(line, 4)))
 }
 
+// The records are the line's, and the counts are those of the line's records: zeros where it says a refusal.
+fn reports(station: Station, name: u8, line: &[u8]) -> Outcome {
+    let mut out = [FILLER; 64];
+    let n = size(&out, count(line, 2));
+    let b = bytes_of(line, 1);
+    let capsules = b.bytes;
+    let l = size(&capsules, b.count);
+    let r = station.report(name, &capsules[..l], &mut out[..n]);
+    let after = r.station;
+    let counts = r.counts;
+    let wanted = output(line, 4);
+    let records = wanted.bytes;
+    let w = size(&records, wanted.count);
+    Outcome {
+        station: after,
+        agrees: r.refused as u16 == refused(line, 4)
+            && holds(&out, wanted)
+            && counts_hold(&counts, &records[..w]),
+    }
+}
+
+// The key is the line's, and zeros where it says a refusal.
+fn derives(station: Station, name: u8, line: &[u8]) -> Outcome {
+    let c = bytes_of(line, 1);
+    let capsule = c.bytes;
+    let n = size(&capsule, c.count);
+    let s = bytes_of(line, 2);
+    let secret = s.bytes;
+    let l = size(&secret, s.count);
+    let r = station.session(name, &capsule[..n], &secret[..l]);
+    let after = r.station;
+    let key = r.key;
+    let wanted = output(line, 4).bytes;
+    let w = size(&wanted, KEY_BYTES);
+    Outcome {
+        station: after,
+        agrees: r.refused as u16 == refused(line, 4) && check::same(&key, &wanted[..w]),
+    }
+}
+
 fn same(a: &[u16], b: &[u16]) -> bool {
     if a.len() != b.len() {
         return false;
@@ -207,7 +256,13 @@ fn call(s: Replay, name: u8, line: &[u8]) -> Replay {
         b'l' => called(s, LOAD, loads(station, name, line)),
         b'p' => called(s, PUBLISH, publishes(station, name, line)),
         b'o' => called(s, OPEN, opens(station, name, line)),
-        b'r' => called(s, READ, reads(station, name, line)),
+        b's' => called(s, SESSION, derives(station, name, line)),
+        b'r' => {
+            if letter(line, 2) == b'p' {
+                return called(s, REPORT, reports(station, name, line));
+            }
+            called(s, READ, reads(station, name, line))
+        }
         _ => called(s, DROP, outcome_of(station.drop(name), line, 2, true)),
     }
 }
@@ -287,6 +342,8 @@ fn print_all(t: Tally, heading: &[u8]) {
     print(t, PUBLISH, b"publish: ");
     print(t, OPEN, b"open: ");
     print(t, READ, b"read: ");
+    print(t, REPORT, b"report: ");
+    print(t, SESSION, b"session: ");
     print(t, DROP, b"drop: ");
     print(t, END, b"ends: ");
 }

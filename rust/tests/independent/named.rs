@@ -19,7 +19,7 @@ pub struct Drawing<'a> {
     pub unknown: usize,
     /// The numbers of damaged key files.
     pub damages: &'a [u8],
-    /// The most bytes of a key file.
+    /// The most bytes of a key file or a secret.
     pub longest: usize,
 }
 
@@ -89,7 +89,7 @@ impl Drawing<'_> {
                 let needed = capsules.len().div_ceil(key.capsule_bits().div_ceil(8));
                 Call::Report { capsules, out: self.buffer(needed) }
             }
-            "session" => Call::Session { capsule: self.capsule(held), secret: self.random.secret(key.n) },
+            "session" => Call::Session { capsule: self.capsule(held), secret: self.secret(key.n) },
             "drop" => Call::Drop,
             other => panic!("no such call: {other}"),
         }
@@ -107,6 +107,16 @@ impl Drawing<'_> {
             let file = self.random.damaged(key, if number == 6 && key.t == 1 { 7 } else { number });
             if file.len() <= self.longest {
                 return file;
+            }
+        }
+    }
+
+    /// A secret for patterns of n bits, mostly.
+    fn secret(&mut self, n: usize) -> Vec<u8> {
+        loop {
+            let secret = self.random.secret(n);
+            if secret.len() <= self.longest {
+                return secret;
             }
         }
     }

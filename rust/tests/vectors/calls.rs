@@ -1,43 +1,52 @@
 //! calls.txt: lists of calls for one recipient, with the ledger at the end, under each name; the same with a report or a session
 //! behind each call.
 
-use shearcotter::raw::{Reply, Slot, Station, A, B};
+use shearcotter::raw::{Slot, Station, A, B};
 
 use super::expected;
 use crate::independent::held::Held;
 use crate::independent::key::Key;
+use crate::independent::recipients::{Answer, Call, Named};
 use crate::independent::{calls, random::Random};
-use crate::support::raw_calls::{
-    drop, empty, fresh, held, holding, load, open, publish, read, report, session, slot, with,
-};
+use crate::support::named::make;
+use crate::support::raw_calls::{empty, fresh, held, holding, report, session, slot, with};
 use crate::support::{bytes, only_written, vectors::cases, UNTOUCHED};
 
-/// The reply, and the output's bytes.
-fn call(station: Station, name: u8, case: &[String]) -> (Reply, Vec<u8>) {
-    let length = |i: usize| case[i].parse().expect("a length");
-    let buffer = |i: usize| vec![UNTOUCHED; length(i)];
+/// The call that a line says before its arrow; outputs and workspaces are untouched.
+fn call(case: &[String]) -> Call {
+    let row = |i: usize| bytes(&case[i]);
+    let buffer = |i: usize| vec![UNTOUCHED; case[i].parse().expect("a length")];
     match case[0].as_str() {
-        "load" => (load(station, name, &bytes(&case[1])), vec![]),
-        "drop" => (drop(station, name), vec![]),
-        "publish" => {
-            let (mut out, mut work) = (buffer(1), buffer(2));
-            let reply = publish(station, name, &mut out, &mut work);
-            let free = if matches!(reply.refused, 0 | 23) { held(slot(&station, name)).work_length() } else { 0 };
-            assert!(only_written(&work[free..], &[]), "{case:?}");
-            (reply, out)
-        }
-        "open" => {
-            let mut out = buffer(2);
-            let reply = open(station, name, &bytes(&case[1]), &mut out);
-            (reply, out)
-        }
-        "read" => {
-            let mut out = buffer(2);
-            let reply = read(station, name, &bytes(&case[1]), &mut out);
-            (reply, out)
-        }
+        "load" => Call::Load { file: row(1) },
+        "publish" => Call::Publish { out: buffer(1), work: buffer(2) },
+        "open" => Call::Open { capsule: row(1), out: buffer(2) },
+        "read" => Call::Read { word: row(1), out: buffer(2) },
+        "report" => Call::Report { capsules: row(1), out: buffer(2) },
+        "session" => Call::Session { capsule: row(1), secret: row(2) },
+        "drop" => Call::Drop,
         other => panic!("no such call: {other}"),
     }
+}
+
+/// All that the call answers by what the line says behind its arrow; a report's counts are those of the line's records.
+fn answer(call: &Call, case: &[String]) -> Answer {
+    let fields = match expected(case) {
+        Ok(fields) => fields,
+        Err(number) => return Answer::refused(number, call),
+    };
+    let said = fields.first().map_or(vec![], |field| bytes(field));
+    let ones = fields.get(1).map_or(0, |ones| ones.parse().expect("a number"));
+    let mut answer = Answer { ones, ..Answer::refused(0, call) };
+    match call {
+        Call::Session { .. } => answer.key = said.try_into().expect("32 bytes"),
+        _ => {
+            answer.out[..said.len()].copy_from_slice(&said);
+            if let Call::Report { .. } = call {
+                answer.counts = calls::counts(&said);
+            }
+        }
+    }
+    answer
 }
 
 /// What the lines so far say of the key: the lists were made before request L5.
@@ -79,24 +88,21 @@ impl Ledger {
     }
 }
 
+/// Makes the call of a line: the answer is what the line says, every other byte of the buffers is untouched, and the station stays
+/// unless a load, publish or drop is accepted.
 pub fn run(station: Station, name: u8, case: &[String]) -> Station {
     let arrow = case.iter().position(|field| field == "->").expect("an arrow");
-    let (reply, out) = call(station, name, &case[..arrow]);
-    let mut written = vec![];
-    match expected(&case[arrow + 1..]) {
-        Ok(fields) => {
-            assert_eq!(reply.refused, 0, "{case:?}");
-            written = fields.first().map_or(vec![], |field| bytes(field));
-            let ones = fields.get(1).map_or(0, |ones| ones.parse().expect("a number"));
-            assert_eq!(reply.ones, ones, "{case:?}");
-        }
-        Err(number) => {
-            assert_eq!(reply.refused, number, "{case:?}");
-            assert!(reply.station == station, "a refusal changed the station: {case:?}");
-        }
-    }
-    assert!(only_written(&out, &written), "{out:02x?} is not {written:02x?}: {case:?}");
-    reply.station
+    let named = Named { name, call: call(&case[..arrow]) };
+    let made = make(station, &named);
+    assert_eq!(made.answer, answer(&named.call, &case[arrow + 1..]), "{case:?}");
+    let free = match (&named.call, made.answer.number) {
+        (Call::Publish { .. }, 0 | 23) => held(slot(&station, name)).work_length(),
+        _ => 0,
+    };
+    assert!(only_written(&made.work[free..], &[]), "{case:?}");
+    let moves = matches!(named.call, Call::Load { .. } | Call::Publish { .. } | Call::Drop);
+    assert!(made.station == station || moves && made.answer.number == 0, "the station changed: {case:?}");
+    made.station
 }
 
 /// Runs all lists for a recipient, with something done behind each call; how many lists and calls, and how many calls were refused

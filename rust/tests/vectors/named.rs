@@ -1,11 +1,12 @@
 //! named.txt: lists of calls for both recipients, written by the second implementation alone. The file is what that says, and
 //! the calls answer so.
 
+use std::collections::BTreeSet;
 use std::fmt::Write;
 use std::fs;
 use std::path::Path;
 
-use shearcotter::raw::{Slot, Station, B};
+use shearcotter::raw::{Slot, Station};
 
 use super::calls::run;
 use super::number;
@@ -15,14 +16,14 @@ use crate::independent::key::Key;
 use crate::independent::named::Drawing;
 use crate::independent::random::Random;
 use crate::independent::recipients::{Answer, Call, Entry, Ledger, Named, NAMES};
-use crate::support::raw_calls::{empty, fresh, holding};
+use crate::support::raw_calls::{empty, fresh, holding, open};
 use crate::support::{bytes, vectors::cases_of};
 
 /// The file that the program call_vectors reads.
 const FILE: &str = include_str!("../../../crates/call_vectors/data/named.txt");
 const NAME: &str = concat!(env!("CARGO_MANIFEST_DIR"), "/../crates/call_vectors/data/named.txt");
 
-/// The most bytes of a key file, and of all: what that program has room for.
+/// The most bytes of a key file or a secret, and of all: what that program has room for.
 const LONGEST: usize = 60;
 const MOST: usize = 120_000;
 
@@ -30,9 +31,9 @@ const MOST: usize = 120_000;
 const DAMAGES: [u8; 6] = [1, 2, 3, 4, 5, 7];
 
 /// The calls, and how often they are drawn.
-const CALLS: [&str; 15] = [
+const CALLS: [&str; 20] = [
     "load", "load", "load", "publish", "publish", "publish", "publish", "open", "open", "open", "open", "read", "read",
-    "read", "drop",
+    "read", "report", "report", "session", "session", "session", "drop",
 ];
 
 /// Keys with t up to 3 and n up to 16: two of each shape with a public key, one that may have none, and reading keys.
@@ -61,9 +62,11 @@ fn lent(call: &Call) -> String {
     match call {
         Call::Load { file } => format!(" {}", hex(file)),
         Call::Publish { out, work } => format!(" {} {}", out.len(), work.len()),
-        Call::Open { capsule: row, out } | Call::Read { word: row, out } => format!(" {} {}", hex(row), out.len()),
+        Call::Open { capsule: row, out } | Call::Read { word: row, out } | Call::Report { capsules: row, out } => {
+            format!(" {} {}", hex(row), out.len())
+        }
+        Call::Session { capsule, secret } => format!(" {} {}", hex(capsule), hex(secret)),
         Call::Drop => String::new(),
-        Call::Report { .. } | Call::Session { .. } => panic!("no such line: {}", call.kind()),
     }
 }
 
@@ -74,6 +77,11 @@ fn said(call: &Call, answer: &Answer, key: Option<&Key>) -> String {
         (0, Call::Open { .. } | Call::Read { .. }, Some(key)) => {
             format!("ok {} {}", hex(&answer.out[..key.n.div_ceil(8)]), answer.ones)
         }
+        (0, Call::Report { capsules, .. }, Some(key)) => {
+            let records = capsules.len().div_ceil(key.capsule_bits().div_ceil(8));
+            format!("ok {}", hex(&answer.out[..records]))
+        }
+        (0, Call::Session { .. }, _) => format!("ok {}", hex(&answer.key)),
         (0, _, _) => "ok".to_owned(),
         (number, _, _) => format!("refused {number}"),
     }
@@ -100,11 +108,11 @@ fn list(text: &mut String, number: usize, calls: &[Named]) {
     writeln!(text, "end{}", ends.concat()).expect("a line");
 }
 
-/// All lists: 60 of 20 calls, and one of 300.
+/// All lists: 80 of 20 calls, and one of 300.
 fn text() -> String {
     let mut random = Random::new(606);
     let (keys, mut text) = (keys(&mut random), String::new());
-    for (number, length) in [20; 60].into_iter().chain([300]).enumerate() {
+    for (number, length) in [20; 80].into_iter().chain([300]).enumerate() {
         let mut drawing =
             Drawing { random: &mut random, keys: &keys, unknown: 14, damages: &DAMAGES, longest: LONGEST };
         list(&mut text, number, &drawing.list(length, &CALLS));
@@ -137,9 +145,27 @@ fn slot(file: &str, published: &str) -> Slot {
     }
 }
 
+/// A name, a call or what a call is about, and a number that was met there.
+type Met = BTreeSet<(u8, String, u8)>;
+
+/// Adds what a line meets: its number, a report's records, and what open answers for the capsule of a session key.
+fn meet(met: &mut Met, station: Station, name: u8, case: &[String]) {
+    let arrow = case.iter().position(|part| part == "->").expect("an arrow");
+    let (call, said) = (case[0].as_str(), &case[arrow + 1..]);
+    met.insert((name, call.to_owned(), number(said)));
+    match (call, said[0].as_str()) {
+        ("report", "ok") => met.extend(bytes(&said[1]).into_iter().map(|record| (name, "record".to_owned(), record))),
+        ("session", "ok") => {
+            let opened = open(station, name, &bytes(&case[1]), &mut [0; 2]).refused;
+            met.insert((name, "capsule of a session key".to_owned(), opened));
+        }
+        _ => {}
+    }
+}
+
 #[test]
 fn the_calls_answer_so() {
-    let (mut station, mut lists, mut numbers) = (fresh(), 0, vec![]);
+    let (mut station, mut lists, mut calls, mut met) = (fresh(), 0, 0, Met::new());
     for case in cases_of(FILE) {
         match case[0].as_str() {
             "list" => {
@@ -151,32 +177,36 @@ fn the_calls_answer_so() {
                 assert!(station == Station { a, b }, "{case:?}");
             }
             name => {
-                station = run(station, name.parse().expect("a name"), &case[1..]);
-                let arrow = case.iter().position(|part| part == "->").expect("an arrow");
-                numbers.push((name.to_owned(), case[1].clone(), number(&case[arrow + 1..])));
+                let name = name.parse().expect("a name");
+                meet(&mut met, station, name, &case[1..]);
+                station = run(station, name, &case[1..]);
+                calls += 1;
             }
         }
     }
-    assert_eq!((lists, numbers.len()), (61, 1500));
-    all_met(&numbers);
+    assert_eq!((lists, calls), (81, 1900));
+    all_met(&met);
 }
 
-/// Every number of every call was met under both names, and 35 under others alone. Reading's 9 under B is met in lists.rs.
-fn all_met(numbers: &[(String, String, u8)]) {
-    let named = |name: &str| NAMES.iter().any(|known| known.to_string() == name);
-    for (call, expected) in [
+/// Every number of every call, and every record, was met under both names, and 35 by every call under others alone.
+fn all_met(met: &Met) {
+    for (what, expected) in [
         ("load", &[0, 22, 1, 2, 3, 4, 5, 7][..]),
         ("publish", &[0, 21, 34, 10, 11, 23]),
         ("open", &[0, 21, 34, 24, 8, 9, 10, 13]),
         ("read", &[0, 21, 8, 9, 10, 14]),
+        ("report", &[0, 21, 34, 24, 31]),
+        ("record", &[0, 8, 9, 13]),
+        ("session", &[0, 21, 34, 24, 8, 9, 33]),
+        ("capsule of a session key", &[0, 13]),
         ("drop", &[0, 21]),
     ] {
-        let of_call = || numbers.iter().filter(|met| met.1 == call);
         for (name, number) in NAMES.iter().flat_map(|name| expected.iter().map(move |number| (*name, *number))) {
-            let met = of_call().any(|met| met.0 == name.to_string() && met.2 == number);
-            assert!(met || (name, call, number) == (B, "read", 9), "{call} of {name} never answers {number}");
+            assert!(met.contains(&(name, what.to_owned(), number)), "{what} of {name}: never {number}");
         }
-        assert!(of_call().any(|met| met.2 == 35), "{call} never answers 35");
-        assert!(of_call().all(|met| named(&met.0) != (met.2 == 35)), "{call}: 35 is for other names");
     }
+    let unknown = met.iter().filter(|(name, _, number)| !NAMES.contains(name) || *number == 35);
+    assert!(unknown.clone().all(|(name, _, number)| !NAMES.contains(name) && *number == 35), "{met:?}");
+    let calls: BTreeSet<&String> = unknown.map(|(_, call, _)| call).collect();
+    assert_eq!(calls.len(), 7, "{calls:?} answer 35");
 }
