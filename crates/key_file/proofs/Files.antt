@@ -1,30 +1,40 @@
--- The number of a key file and what is kept of it. Assumes nothing.
+-- The number of a key file and the arrays of its key. Assumes nothing.
 use mathlib.Core.Path.{_≡_, refl, sym, ap, ap₂, _∙_, subst}
 use mathlib.Core.Bool.{Bool, true, false, not, _&&_}
 use mathlib.Core.List.{List, _++_}
-use Prim.Native.Nat.{ℕ, zero, suc, _+_, _*_, _≤_}
+use Prim.Native.Nat.{ℕ, zero, suc, _+_, _*_, _≤_, min}
+use native.Mathlib.Omega.{arith}
 use native.Mathlib.Decide.{ℕ-discrete}
 use lib.Dec.{eqb}
-use lib.ListN.{length, take, drop, getD}
-use lib.Seq.{take-append-seam}
+use lib.ListN.{length, take, drop, getD, replicate}
 use borrow.Author.Tests.{eq-eqb, ne-eqb}
-use Rattle.bits.specs.Bits.{over}
+use Rattle.bits.specs.Bits.{over, padded}
+use Rattle.bits.proofs.Padded.{over-zeros}
 use Rattle.field.specs.Numbers.{firstOf}
 use Rattle.field.specs.Field.{isWidth}
 use Rattle.field.proofs.Table.{Width}
 use Rattle.key.specs.Shapes.{inLimits}
 use Rattle.key.specs.Keys.{pair, elements, parse, conditions, fileConditions, keyNumber}
-use Rattle.key.specs.Kept.{parts, kept, sizesOf}
+use Rattle.key.specs.Kept.{parts, kept, keep, sizesOf}
 use Rattle.key.specs.Answers.{sizes, shapeAnswer}
 use Rattle.key.specs.declared.shape.ShapeAnswer.the-variants as answers
 use Rattle.key.specs.declared.shape.Sizes.{Sizes}
+use Rattle.key.specs.declared.kept.Key.{Key}
 use Rattle.key.proofs.Conditions.{head-width, head-length, head-limits, head-none, head-clear, first-take, number-faults, limits-fit}
 use Rattle.key.proofs.Parse.{length-elements}
-use Rattle.key_file.specs.Loaded.{loadedOf, writtenOf}
+use Rattle.key.proofs.Filled.{kept-keep}
+use Rattle.key_file.specs.Files.{fileShape, stored}
 
--- the start of a list that another is written over
-front : (l x : List ℕ) {n : ℕ} → length l ≡ n → take n (l ++ drop (length l) x) ≡ l
-front l x e = ap (λ (n : ℕ). take n (l ++ drop (length l) x)) (sym e) ∙ take-append-seam l (drop (length l) x)
+within : (n k : ℕ) → n ≤ k → min n k ≡ n
+within n k h = omega arith
+
+-- the first elements written over zeros
+pub stored-fill : (k : ℕ) (file : List ℕ) (at n : ℕ) {i : ℕ} → i ≡ min n k → elements file at i ++ drop i (replicate k 0) ≡ stored k file at n
+unfolding stored over
+stored-fill k file at n {i} e =
+    ap (λ (j : ℕ). elements file at i ++ drop j (replicate k 0)) (sym (length-elements file at i))
+    ∙ over-zeros k (elements file at i)
+    ∙ ap (λ (j : ℕ). padded k (elements file at j)) e
 
 -- the shape that a file says
 pub sizes-said : (file : List ℕ) {m n t : ℕ} → m ≡ getD file 0 0 → n ≡ pair file 1 → t ≡ pair file (3 + 2 * n)
@@ -119,55 +129,32 @@ module _ (file : List ℕ) where
         ∙ number-faults wrong k clear-width (clear .1) clear-limits
         ∙ ap firstOf conditions-of
 
-  -- the elements of the shape s that the file says, over the start of the lists x and y
-  module _ (s : Sizes) (e : s ≡ sizesOf (parse file)) (x y : List ℕ) where
-    pub support-over : elements file 3 (s .n) ++ drop (s .n) x ≡ over (parse file .support) x
-    unfolding over parse sizesOf
-    support-over =
-        ap (λ (s : Sizes). elements file 3 (s .n) ++ drop (s .n) x) e
-        ∙ ap (λ (n : ℕ). parse file .support ++ drop n x) (sym support-length)
+  -- the arrays of the shape s that the file says are those of its key
+  pub stored-key : head ≡ 0 → (s : Sizes) → s ≡ sizesOf (parse file)
+      → parts (s .m) (s .n) (s .t) (stored 8192 file 3 (s .n)) (stored 128 file (5 + 2 * s .n) (s .t)) ≡ keep (parse file)
+  unfolding stored keep parse sizesOf
+  stored-key z s e =
+      let fit = said-fit z s e in
+      ap₂ (λ (i j : ℕ). parts (s .m) (s .n) (s .t) (padded 8192 (elements file 3 i)) (padded 128 (elements file (5 + 2 * s .n) j))) (within _ _ (fit .0)) (within _ _ (fit .1))
+      ∙ ap (λ (s : Sizes). parts (s .m) (s .n) (s .t) (padded 8192 (elements file 3 (s .n))) (padded 128 (elements file (5 + 2 * s .n) (s .t)))) e
 
-    pub g-over : elements file (5 + 2 * s .n) (s .t) ++ drop (s .t) y ≡ over (parse file .g) y
-    unfolding over parse sizesOf
-    g-over =
-        ap (λ (s : Sizes). elements file (5 + 2 * s .n) (s .t) ++ drop (s .t) y) e
-        ∙ ap (λ (n : ℕ). parse file .g ++ drop n y) (sym g-length)
+  -- they decide
+  pub stored-decides : head ≡ 0 → (s : Sizes) → s ≡ sizesOf (parse file)
+      → keyNumber (kept (parts (s .m) (s .n) (s .t) (stored 8192 file 3 (s .n)) (stored 128 file (5 + 2 * s .n) (s .t)))) ≡ firstOf (fileConditions file)
+  stored-decides z s e =
+      ap (λ (k : Key). keyNumber (kept k)) (stored-key z s e) ∙ ap keyNumber (kept-keep (parse file) support-length g-length) ∙ key-decides z
 
-    -- they decide
-    pub over-decides : head ≡ 0 → keyNumber (kept (parts (s .m) (s .n) (s .t) (over (parse file .support) x) (over (parse file .g) y))) ≡ firstOf (fileConditions file)
-    unfolding over sizesOf kept
-    over-decides z =
-        let k = parse file in
-        ap (λ (s : Sizes). keyNumber (record {
-          m = s .m;
-          n = s .n;
-          t = s .t;
-          support = take (s .n) (k .support ++ drop (length (k .support)) x);
-          g = take (s .t) (k .g ++ drop (length (k .g)) y);
-        })) e
-        ∙ ap₂ (λ (a b : List ℕ). keyNumber (record { m = k .m; n = k .n; t = k .t; support = a; g = b })) (front (k .support) x support-length) (front (k .g) y g-length)
-        ∙ key-decides z
+  -- what load answers, by its numbers
+  pub shape-refused : {x : ℕ} → x ≡ firstOf (fileConditions file) → (x ≡ 0 → ⊥) → answers.Refused x ≡ fileShape file
+  unfolding fileShape shapeAnswer
+  shape-refused {x = zero} e n = absurd (n refl)
+  shape-refused {x = suc x} e n = ap (λ (i : ℕ). shapeAnswer i (parse file .m, parse file .n, parse file .t)) e
 
-  -- what load answers and writes, by its numbers
-  pub loaded-refused : {x : ℕ} → x ≡ firstOf (fileConditions file) → (x ≡ 0 → ⊥) → answers.Refused x ≡ loadedOf file
-  unfolding loadedOf shapeAnswer
-  loaded-refused {x = zero} e n = absurd (n refl)
-  loaded-refused {x = suc x} e n = ap (λ (i : ℕ). shapeAnswer i (parse file .m, parse file .n, parse file .t)) e
+  pub shape-said : {s : Sizes} → s ≡ sizesOf (parse file) → firstOf (fileConditions file) ≡ 0 → answers.Sizes s ≡ fileShape file
+  unfolding fileShape shapeAnswer sizes sizesOf
+  shape-said q z = ap (λ (s : Sizes). answers.Sizes s) q ∙ ap (λ (i : ℕ). shapeAnswer i (parse file .m, parse file .n, parse file .t)) (sym z)
 
-  pub loaded-sizes : {s : Sizes} → s ≡ sizesOf (parse file) → firstOf (fileConditions file) ≡ 0 → answers.Sizes s ≡ loadedOf file
-  unfolding loadedOf shapeAnswer sizes sizesOf
-  loaded-sizes q z = ap (λ (s : Sizes). answers.Sizes s) q ∙ ap (λ (i : ℕ). shapeAnswer i (parse file .m, parse file .n, parse file .t)) (sym z)
-
-  pub read-none : (firstOf (fileConditions file) ≡ 0 → ⊥) → (x : List ℕ) → (x ≡ over (writtenOf file .support) x) × (x ≡ over (writtenOf file .g) x)
-  unfolding writtenOf over
-  read-none n x = rw (ne-eqb (firstOf (fileConditions file)) 0 n) (refl, refl)
-
-  -- an accepted file is read whole
-  pub read-accepted : firstOf (fileConditions file) ≡ 0 → writtenOf file ≡ parse file
-  unfolding writtenOf
-  read-accepted z = rw (eq-eqb (firstOf (fileConditions file)) 0 z)
-
-  -- and its header is right
+  -- an accepted file's header is right
   pub head-accepted : firstOf (fileConditions file) ≡ 0 → head ≡ 0
   head-accepted z = elim (ℕ-discrete head 0) [
     | yes h ↦ h

@@ -1,4 +1,5 @@
 // Key files (document 01, 'Keys').
+use bits::smaller;
 use field::Verdict;
 use key::checks::check;
 use key::kept::Key;
@@ -9,12 +10,11 @@ ghost use mathlib.Core.Path.{_≡_};
 ghost use mathlib.Core.List.{_++_};
 ghost use lib.ListN.{length, take, drop, getD};
 ghost use Prim.Native.Nat.{_+_, _*_, _^_, _≤_, _<_};
-ghost use Rattle.bits.specs.Bits.{over};
 ghost use Rattle.field.specs.Numbers.{firstOf};
 ghost use Rattle.field.specs.Verdicts.{verdictOf};
 ghost use Rattle.key.specs.Keys.{pair as pairOf, elements, parse, fileConditions};
 ghost use Rattle.key.specs.Kept.{sizesOf};
-ghost use Rattle.key_file.specs.Loaded.{loadedOf, writtenOf};
+ghost use Rattle.key_file.specs.Files.{fileShape, stored};
 
 // The byte at i, and 0 past the end.
 fn byte(file: &[u8], i: usize) -> u8
@@ -75,22 +75,22 @@ fn fill(out: &mut [u16], file: &[u8], at: usize, n: usize)
     }
 }
 
-// The file's elements from the start of the arrays, for a right header.
-fn fill_key<'a, 'b>(
-    file: &[u8],
-    support: &'a mut [u16; Key::MOST_PLACES],
-    g: &'b mut [u16; Key::MOST_ERRORS],
-) -> Sizes
-    requires { ⌜ firstOf (take 3 (fileConditions (now file))) ≡ 0 ⌝ }
-    ensures { λ r. ⌜ r ≡ sizesOf (parse (now (file .entry))) ⌝ }
-    ensures { λ _. ⌜ now (support .exit) ≡ over (parse (now (file .entry)) .support) (now (support .entry)) ⌝ }
-    ensures { λ _. ⌜ now (g .exit) ≡ over (parse (now (file .entry)) .g) (now (g .entry)) ⌝ }
+// The array of n places: a file's elements from byte 3 on, as many as there is room for, and zeros past them.
+pub fn write_support(file: &[u8], n: u16, support: &mut [u16; Key::MOST_PLACES])
+    ensures { λ _. ⌜ now (support .exit) ≡ stored 8192 (now (file .entry)) 3 n ⌝ }
 {
-    let z = sizes(file);
-    let n = z.n as usize;
-    fill(&mut support[..], file, 3, n);
-    fill(&mut g[..], file, 5 + 2 * n, z.t as usize);
-    z
+    *support = [0; Key::MOST_PLACES];
+    let count = smaller(n as usize, Key::MOST_PLACES);
+    fill(&mut support[..], file, 3, count);
+}
+
+// The array of g likewise, t elements behind the n places and t itself.
+pub fn write_g(file: &[u8], n: u16, t: u16, g: &mut [u16; Key::MOST_ERRORS])
+    ensures { λ _. ⌜ now (g .exit) ≡ stored 128 (now (file .entry)) (5 + 2 * n) t ⌝ }
+{
+    *g = [0; Key::MOST_ERRORS];
+    let count = smaller(t as usize, Key::MOST_ERRORS);
+    fill(&mut g[..], file, 5 + 2 * (n as usize), count);
 }
 
 // Whether the file is that of a key: 1, 2, 3, 4, 5, 6 or 7 on refusal.
@@ -103,25 +103,19 @@ fn check_file(file: &[u8]) -> Verdict
     };
     let mut support = [0u16; Key::MOST_PLACES];
     let mut g = [0u16; Key::MOST_ERRORS];
-    let z = fill_key(file, &mut support, &mut g);
+    let z = sizes(file);
+    write_support(file, z.n, &mut support);
+    write_g(file, z.n, z.t, &mut g);
     check(z.m, z.n, z.t, &support, &g)
 }
 
-// The shape of a file's key, whose elements are written from the start of the arrays; 1, 2, 3, 4, 5, 6 or 7 on refusal,
-// which writes nothing.
-pub fn load<'a, 'b>(
-    file: &[u8],
-    support: &'a mut [u16; Key::MOST_PLACES],
-    g: &'b mut [u16; Key::MOST_ERRORS],
-) -> ShapeAnswer
-    ensures answer { λ r. ⌜ r ≡ loadedOf (now (file .entry)) ⌝ }
-    ensures support { λ _. ⌜ now (support .exit) ≡ over (writtenOf (now (file .entry)) .support) (now (support .entry)) ⌝ }
-    ensures g { λ _. ⌜ now (g .exit) ≡ over (writtenOf (now (file .entry)) .g) (now (g .entry)) ⌝ }
+// The shape of a file's key; 1, 2, 3, 4, 5, 6 or 7 on refusal.
+pub fn shape(file: &[u8]) -> ShapeAnswer
+    ensures { λ r. ⌜ r ≡ fileShape (now (file .entry)) ⌝ }
 {
     let x = check_file(file);
     let Verdict::Accepted = x else {
         return ShapeAnswer::Refused(field::number(x));
     };
-    let z = fill_key(file, support, g);
-    ShapeAnswer::Sizes(z)
+    ShapeAnswer::Sizes(sizes(file))
 }

@@ -1,34 +1,20 @@
 -- Replies that hold the caller's own station, or its keys. Assumes nothing.
-use Prim.Native.Nat.{ℕ, zero, suc}
-use mathlib.Core.Path.{_≡_, refl, sym, ap, _∙_}
+use Prim.Native.Nat.{ℕ}
+use mathlib.Core.Path.{_≡_, sym, ap, _∙_}
 use Rattle.ledger.specs.Publishing.{Publishing}
 use Rattle.ledger.specs.Questions.{Question}
 use Rattle.ledger.specs.Calls.{publish, ask}
-use Rattle.recipients.specs.Names.{NamedCall, named}
+use Rattle.recipients.specs.Names.{named}
 use Rattle.station.specs.Replies.{handed, replyOf, reportedOf, derivedOf}
 use Rattle.station.specs.declared.Station.{Station}
 use Rattle.station.specs.declared.Reply.{Reply}
 use Rattle.station.specs.declared.Reported.{Reported}
 use Rattle.station.specs.declared.Derived.{Derived}
 use Rattle.station.proofs.Named.{question-stays, keysOf, publish-keys}
-use Rattle.station.proofs.Demands.{demands}
 
 -- a reply with another station
 abbrev pub with : Station → Reply → Reply
 with s r = record { station = s; refused = r .refused; ones = r .ones }
-
--- refused: nothing changes
-pub own-refused : (s : Station) (c : NamedCall) {r : Reply} → r ≡ replyOf (handed s c) → (r .refused ≡ 0 → ⊥)
-    → record { station = s; refused = r .refused; ones = 0 } ≡ replyOf (handed s c)
-unfolding replyOf
-own-refused s c {r} e some = go (r .refused) refl some
-  where
-    go : (n : ℕ) → r .refused ≡ n → (n ≡ 0 → ⊥) → record { station = s; refused = n; ones = 0 } ≡ replyOf (handed s c)
-    go zero z some = absurd (some refl)
-    go (suc n) z some =
-        let q : handed s c .number ≡ suc n = sym (ap (λ (x : Reply). x .refused) e) ∙ z in
-        let d = demands .demand-1 s c in
-        rw (d .station n q, d .ones n q, q) refl
 
 -- publish leaves the keys
 pub own-keys : (s : Station) (b : ℕ) (p : Publishing) {r : Reply} → r ≡ replyOf (handed s (named b (publish p)))

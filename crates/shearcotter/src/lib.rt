@@ -105,15 +105,7 @@ pub extern "C" fn shearcotter_fresh() -> Station
 pub extern "C" fn shearcotter_load(own: Station, name: u8, file: &[u8]) -> Reply
     ensures { λ r. ⌜ r ≡ replyOf (handed own (named name (load (key-file (now (file .entry)))))) ⌝ }
 {
-    let loaded = own.load(name, file);
-    if loaded.refused != 0 {
-        return Reply {
-            station: own,
-            refused: loaded.refused,
-            ones: 0,
-        };
-    }
-    loaded
+    own.load(name, file)
 }
 
 // T is written from the output's start, made in the first m·t × ceil(n/8) bytes of work; 35, 21, 25, 34, 10, 11 or 23 on refusal.

@@ -2,6 +2,7 @@ pub mod States
 pub mod ReplyLaws
 pub mod LowerLaws
 pub mod StepView
+pub mod Taken
 pub mod QuestionLaws
 pub mod ReportLaws
 pub mod SessionLaws

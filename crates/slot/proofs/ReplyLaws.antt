@@ -16,8 +16,17 @@ use Rattle.ledger.proofs.StepLaws.{callNumber, step-number, step-made, step-out
 use Rattle.slot.specs.Replies.{stateOf, view, refusal, acceptance, moved, replyOf, handed}
 use Rattle.slot.specs.declared.Slot.{Slot}
 
+reply-number : (n : ℕ) (s next : Slot) (w : ℕ) → replyOf n s next w .refused ≡ n
+unfolding replyOf refusal acceptance
+reply-number zero s next w = refl
+reply-number (suc n) s next w = refl
+
 -- A call is refused by the first condition that holds, and then changes nothing; else it goes on.
 module _ (s : Slot) (c : Call) where
+  pub handed-number : handed s c .reply .refused ≡ callNumber (view s) c
+  unfolding handed
+  handed-number = reply-number _ s (moved s c) _ ∙ step-number (view s) c
+
   pub reply-refused : (x : ℕ) → x ≡ callNumber (view s) c → (x ≡ 0 → ⊥) → refusal s x ≡ handed s c .reply
   unfolding handed replyOf
   reply-refused zero e h = absurd (h refl)
@@ -68,6 +77,20 @@ module _ (s : Slot) (c : Call) where
 
   pub number-lower : stop s c .0 ≡ false → callNumber (view s) c ≡ lower s c
   number-lower h = number-cond s c ∙ ap (λ (b : Bool). cond b (stop s c .1) (lower s c)) h
+
+  pub stopped-number : stop s c .0 ≡ true → stop s c .1 ≡ handed s c .reply .refused
+  stopped-number h = number-stop h ∙ sym (handed-number s c)
+
+  pub lower-number : stop s c .0 ≡ false → lower s c ≡ handed s c .reply .refused
+  lower-number h = sym (handed-number s c ∙ number-lower h)
+
+  -- accepted: so by the lower call
+  pub lower-none : handed s c .reply .refused ≡ 0 → lower s c ≡ 0
+  lower-none z = go (stop s c .0) refl
+    where
+      go : (b : Bool) → stop s c .0 ≡ b → lower s c ≡ 0
+      go true h = absurd (stop-numbered s c (stopped-number h ∙ z))
+      go false h = lower-number h ∙ z
 
   -- refused by the state: nothing changes
   pub stopped : stop s c .0 ≡ true → (refusal s (stop s c .1) ≡ handed s c .reply) × (outputOf c ≡ handed s c .output) × (noAnswer c ≡ handed s c .answer)

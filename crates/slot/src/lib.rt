@@ -9,37 +9,20 @@ use session_key::SessionKey;
 ghost use mathlib.Core.Path.{_≡_};
 ghost use mathlib.Core.Bool.{not};
 ghost use lib.ListN.{drop};
+ghost use Rattle.field.specs.Verdicts.{verdictOf};
 ghost use Rattle.ledger.specs.Slot.{isEmpty, isUnpublished};
 ghost use Rattle.ledger.specs.Loading.{key-file};
 ghost use Rattle.ledger.specs.Publishing.{systematic};
 ghost use Rattle.ledger.specs.Questions.{open-capsule, read-word, report, session-key};
 ghost use Rattle.ledger.specs.Calls.{load, publish, ask, drop-key};
 ghost use Rattle.slot.specs.Replies.{stateOf, answerNumber, freshSlot, handed};
-ghost use Rattle.slot.specs.Parts.{slotIn, keyless, refusedBy, loadedOf, publishedOf, answeredOf, countedOf, derivedOf};
+ghost use Rattle.slot.specs.Parts.{slotIn, keyless, loadedOf, answeredOf, countedOf, derivedOf};
 
 // The state and the key, the key of zeros where it is empty. State 0 is no key, 1 a key, any other a published key.
 #[repr(C)]
 pub struct Slot {
     pub state: u8,
     pub key: Key,
-}
-
-// The slot after a load or a drop, without a key where it is refused, and the number of the refusal, 0 for none.
-pub struct Loaded {
-    pub slot: Slot,
-    pub refused: u8,
-}
-
-// The state after a publish, and the number of the refusal, 0 for none.
-pub struct Published {
-    pub state: u8,
-    pub refused: u8,
-}
-
-// The number of the refusal, 0 for none, and the number of ones written.
-pub struct Answered {
-    pub refused: u8,
-    pub ones: u16,
 }
 
 // No key is held.
@@ -57,33 +40,12 @@ fn is_published(state: u8) -> bool
 }
 
 // The number of a refusal to open or read, and 0 where the pattern is written.
-fn answer_number(answer: Answer) -> u8
+pub fn answer_number(answer: Answer) -> u8
     ensures { λ r. ⌜ r ≡ answerNumber answer ⌝ }
 {
     match answer {
         Answer::Ones(_) => 0,
         Answer::Refused(n) => n,
-    }
-}
-
-// Refused, and nothing is written.
-fn refuse(number: u8) -> Answered
-    ensures { λ r. ⌜ r ≡ refusedBy number ⌝ }
-{
-    Answered {
-        refused: number,
-        ones: 0,
-    }
-}
-
-// Refused, without a key.
-fn refuse_load(state: u8, number: u8) -> Loaded
-    ensures { λ r. ⌜ r ≡ record { slot = keyless state; refused = number } ⌝ }
-{
-    let key = key::kept::none();
-    Loaded {
-        slot: Slot { state, key },
-        refused: number,
     }
 }
 
@@ -112,33 +74,14 @@ impl Slot {
     }
 }
 
-// The slot that keeps the file's key; 22, 1, 2, 3, 4, 5, 6 or 7 on refusal. A load asks for nothing but the state.
-pub fn load(state: u8, file: &[u8]) -> Loaded
+// The shape of the file's key, which the slot keeps; 22, 1, 2, 3, 4, 5, 6 or 7 on refusal. A load asks for nothing but the state.
+pub fn load(state: u8, file: &[u8]) -> ShapeAnswer
     ensures { λ r. ⌜ r ≡ loadedOf (handed (keyless state) (load (key-file (now (file .entry))))) ⌝ }
 {
     if !is_empty(state) {
-        return refuse_load(state, 22);
+        return ShapeAnswer::Refused(22);
     }
-    let mut support = [0u16; Key::MOST_PLACES];
-    let mut g = [0u16; Key::MOST_ERRORS];
-    let answer = key_file::load(file, &mut support, &mut g);
-    let ShapeAnswer::Sizes(s) = answer else {
-        return refuse_load(state, key::shape::number(answer));
-    };
-    let key = Key {
-        m: s.m,
-        n: s.n,
-        t: s.t,
-        support,
-        g,
-    };
-    Loaded {
-        slot: Slot {
-            state: Slot::LOADED,
-            key,
-        },
-        refused: 0,
-    }
+    key_file::shape(file)
 }
 
 // T is written from the output's start, made in the first m·t × ceil(n/8) bytes of work; 21, 25, 34, 10, 11 or 23 on refusal.
@@ -152,24 +95,16 @@ pub fn publish<'a>(
     g: &'a [u16; Key::MOST_ERRORS],
     out: &mut [u8],
     work: &mut [u8],
-) -> Published
-    ensures answer { λ r. ⌜ r ≡ publishedOf (handed (slotIn state m n t (now (support .entry)) (now (g .entry))) (publish (systematic (now (out .entry)) (now (work .entry))))) ⌝ }
+) -> Verdict
+    ensures answer { λ r. ⌜ r ≡ verdictOf (handed (slotIn state m n t (now (support .entry)) (now (g .entry))) (publish (systematic (now (out .entry)) (now (work .entry)))) .reply .refused) ⌝ }
     ensures output { λ _. ⌜ now (out .exit) ≡ handed (slotIn state m n t (now (support .entry)) (now (g .entry))) (publish (systematic (now (out .entry)) (now (work .entry)))) .output ⌝ }
     ensures workspace { λ _. ⌜ (let f = handed (slotIn state m n t (now (support .entry)) (now (g .entry))) (publish (systematic (now (out .entry)) (now (work .entry)))) .free in
         drop f (now (work .exit)) ≡ drop f (now (work .entry))) ⌝ }
 {
     if is_empty(state) {
-        return Published { state, refused: 21 };
+        return Verdict::Refused(21);
     }
-    let answer = publishing::publish(m, n, t, support, g, out, work);
-    let Verdict::Accepted = answer else {
-        let refused = field::number(answer);
-        return Published { state, refused };
-    };
-    Published {
-        state: Slot::PUBLISHED,
-        refused: 0,
-    }
+    publishing::publish(m, n, t, support, g, out, work)
 }
 
 // The pattern of a capsule is written from the output's start; 21, 25, 34, 24, 8, 9, 10 or 13 on refusal.
@@ -182,18 +117,14 @@ pub fn open<'a>(
     g: &'a [u16; Key::MOST_ERRORS],
     capsule: &[u8],
     out: &mut [u8],
-) -> Answered
+) -> Answer
     ensures answer { λ r. ⌜ r ≡ answeredOf (handed (slotIn state m n t (now (support .entry)) (now (g .entry))) (ask (open-capsule (now (capsule .entry)) (now (out .entry))))) ⌝ }
     ensures output { λ _. ⌜ now (out .exit) ≡ handed (slotIn state m n t (now (support .entry)) (now (g .entry))) (ask (open-capsule (now (capsule .entry)) (now (out .entry)))) .output ⌝ }
 {
     if is_empty(state) {
-        return refuse(21);
+        return Answer::Refused(21);
     }
-    let answer = reading::open(m, n, t, support, g, is_published(state), capsule, out);
-    let Answer::Ones(ones) = answer else {
-        return refuse(answer_number(answer));
-    };
-    Answered { refused: 0, ones }
+    reading::open(m, n, t, support, g, is_published(state), capsule, out)
 }
 
 // The pattern of a word is written from the output's start; 21, 25, 8, 9, 10 or 14 on refusal.
@@ -206,18 +137,14 @@ pub fn read<'a>(
     g: &'a [u16; Key::MOST_ERRORS],
     word: &[u8],
     out: &mut [u8],
-) -> Answered
+) -> Answer
     ensures answer { λ r. ⌜ r ≡ answeredOf (handed (slotIn state m n t (now (support .entry)) (now (g .entry))) (ask (read-word (now (word .entry)) (now (out .entry))))) ⌝ }
     ensures output { λ _. ⌜ now (out .exit) ≡ handed (slotIn state m n t (now (support .entry)) (now (g .entry))) (ask (read-word (now (word .entry)) (now (out .entry)))) .output ⌝ }
 {
     if is_empty(state) {
-        return refuse(21);
+        return Answer::Refused(21);
     }
-    let answer = reading::read(m, n, t, support, g, word, out);
-    let Answer::Ones(ones) = answer else {
-        return refuse(answer_number(answer));
-    };
-    Answered { refused: 0, ones }
+    reading::read(m, n, t, support, g, word, out)
 }
 
 // The record of each capsule is written from the record buffer's start: 0 where it is opened, else its refusal's number, and
@@ -268,15 +195,12 @@ pub fn session<'a>(
     session_key::session(m, n, t, support, g, marked, capsule, secret)
 }
 
-// The fresh slot; 21 on refusal. A drop asks for nothing but the state.
-pub fn drop(state: u8) -> Loaded
-    ensures { λ r. ⌜ r ≡ loadedOf (handed (keyless state) drop-key) ⌝ }
+// Whether the slot becomes a fresh one; 21 on refusal. A drop asks for nothing but the state.
+pub fn drop(state: u8) -> Verdict
+    ensures { λ r. ⌜ r ≡ verdictOf (handed (keyless state) drop-key .reply .refused) ⌝ }
 {
     if is_empty(state) {
-        return refuse_load(state, 21);
+        return Verdict::Refused(21);
     }
-    Loaded {
-        slot: Slot::fresh(),
-        refused: 0,
-    }
+    Verdict::Accepted
 }

@@ -1,24 +1,35 @@
 -- What a call hands back, by its byte: 35 where that is no name, else what the slot's call hands back. Assumes nothing.
-use Prim.Native.Nat.{ℕ, zero, suc}
-use mathlib.Core.Path.{_≡_, refl, sym, ap, _∙_}
+use Prim.Native.Nat.{ℕ, zero, suc, _+_, _*_}
+use mathlib.Core.Path.{_≡_, refl, sym, ap, ap₂, _∙_}
 use mathlib.Core.Bool.{Bool, true, false, true≢false}
 use mathlib.Core.List.{List}
 use native.Mathlib.Omega.{arith}
 use borrow.Author.Tests.{ne-eqb}
 use lib.ListN.{drop}
+use Rattle.field.specs.Verdicts.{verdictOf, numberOf}
+use Rattle.field.specs.declared.Verdict.{Verdict}
+use Rattle.field.specs.declared.Verdict.the-variants as verdicts
+use Rattle.field.proofs.Verdicts.{verdict-accepted, verdict-taken}
+use Rattle.key.specs.Kept.{parts}
+use Rattle.key.specs.Answers.{answerNumber as shapeNumber}
 use Rattle.key.specs.declared.kept.Key.{Key}
-use Rattle.ledger.specs.Slot.{heldBy, Outcome}
-use Rattle.ledger.specs.Loading.{Loading}
+use Rattle.key.specs.declared.shape.Sizes.{Sizes}
+use Rattle.key.specs.declared.shape.ShapeAnswer.{ShapeAnswer}
+use Rattle.key.specs.declared.shape.ShapeAnswer.the-variants as shapes
+use Rattle.key_file.specs.Files.{stored}
+use Rattle.reading.specs.declared.calls.Answer.{Answer}
+use Rattle.reading.specs.declared.calls.Answer.the-variants as answers
+use Rattle.ledger.specs.Slot.{loaded, heldBy, Outcome}
+use Rattle.ledger.specs.Loading.{key-file}
 use Rattle.ledger.specs.Publishing.{Publishing}
 use Rattle.ledger.specs.Questions.{Question}
 use Rattle.ledger.specs.Calls.{Call, load, publish, ask, drop-key, conditionsOf, outputOf, noAnswer, made}
-use Rattle.slot.specs.Replies.{view, Reply as SlotReply, refusal as slotRefusal, acceptance, moved, outcomeOf}
+use Rattle.slot.specs.Replies.{byteOf, view, answerNumber, freshSlot, Reply as SlotReply, refusal as slotRefusal, acceptance, moved, outcomeOf}
 use Rattle.slot.specs.Replies as Slots
-use Rattle.slot.specs.Parts.{keyless, loadedOf, publishedOf}
+use Rattle.slot.specs.Parts.{keyless, loadedOf, answeredOf}
 use Rattle.slot.specs.declared.Slot.{Slot}
-use Rattle.slot.specs.declared.Loaded.{Loaded}
-use Rattle.slot.specs.declared.Published.{Published}
 use Rattle.slot.proofs.StepView.{refused-reply, accepted-reply, state-number, publish-key, question-left}
+use Rattle.slot.proofs.Taken.{loaded-number, loaded-refused, loaded-accepted, loaded-slot, answered-number, answered-refused, answered-ones}
 use Rattle.recipients.specs.Names.{Name, A, B, nameOf, named}
 use Rattle.recipients.specs.Recipients.{unknown, within, called}
 use Rattle.station.specs.Replies.{slotOf, put, handed, replyOf, reportedOf, derivedOf}
@@ -107,60 +118,59 @@ module _ (s : Station) (b : ℕ) (c : Call) where
   unfolding acceptance
   reply-accepted h none e = reply-known h (accepted-reply (slotOf (chosen b) s) c none e)
 
--- A call that asks for the state alone, and after which the slot does not depend on what it was.
+-- A call that asks for the state alone is refused by it.
+state-refusal : (s : Station) (b : ℕ) {state : ℕ} → state ≡ slotOf (chosen b) s .state → (c : Call)
+    → conditionsOf (heldBy (view (keyless (slotOf (chosen b) s .state)))) c ≡ conditionsOf (heldBy (view (slotOf (chosen b) s))) c
+    → Slots.handed (keyless state) c .reply .refused ≡ Slots.handed (slotOf (chosen b) s) c .reply .refused
+state-refusal s b at c asks = ap (λ (n : ℕ). Slots.handed (keyless n) c .reply .refused) at ∙ state-number (slotOf (chosen b) s) c asks
+
 module _ (s : Station) (b : ℕ) (h : known b ≡ true) {state : ℕ} (at : state ≡ slotOf (chosen b) s .state) where
-  module _ (c : Call) (asks : conditionsOf (heldBy (view (keyless (slotOf (chosen b) s .state)))) c ≡ conditionsOf (heldBy (view (slotOf (chosen b) s))) c)
-      (none : (t : Slot) → made (view t) c .count ≡ 0) (next : moved (keyless state) c ≡ moved (slotOf (chosen b) s) c)
-      {r : Loaded} (e : r ≡ loadedOf (Slots.handed (keyless state) c)) where
-    state-refusal : r .refused ≡ Slots.handed (slotOf (chosen b) s) c .reply .refused
-    unfolding loadedOf
-    state-refusal =
-        ap (λ (l : Loaded). l .refused) e
-        ∙ ap (λ (n : ℕ). Slots.handed (keyless n) c .reply .refused) at
-        ∙ state-number (slotOf (chosen b) s) c asks
+  -- load writes the key of the file
+  module _ (file : List ℕ) {r : ShapeAnswer} (e : r ≡ loadedOf (Slots.handed (keyless state) (load (key-file file)))) where
+    load-refusal : Slots.handed (keyless state) (load (key-file file)) .reply .refused ≡ Slots.handed (slotOf (chosen b) s) (load (key-file file)) .reply .refused
+    unfolding conditionsOf heldBy view
+    load-refusal = state-refusal s b at (load (key-file file)) refl
 
-    state-refused : (r .refused ≡ 0 → ⊥) → refusal s (r .refused) ≡ replyOf (handed s (named b c))
-    state-refused some = reply-refused s b c h state-refusal some
+    load-number : {n : ℕ} → n ≡ shapeNumber r → n ≡ Slots.handed (keyless state) (load (key-file file)) .reply .refused
+    load-number k = k ∙ ap shapeNumber e ∙ loaded-number _
 
-    state-placed : r .refused ≡ 0 → placed b (r .slot) s ≡ replyOf (handed s (named b c))
-    unfolding loadedOf acceptance
-    state-placed z =
-        let n = sym (ap (λ (l : Loaded). l .refused) e) ∙ z in
-        ap (λ (t : Slot). placed b t s)
-        (ap (λ (l : Loaded). l .slot) e ∙ ap (λ (q : SlotReply). q .slot) (accepted-reply (keyless state) c (none (keyless state)) n) ∙ next)
-        ∙ reply-accepted s b c h (none (slotOf (chosen b) s)) (sym state-refusal ∙ z)
+    pub load-refused : {n x : ℕ} → n ≡ shapeNumber r → r ≡ shapes.Refused x → refusal s n ≡ replyOf (handed s (named b (load (key-file file))))
+    load-refused k x =
+        reply-refused s b (load (key-file file)) h (load-number k ∙ load-refusal) (λ z. loaded-refused _ (sym e ∙ x) (sym (load-number k) ∙ z))
 
-  module _ (f : Loading) {r : Loaded} (e : r ≡ loadedOf (Slots.handed (keyless state) (load f))) where
-    pub load-refused : (r .refused ≡ 0 → ⊥) → refusal s (r .refused) ≡ replyOf (handed s (named b (load f)))
-    unfolding conditionsOf heldBy view made moved
-    load-refused = state-refused (load f) refl (λ t. refl) refl e
+    pub load-none : {n : ℕ} {z : Sizes} → n ≡ shapeNumber r → r ≡ shapes.Sizes z → n ≡ 0
+    load-none k x = load-number k ∙ loaded-accepted _ (sym e ∙ x)
 
-    pub load-placed : r .refused ≡ 0 → placed b (r .slot) s ≡ replyOf (handed s (named b (load f)))
-    unfolding conditionsOf heldBy view made moved
-    load-placed = state-placed (load f) refl (λ t. refl) refl e
+    pub load-placed : {z : Sizes} {x y : List ℕ} → r ≡ shapes.Sizes z → x ≡ stored 8192 file 3 (z .n) → y ≡ stored 128 file (5 + 2 * z .n) (z .t)
+        → placed b (record { state = byteOf loaded; key = parts (z .m) (z .n) (z .t) x y }) s ≡ replyOf (handed s (named b (load (key-file file))))
+    unfolding made moved
+    load-placed {z} a p q =
+        ap₂ (λ (x y : List ℕ). placed b (record { state = byteOf loaded; key = parts (z .m) (z .n) (z .t) x y }) s) p q
+        ∙ ap (λ (t : Slot). placed b t s) (loaded-slot (keyless state) file (sym e ∙ a))
+        ∙ reply-accepted s b (load (key-file file)) h refl (sym load-refusal ∙ loaded-accepted _ (sym e ∙ a))
 
-  module _ {r : Loaded} (e : r ≡ loadedOf (Slots.handed (keyless state) drop-key)) where
-    pub drop-refused : (r .refused ≡ 0 → ⊥) → refusal s (r .refused) ≡ replyOf (handed s (named b drop-key))
-    unfolding conditionsOf heldBy view made moved
-    drop-refused = state-refused drop-key refl (λ t. refl) refl e
+  -- a drop leaves the fresh slot
+  module _ {r : Verdict} (e : r ≡ verdictOf (Slots.handed (keyless state) drop-key .reply .refused)) where
+    drop-refusal : Slots.handed (keyless state) drop-key .reply .refused ≡ Slots.handed (slotOf (chosen b) s) drop-key .reply .refused
+    unfolding conditionsOf heldBy view
+    drop-refusal = state-refusal s b at drop-key refl
 
-    pub drop-placed : r .refused ≡ 0 → placed b (r .slot) s ≡ replyOf (handed s (named b drop-key))
-    unfolding conditionsOf heldBy view made moved
-    drop-placed = state-placed drop-key refl (λ t. refl) refl e
+    pub drop-refused : {n x : ℕ} → n ≡ numberOf r → r ≡ verdicts.Refused x → refusal s n ≡ replyOf (handed s (named b drop-key))
+    drop-refused k x = let t = verdict-taken _ e x k in reply-refused s b drop-key h (t .0 ∙ drop-refusal) (t .1)
+
+    pub drop-placed : r ≡ verdicts.Accepted → placed b freshSlot s ≡ replyOf (handed s (named b drop-key))
+    unfolding made moved
+    drop-placed x = reply-accepted s b drop-key h refl (sym drop-refusal ∙ verdict-accepted _ e x)
 
 -- Publish sets the state.
-module _ (s : Station) (b : ℕ) (p : Publishing) (h : known b ≡ true) {r : Published} (e : r ≡ publishedOf (Slots.handed (slotOf (chosen b) s) (publish p))) where
-  pub publish-refused : (r .refused ≡ 0 → ⊥) → refusal s (r .refused) ≡ replyOf (handed s (named b (publish p)))
-  unfolding publishedOf
-  publish-refused some = reply-refused s b (publish p) h (ap (λ (x : Published). x .refused) e) some
+module _ (s : Station) (b : ℕ) (p : Publishing) (h : known b ≡ true) {r : Verdict}
+    (e : r ≡ verdictOf (Slots.handed (slotOf (chosen b) s) (publish p) .reply .refused)) where
+  pub publish-refused : {n x : ℕ} → n ≡ numberOf r → r ≡ verdicts.Refused x → refusal s n ≡ replyOf (handed s (named b (publish p)))
+  publish-refused k x = let t = verdict-taken _ e x k in reply-refused s b (publish p) h (t .0) (t .1)
 
-  pub publish-marked : r .refused ≡ 0 → marked b (r .state) s ≡ replyOf (handed s (named b (publish p)))
-  unfolding publishedOf made moved acceptance
-  publish-marked z =
-      let n = sym (ap (λ (x : Published). x .refused) e) ∙ z in
-      ap (λ (state : ℕ). marked b state s)
-      (ap (λ (x : Published). x .state) e ∙ ap (λ (q : SlotReply). q .slot .state) (accepted-reply (slotOf (chosen b) s) (publish p) refl n))
-      ∙ reply-accepted s b (publish p) h refl n
+  pub publish-marked : r ≡ verdicts.Accepted → marked b s ≡ replyOf (handed s (named b (publish p)))
+  unfolding made moved
+  publish-marked x = reply-accepted s b (publish p) h refl (verdict-accepted _ e x)
 
 -- the free bytes are as many
 pub same-rest : (x y : List ℕ) {f g : ℕ} → f ≡ g → drop f x ≡ drop f y → drop g x ≡ drop g y
@@ -175,10 +185,22 @@ module _ (s : Station) (b : ℕ) (q : Question) (h : known b ≡ true) where
       ∙ ap (λ (t : Station). within (λ u. t) (outcomeOf (Slots.handed (slotOf (chosen b) s) (ask q))))
       (ap (λ (t : Slot). put (chosen b) t s) (question-left (slotOf (chosen b) s) q) ∙ put-same (chosen b) s)
 
-  pub reply-left : (let r = Slots.handed (slotOf (chosen b) s) (ask q) .reply in
+  reply-left : (let r = Slots.handed (slotOf (chosen b) s) (ask q) .reply in
       record { station = s; refused = r .refused; ones = r .ones } ≡ replyOf (handed s (named b (ask q))))
   unfolding replyOf within outcomeOf
   reply-left = ap replyOf (sym handed-left)
+
+  -- open and read, by their answer
+  module _ {a : Answer} (e : a ≡ answeredOf (Slots.handed (slotOf (chosen b) s) (ask q))) where
+    pub answer-refused : {n x : ℕ} → n ≡ answerNumber a → a ≡ answers.Refused x → refusal s n ≡ replyOf (handed s (named b (ask q)))
+    answer-refused k x =
+        let m = k ∙ ap answerNumber e ∙ answered-number _ in
+        reply-refused s b (ask q) h m (λ z. answered-refused _ (sym e ∙ x) (sym m ∙ z))
+
+    pub answer-ones : {w : ℕ} → a ≡ answers.Ones w → record { station = s; refused = 0; ones = w } ≡ replyOf (handed s (named b (ask q)))
+    answer-ones x =
+        let o = answered-ones _ (sym e ∙ x) in
+        ap₂ (λ (n w : ℕ). record { station = s; refused = n; ones = w }) (sym (o .0)) (o .1) ∙ reply-left
 
   pub reported-left : (let r = Slots.handed (slotOf (chosen b) s) (ask q) in
       record { station = s; refused = r .reply .refused; counts = r .answer } ≡ reportedOf (handed s (named b (ask q))))

@@ -9,8 +9,9 @@ use Rattle.slot.specs.Parts.{slotIn}
 use Rattle.slot.specs.declared.Slot.{Slot}
 use Rattle.recipients.specs.Names.{A, B}
 use Rattle.station.specs.Replies.{slotOf, put}
-use Rattle.station.specs.Chosen.{known, pick, chosen, placed, marked}
+use Rattle.station.specs.Chosen.{known, pick, chosen, refusal, placed}
 use Rattle.station.specs.declared.Station.{Station}
+use Rattle.station.specs.declared.Reply.{Reply}
 
 -- the byte is 1, or not
 module _ (b : ℕ) where
@@ -30,21 +31,30 @@ module _ (b : ℕ) where
   unfolding pick
   pick-second x y e = rw (ne-eqb b 1 e) refl
 
-  pub placed-first : (t : Slot) (s : Station) → b ≡ 1 → record { station = record { a = t; b = s .b }; refused = 0; ones = 0 } ≡ placed b t s
+  -- a slot put in the place of A's, or of B's
+  pub put-first : (t : Slot) (s : Station) → b ≡ 1 → record { a = t; b = s .b } ≡ put (chosen b) t s
   unfolding put pick
-  placed-first t s e = rw (eq-eqb b 1 e) refl
+  put-first t s e = rw (eq-eqb b 1 e) refl
 
-  pub placed-second : (t : Slot) (s : Station) → (b ≡ 1 → ⊥) → record { station = record { a = s .a; b = t }; refused = 0; ones = 0 } ≡ placed b t s
+  pub put-second : (t : Slot) (s : Station) → (b ≡ 1 → ⊥) → record { a = s .a; b = t } ≡ put (chosen b) t s
   unfolding put pick
-  placed-second t s e = rw (ne-eqb b 1 e) refl
+  put-second t s e = rw (ne-eqb b 1 e) refl
 
-  pub marked-first : (state : ℕ) (s : Station) → b ≡ 1 → placed b (record { state = state; key = s .a .key }) s ≡ marked b state s
+  pub key-first : (s : Station) → b ≡ 1 → s .a .key ≡ slotOf (chosen b) s .key
   unfolding slotOf pick
-  marked-first state s e = rw (eq-eqb b 1 e) refl
+  key-first s e = rw (eq-eqb b 1 e) refl
 
-  pub marked-second : (state : ℕ) (s : Station) → (b ≡ 1 → ⊥) → placed b (record { state = state; key = s .b .key }) s ≡ marked b state s
+  pub key-second : (s : Station) → (b ≡ 1 → ⊥) → s .b .key ≡ slotOf (chosen b) s .key
   unfolding slotOf pick
-  marked-second state s e = rw (ne-eqb b 1 e) refl
+  key-second s e = rw (ne-eqb b 1 e) refl
+
+  -- a refusal's reply, once the slot of the name is written and the number is 0
+  module _ (s : Station) {q : Reply} (e : q ≡ refusal s 35) {n : ℕ} (z : n ≡ 0) (t : Slot) where
+    pub written-first : b ≡ 1 → record { station = record { a = t; b = q .station .b }; refused = n; ones = q .ones } ≡ placed b t s
+    written-first h = rw (e, z) (ap (λ (x : Station). record { station = x; refused = 0; ones = 0 }) (put-first t s h))
+
+    pub written-second : (b ≡ 1 → ⊥) → record { station = record { a = q .station .a; b = t }; refused = n; ones = q .ones } ≡ placed b t s
+    written-second h = rw (e, z) (ap (λ (x : Station). record { station = x; refused = 0; ones = 0 }) (put-second t s h))
 
 -- the state alone, and the whole slot
 picked : (x : Bool) (s : Station) → slotIn (cond x (s .a .state) (s .b .state)) (cond x (s .a .key .m) (s .b .key .m)) (cond x (s .a .key .n) (s .b .key .n)) (cond x (s .a .key .t) (s .b .key .t)) (cond x (s .a .key .support) (s .b .key .support)) (cond x (s .a .key .g) (s .b .key .g))

@@ -2,6 +2,8 @@
 use Prim.Native.Nat.{ℕ}
 use mathlib.Core.Bool.{Bool, cond, _||_}
 use lib.Dec.{eqb}
+use Rattle.ledger.specs.Slot.{published}
+use Rattle.slot.specs.Replies.{byteOf}
 use Rattle.slot.specs.declared.Slot.{Slot}
 use Rattle.recipients.specs.Names.{Name, A, B}
 use Rattle.station.specs.Replies.{slotOf, put}
@@ -28,6 +30,6 @@ refusal s n = record { station = s; refused = n; ones = 0 }
 abbrev pub placed : ℕ → Slot → Station → Reply
 placed b t s = record { station = put (chosen b) t s; refused = 0; ones = 0 }
 
--- accepted: the slot of the name in another state
-abbrev pub marked : ℕ → ℕ → Station → Reply
-marked b state s = placed b (record { state = state; key = slotOf (chosen b) s .key }) s
+-- accepted: the slot of the name published
+abbrev pub marked : ℕ → Station → Reply
+marked b s = placed b (record { state = byteOf published; key = slotOf (chosen b) s .key }) s

@@ -1,16 +1,23 @@
 // The station: a slot for each of two recipients, A and B (request L6). Each call names one by a byte and is that slot's call; a
 // byte other than 1 and 2 is refused with 35, before all else. The slot that is named is lent part by part, so that it is not copied.
+use field::Verdict;
 use key::kept::Key;
+use key::shape::ShapeAnswer;
+use key_file::write_g;
+use key_file::write_support;
+use reading::Answer;
 use slot::Slot;
+use slot::answer_number;
 ghost use mathlib.Core.Path.{_≡_};
-ghost use lib.ListN.{drop};
+ghost use lib.ListN.{drop, replicate};
 ghost use Rattle.ledger.specs.Loading.{key-file};
 ghost use Rattle.ledger.specs.Publishing.{systematic};
 ghost use Rattle.ledger.specs.Questions.{open-capsule, read-word, report, session-key};
 ghost use Rattle.ledger.specs.Calls.{load, publish, ask, drop-key};
+ghost use Rattle.slot.specs.Replies.{freshSlot};
 ghost use Rattle.recipients.specs.Names.{named};
-ghost use Rattle.station.specs.Replies.{freshStation, handed, replyOf, reportedOf, derivedOf};
-ghost use Rattle.station.specs.Chosen.{known, pick, refusal, placed, marked};
+ghost use Rattle.station.specs.Replies.{put, freshStation, handed, replyOf, reportedOf, derivedOf};
+ghost use Rattle.station.specs.Chosen.{known, pick, chosen, refusal, marked};
 
 // The slots of A and B.
 #[repr(C)]
@@ -96,6 +103,19 @@ fn coefficients<'a>(
     b
 }
 
+// Zeros.
+fn clear_places(places: &mut [u16; Key::MOST_PLACES])
+    ensures { λ _. ⌜ now (places .exit) ≡ replicate 8192 0 ⌝ }
+{
+    *places = [0; Key::MOST_PLACES];
+}
+
+fn clear_coefficients(coefficients: &mut [u16; Key::MOST_ERRORS])
+    ensures { λ _. ⌜ now (coefficients .exit) ≡ replicate 128 0 ⌝ }
+{
+    *coefficients = [0; Key::MOST_ERRORS];
+}
+
 impl Station {
     // The names.
     pub const A: u8 = 1;
@@ -127,35 +147,38 @@ impl Station {
         }
     }
 
-    // Accepted, with a slot put in the place of the name.
-    fn place(self, name: u8, slot: Slot) -> Reply
-        ensures { λ r. ⌜ r ≡ placed name slot self ⌝ }
-    {
-        if name == Station::A {
-            let b = self.b;
-            return Reply {
-                station: Station { a: slot, b },
-                refused: 0,
-                ones: 0,
-            };
-        }
-        let a = self.a;
-        Reply {
-            station: Station { a, b: slot },
-            refused: 0,
-            ones: 0,
-        }
-    }
-
-    // Accepted, with the slot of the name in another state.
-    fn mark(self, name: u8, state: u8) -> Reply
-        ensures { λ r. ⌜ r ≡ marked name state self ⌝ }
+    // The slot of the name becomes a fresh one.
+    fn cleared(self, name: u8) -> Station
+        ensures { λ r. ⌜ r ≡ put (chosen name) freshSlot self ⌝ }
     {
         let mut station = self;
         if name == Station::A {
-            station.a.state = state;
+            station.a.state = Slot::EMPTY;
+            station.a.key.m = 0;
+            station.a.key.n = 0;
+            station.a.key.t = 0;
+            clear_places(&mut station.a.key.support);
+            clear_coefficients(&mut station.a.key.g);
         } else {
-            station.b.state = state;
+            station.b.state = Slot::EMPTY;
+            station.b.key.m = 0;
+            station.b.key.n = 0;
+            station.b.key.t = 0;
+            clear_places(&mut station.b.key.support);
+            clear_coefficients(&mut station.b.key.g);
+        }
+        station
+    }
+
+    // Accepted, with the slot of the name published.
+    fn mark(self, name: u8) -> Reply
+        ensures { λ r. ⌜ r ≡ marked name self ⌝ }
+    {
+        let mut station = self;
+        if name == Station::A {
+            station.a.state = Slot::PUBLISHED;
+        } else {
+            station.b.state = Slot::PUBLISHED;
         }
         Reply {
             station,
@@ -164,19 +187,35 @@ impl Station {
         }
     }
 
-    // The file's key is kept; 35, 22, 1, 2, 3, 4, 5, 6 or 7 on refusal.
+    // The file's key is kept; 35, 22, 1, 2, 3, 4, 5, 6 or 7 on refusal. The key is written where it stays, so that it is not copied.
     pub fn load(self, name: u8, file: &[u8]) -> Reply
         ensures { λ r. ⌜ r ≡ replyOf (handed self (named name (load (key-file (now (file .entry)))))) ⌝ }
     {
+        let mut reply = self.refuse(35);
         if !is_name(name) {
-            return self.refuse(35);
+            return reply;
         }
-        let loaded = slot::load(byte(name, self.a.state, self.b.state), file);
-        if loaded.refused != 0 {
-            return self.refuse(loaded.refused);
+        let answer = slot::load(byte(name, self.a.state, self.b.state), file);
+        reply.refused = key::shape::number(answer);
+        let ShapeAnswer::Sizes(s) = answer else {
+            return reply;
+        };
+        if name == Station::A {
+            reply.station.a.state = Slot::LOADED;
+            reply.station.a.key.m = s.m;
+            reply.station.a.key.n = s.n;
+            reply.station.a.key.t = s.t;
+            write_support(file, s.n, &mut reply.station.a.key.support);
+            write_g(file, s.n, s.t, &mut reply.station.a.key.g);
+        } else {
+            reply.station.b.state = Slot::LOADED;
+            reply.station.b.key.m = s.m;
+            reply.station.b.key.n = s.n;
+            reply.station.b.key.t = s.t;
+            write_support(file, s.n, &mut reply.station.b.key.support);
+            write_g(file, s.n, s.t, &mut reply.station.b.key.g);
         }
-        let slot = loaded.slot;
-        self.place(name, slot)
+        reply
     }
 
     // T is written from the output's start, made in the first m·t × ceil(n/8) bytes of work; 35, 21, 25, 34, 10, 11 or 23 on refusal.
@@ -190,7 +229,7 @@ impl Station {
         if !is_name(name) {
             return self.refuse(35);
         }
-        let published = slot::publish(
+        let answer = slot::publish(
             byte(name, self.a.state, self.b.state),
             byte(name, self.a.key.m, self.b.key.m),
             number(name, self.a.key.n, self.b.key.n),
@@ -200,10 +239,10 @@ impl Station {
             out,
             work,
         );
-        if published.refused != 0 {
-            return self.refuse(published.refused);
-        }
-        self.mark(name, published.state)
+        let Verdict::Accepted = answer else {
+            return self.refuse(field::number(answer));
+        };
+        self.mark(name)
     }
 
     // The pattern of a capsule is written from the output's start; 35, 21, 25, 34, 24, 8, 9, 10 or 13 on refusal.
@@ -214,7 +253,7 @@ impl Station {
         if !is_name(name) {
             return self.refuse(35);
         }
-        let opened = slot::open(
+        let answer = slot::open(
             byte(name, self.a.state, self.b.state),
             byte(name, self.a.key.m, self.b.key.m),
             number(name, self.a.key.n, self.b.key.n),
@@ -224,10 +263,13 @@ impl Station {
             capsule,
             out,
         );
+        let Answer::Ones(ones) = answer else {
+            return self.refuse(answer_number(answer));
+        };
         Reply {
             station: self,
-            refused: opened.refused,
-            ones: opened.ones,
+            refused: 0,
+            ones,
         }
     }
 
@@ -239,7 +281,7 @@ impl Station {
         if !is_name(name) {
             return self.refuse(35);
         }
-        let found = slot::read(
+        let answer = slot::read(
             byte(name, self.a.state, self.b.state),
             byte(name, self.a.key.m, self.b.key.m),
             number(name, self.a.key.n, self.b.key.n),
@@ -249,10 +291,13 @@ impl Station {
             word,
             out,
         );
+        let Answer::Ones(ones) = answer else {
+            return self.refuse(answer_number(answer));
+        };
         Reply {
             station: self,
-            refused: found.refused,
-            ones: found.ones,
+            refused: 0,
+            ones,
         }
     }
 
@@ -323,11 +368,15 @@ impl Station {
         if !is_name(name) {
             return self.refuse(35);
         }
-        let dropped = slot::drop(byte(name, self.a.state, self.b.state));
-        if dropped.refused != 0 {
-            return self.refuse(dropped.refused);
+        let answer = slot::drop(byte(name, self.a.state, self.b.state));
+        let Verdict::Accepted = answer else {
+            return self.refuse(field::number(answer));
+        };
+        let station = self.cleared(name);
+        Reply {
+            station,
+            refused: 0,
+            ones: 0,
         }
-        let slot = dropped.slot;
-        self.place(name, slot)
     }
 }

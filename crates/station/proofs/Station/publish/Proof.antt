@@ -4,8 +4,8 @@ use borrow.Author.Needs.{needs}
 use borrow.Author.Tests.{not-true, not-false}
 use Rattle.ledger.specs.Publishing.{systematic, publicBuffer}
 use Rattle.ledger.specs.Calls.{publish, outputOf}
+use Rattle.field.specs.Verdicts.{verdictOf}
 use Rattle.slot.specs.Replies.{Handed, handed}
-use Rattle.slot.specs.Parts.{publishedOf}
 use Rattle.slot.specs.declared.Slot.{Slot}
 use Rattle.station.proofs.Picked.{slot-parts}
 use Rattle.station.proofs.Named.{reply-unknown, output-unknown, publish-refused, publish-marked, output-known, free-known, same-rest}
@@ -48,6 +48,15 @@ coefficients-requires c κs = tt
 publish-requires : tie.Need-publish-requires
 publish-requires c κs = tt
 
+enum-told : tie.Need-enum-told
+enum-told c = search needs
+
+enum-told-2 : tie.Need-enum-told-2
+enum-told-2 c = search needs
+
+number-requires-3 : tie.Need-number-requires-3
+number-requires-3 c κs = tt
+
 refuse-requires-2 : tie.Need-refuse-requires-2
 refuse-requires-2 c κs = tt
 
@@ -59,7 +68,7 @@ same-length-2 c = search needs
 
 returns-2 : tie.Need-returns-2
 returns-2 c =
-    let o = c .before .before .before .before .before .before .before in
+    let o = c .before .before .before .before .before .before .before .before in
     let f = o .before .before .before in
     let p = f .before .before .before in
     let n = p .before .before .before .before in
@@ -69,10 +78,11 @@ returns-2 c =
     let a = i .before .before .before .args in
     let k = sym (i .is-name .ensures) ∙ not-false _ (e .if1 .left) in
     let t = slot-parts (a .name) (a .t1) (m .before .byte .ensures) (m .byte2 .ensures) (n .before .number .ensures) (n .number2 .ensures) (p .places .ensures) (f .coefficients .ensures) in
-    let q = publish (systematic (a .out .now) (a .work .now)) in
-    let h = ap (λ (s : Slot). handed s q) t in (
-      c .refuse2 .ensures ∙ publish-refused (a .t1) (a .name) (systematic (a .out .now) (a .work .now)) k (o .publish .ensures .0 ∙ ap publishedOf h) (c .before .if2 .taken),
-      (o .publish .ensures .1 .0 ∙ ap (λ (r : Handed). r .output) h ∙ output-known (a .t1) (a .name) q k, same-rest _ _ (ap (λ (r : Handed). r .free) h ∙ free-known (a .t1) (a .name) q k) (o .publish .ensures .1 .1)),
+    let p = systematic (a .out .now) (a .work .now) in
+    let h = ap (λ (s : Slot). handed s (publish p)) t in
+    let v = o .publish .ensures .0 ∙ ap (λ (r : Handed). verdictOf (r .reply .refused)) h in (
+      c .refuse2 .ensures ∙ publish-refused (a .t1) (a .name) p k v (c .before .number3 .ensures) (c .before .before .enum-told2 .given .1),
+      (o .publish .ensures .1 .0 ∙ ap (λ (r : Handed). r .output) h ∙ output-known (a .t1) (a .name) (publish p) k, same-rest _ _ (ap (λ (r : Handed). r .free) h ∙ free-known (a .t1) (a .name) (publish p) k) (o .publish .ensures .1 .1)),
     )
 
 mark-requires : tie.Need-mark-requires
@@ -97,10 +107,10 @@ returns-3 c =
     let k = sym (i .is-name .ensures) ∙ not-false _ (e .if1 .left) in
     let t = slot-parts (a .name) (a .t1) (m .before .byte .ensures) (m .byte2 .ensures) (n .before .number .ensures) (n .number2 .ensures) (p .places .ensures) (f .coefficients .ensures) in
     let p = systematic (a .out .now) (a .work .now) in
-    let q = publish p in
-    let h = ap (λ (s : Slot). handed s q) t in (
-      c .mark .ensures ∙ publish-marked (a .t1) (a .name) p k (o .publish .ensures .0 ∙ ap publishedOf h) (c .before .if2 .left),
-      (o .publish .ensures .1 .0 ∙ ap (λ (r : Handed). r .output) h ∙ output-known (a .t1) (a .name) q k, same-rest _ _ (ap (λ (r : Handed). r .free) h ∙ free-known (a .t1) (a .name) q k) (o .publish .ensures .1 .1)),
+    let h = ap (λ (s : Slot). handed s (publish p)) t in
+    let v = o .publish .ensures .0 ∙ ap (λ (r : Handed). verdictOf (r .reply .refused)) h in (
+      c .mark .ensures ∙ publish-marked (a .t1) (a .name) p k v (c .before .enum-told .given .1),
+      (o .publish .ensures .1 .0 ∙ ap (λ (r : Handed). r .output) h ∙ output-known (a .t1) (a .name) (publish p) k, same-rest _ _ (ap (λ (r : Handed). r .free) h ∙ free-known (a .t1) (a .name) (publish p) k) (o .publish .ensures .1 .1)),
     )
 
 pub publish-spec : {M : Type 1} → statement M
@@ -117,6 +127,9 @@ publish-spec =
     places-requires
     coefficients-requires
     publish-requires
+    enum-told
+    enum-told-2
+    number-requires-3
     refuse-requires-2
     same-length
     same-length-2

@@ -7,9 +7,8 @@ use Rattle.ledger.specs.Calls.{ask, outputOf}
 use Rattle.slot.specs.Replies.{Handed, handed}
 use Rattle.slot.specs.Parts.{answeredOf}
 use Rattle.slot.specs.declared.Slot.{Slot}
-use Rattle.slot.specs.declared.Answered.{Answered}
 use Rattle.station.proofs.Picked.{slot-parts}
-use Rattle.station.proofs.Named.{reply-unknown, output-unknown, reply-left, output-known}
+use Rattle.station.proofs.Named.{reply-unknown, output-unknown, answer-refused, answer-ones, output-known}
 use Rattle.station.proofs.Station.read.Statement.{statement}
 use Rattle.station.proofs.Station.read.Tie as tie
 
@@ -49,13 +48,24 @@ coefficients-requires c κs = tt
 read-requires : tie.Need-read-requires
 read-requires c κs = tt
 
+enum-known-answer : tie.Need-enum-known-answer
+enum-known-answer c = search needs
+
+enum-told : tie.Need-enum-told
+enum-told c = search needs
+
+answer-number-requires : tie.Need-answer-number-requires
+answer-number-requires c κs = tt
+
+refuse-requires-2 : tie.Need-refuse-requires-2
+refuse-requires-2 c κs = tt
+
 same-length : tie.Need-same-length
 same-length c = search needs
 
 returns-2 : tie.Need-returns-2
-unfolding answeredOf
 returns-2 c =
-    let o = c .before .before in
+    let o = c .before .before .before .before .before .before in
     let f = o .before .before in
     let p = f .before .before .before in
     let n = p .before .before .before .before in
@@ -67,8 +77,29 @@ returns-2 c =
     let t = slot-parts (a .name) (a .t1) (m .before .byte .ensures) (m .byte2 .ensures) (n .before .number .ensures) (n .number2 .ensures) (p .places .ensures) (f .coefficients .ensures) in
     let q = read-word (a .word .now) (a .out .now) in
     let h = ap (λ (s : Slot). handed s (ask q)) t in (
-      ap (λ (r : Answered). record { station = a .t1; refused = r .refused; ones = r .ones }) (o .«read» .ensures .0 ∙ ap answeredOf h)
-          ∙ reply-left (a .t1) (a .name) q k,
+      c .refuse2 .ensures
+          ∙ answer-refused (a .t1) (a .name) q k (o .«read» .ensures .0 ∙ ap answeredOf h) (c .before .answer-number .ensures) (c .before .before .enum-told .given .1),
+      o .«read» .ensures .1 ∙ ap (λ (r : Handed). r .output) h ∙ output-known (a .t1) (a .name) (ask q) k,
+    )
+
+same-length-2 : tie.Need-same-length-2
+same-length-2 c = search needs
+
+returns-3 : tie.Need-returns-3
+returns-3 c =
+    let o = c .before .before .before .before .before in
+    let f = o .before .before in
+    let p = f .before .before .before in
+    let n = p .before .before .before .before in
+    let m = n .before .before in
+    let e = m .before .before in
+    let i = e .before in
+    let a = i .before .before .before .args in
+    let k = sym (i .is-name .ensures) ∙ not-false _ (e .if1 .left) in
+    let t = slot-parts (a .name) (a .t1) (m .before .byte .ensures) (m .byte2 .ensures) (n .before .number .ensures) (n .number2 .ensures) (p .places .ensures) (f .coefficients .ensures) in
+    let q = read-word (a .word .now) (a .out .now) in
+    let h = ap (λ (s : Slot). handed s (ask q)) t in (
+      answer-ones (a .t1) (a .name) q k (o .«read» .ensures .0 ∙ ap answeredOf h) (c .before .answer .given .1),
       o .«read» .ensures .1 ∙ ap (λ (r : Handed). r .output) h ∙ output-known (a .t1) (a .name) (ask q) k,
     )
 
@@ -86,5 +117,11 @@ read-spec =
     places-requires
     coefficients-requires
     read-requires
+    enum-known-answer
+    enum-told
+    answer-number-requires
+    refuse-requires-2
     same-length
-    returns-2)
+    returns-2
+    same-length-2
+    returns-3)
