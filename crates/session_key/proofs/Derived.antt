@@ -1,13 +1,14 @@
 -- The session key by what is found in the capsule, and the answer. Assumes nothing.
 use mathlib.Core.Path.{_≡_, refl, sym, ap, ap₂, _∙_}
-use mathlib.Core.Bool.{Bool, true, false, cond}
+use mathlib.Core.Bool.{Bool, true, false, cond, _&&_}
 use mathlib.Core.List.{List}
 use mathlib.Core.Option.{Option, none, some}
 use Prim.Native.Nat.{ℕ}
+use mir.Val.{boolByte}
 use borrow.Author.Tests.{eq-eqb, ne-eqb}
 use lib.Dec.{eqb}
 use lib.ListN.{take, replicate}
-use Rattle.bits.specs.Bits.{Row, bytesFor, unpack, pack, wellFormed}
+use Rattle.bits.specs.Bits.{Row, bytesFor, unpack, pack, ones, wellFormed}
 use Rattle.bits.proofs.Pack.{row-length, length-pack}
 use Rattle.bits.proofs.Padded.{take-padded}
 use Rattle.key.specs.Keys.{keyNumber}
@@ -16,41 +17,55 @@ use Rattle.key.specs.Kept.{kept}
 use Rattle.key.specs.declared.kept.Key.{Key}
 use Rattle.code.specs.Publish.{capsuleBits}
 use Rattle.decoder.specs.Reading.{exactly}
+use Rattle.decoder.proofs.Sanity.{reading-sound}
 use Rattle.decoding.specs.Parts.{decodedNumber, decoded, packed, nothingOf, foundOf}
 use Rattle.decoding.specs.declared.decoding.Found.{Found}
-use Rattle.reading.proofs.Answered.{found-opening}
+use Rattle.decoding.proofs.Explained.{decoded-divides, decoded-reading}
+use Rattle.reading.proofs.Answered.{exactly-opening}
 use Rattle.session.specs.Session.{hashed, keyFor, sessionKey, sessionNumber, sessionBytes}
-use Rattle.session.proofs.Keys.{opening-row}
 use Rattle.session_key.specs.Answers.{foundKey, refusedKey, sessionAnswer}
 use Rattle.session_key.specs.declared.SessionKey.{SessionKey}
 
--- the key of the secret, or of the pattern
-module _ (n : ℕ) (f : Found) (capsule secret : List ℕ) where
-  pub key-secret : f .found ≡ false → hashed 0 secret capsule ≡ foundKey n f capsule secret
-  unfolding foundKey
-  key-secret h = sym (ap (λ (b : Bool). cond b (hashed 1 (take (bytesFor n) (f .pattern)) capsule) (hashed 0 secret capsule)) h)
+-- the byte and the row by one test
+module _ (n t : ℕ) (f : Found) (capsule secret : List ℕ) where
+  by-test : Bool → List ℕ
+  by-test b = cond b (hashed 1 (take (bytesFor n) (f .pattern)) capsule) (hashed 0 secret capsule)
 
-  pub key-pattern : f .found ≡ true → {k : ℕ} → k ≡ bytesFor n → hashed 1 (take k (f .pattern)) capsule ≡ foundKey n f capsule secret
-  unfolding foundKey
-  key-pattern h e =
-      ap (λ (k : ℕ). hashed 1 (take k (f .pattern)) capsule) e
-      ∙ sym (ap (λ (b : Bool). cond b (hashed 1 (take (bytesFor n) (f .pattern)) capsule) (hashed 0 secret capsule)) h)
+  row-by-test : (b : Bool) → hashed (boolByte b) (cond b (take (bytesFor n) (f .pattern)) secret) capsule ≡ by-test b
+  unfolding by-test
+  row-by-test true = refl
+  row-by-test false = refl
+
+  pub key-row : {b : Bool} {k : ℕ} {row : List ℕ} → b ≡ (f .found && eqb (f .ones) t) → k ≡ bytesFor n → row ≡ cond b (take k (f .pattern)) secret
+      → hashed (boolByte b) row capsule ≡ foundKey n t f capsule secret
+  unfolding foundKey by-test
+  key-row {b} e k r =
+      ap (λ (row : List ℕ). hashed (boolByte b) row capsule) (r ∙ ap (λ (k : ℕ). cond b (take k (f .pattern)) secret) k)
+      ∙ row-by-test b
+      ∙ ap by-test e
 
 -- the pattern's bytes are the first of those found
-key-by-found : (n : ℕ) (o : Option (List ℕ)) (capsule secret : List ℕ) → ((e : List ℕ) → o ≡ some e → Row n e)
-    → foundKey n (foundOf 0 o) capsule secret ≡ keyFor o capsule secret
-unfolding foundKey foundOf nothingOf keyFor packed
-key-by-found n none capsule secret r = refl
-key-by-found n (some e) capsule secret r =
-    ap (λ (row : List ℕ). hashed 1 row capsule) (take-padded 1024 (pack e) (bytesFor n) (length-pack e ∙ ap bytesFor (row-length (r e refl))))
+by-ones : (n : ℕ) (e capsule secret : List ℕ) → Row n e → (b : Bool)
+    → cond b (hashed 1 (take (bytesFor n) (packed e)) capsule) (hashed 0 secret capsule) ≡ keyFor (cond b (some e) none) capsule secret
+unfolding keyFor packed
+by-ones n e capsule secret r true =
+    ap (λ (row : List ℕ). hashed 1 row capsule) (take-padded 1024 (pack e) (bytesFor n) (length-pack e ∙ ap bytesFor (row-length r)))
+by-ones n e capsule secret r false = refl
+
+key-by-found : (n t : ℕ) (o : Option (List ℕ)) (capsule secret : List ℕ) → ((e : List ℕ) → o ≡ some e → Row n e)
+    → foundKey n t (foundOf 0 o) capsule secret ≡ keyFor (exactly t o) capsule secret
+unfolding foundKey foundOf nothingOf keyFor exactly
+key-by-found n t none capsule secret r = refl
+key-by-found n t (some e) capsule secret r = by-ones n e capsule secret (r e refl) (eqb (ones e) t)
 
 module _ (k : Key) (capsule secret : List ℕ) (z : keyNumber (kept k) ≡ 0) (w : wellFormed (capsuleBits (kept k)) capsule ≡ true) where
-  pub found-key : {f : Found} → f ≡ foundOf (decodedNumber (kept k) (unpack (k .n) capsule)) (exactly (k .t) (decoded (kept k) (unpack (k .n) capsule)))
-      → foundKey (k .n) f capsule secret ≡ sessionKey (kept k) capsule secret
+  pub found-key : {f : Found} → f ≡ foundOf (decodedNumber (kept k) (unpack (k .n) capsule)) (decoded (kept k) (unpack (k .n) capsule))
+      → foundKey (k .n) (k .t) f capsule secret ≡ sessionKey (kept k) capsule secret
   unfolding sessionKey kept
   found-key e =
-      ap (λ (f : Found). foundKey (k .n) f capsule secret) (found-opening k capsule z w e)
-      ∙ key-by-found (k .n) _ capsule secret (opening-row (kept k) _)
+      ap (λ (f : Found). foundKey (k .n) (k .t) f capsule secret) (e ∙ ap (λ (x : ℕ). foundOf x (decoded (kept k) (unpack (k .n) capsule))) (decoded-divides k capsule z))
+      ∙ key-by-found (k .n) (k .t) _ capsule secret (λ p h. reading-sound (kept k) _ p (sym (decoded-reading k capsule z) ∙ h) .bits)
+      ∙ ap (λ (o : Option (List ℕ)). keyFor o capsule secret) (exactly-opening k capsule z w)
 
 -- the answer by its number
 module _ (unpublished : Bool) (k : Keys.Key) (capsule secret : List ℕ) where

@@ -1,7 +1,8 @@
 -- What session answers, and terms of its private functions. Assumes nothing.
 use Prim.Native.Nat.{ℕ}
-use mathlib.Core.Bool.{Bool, cond}
+use mathlib.Core.Bool.{Bool, cond, _&&_}
 use mathlib.Core.List.{List}
+use lib.Dec.{eqb}
 use lib.ListN.{take, replicate}
 use Rattle.bits.specs.Bits.{bytesFor}
 use Rattle.key.specs.Keys.{Key}
@@ -18,6 +19,6 @@ sessionAnswer unpublished k capsule secret =
 unfoldable pub refusedKey : ℕ → SessionKey
 refusedKey x = record { refused = x; key = replicate 32 0 }
 
--- the key by what is found
-unfoldable pub foundKey : ℕ → Found → List ℕ → List ℕ → List ℕ
-foundKey n e capsule secret = cond (e .found) (hashed 1 (take (bytesFor n) (e .pattern)) capsule) (hashed 0 secret capsule)
+-- the key by what is found: for a pattern, where it has t ones, else for the secret
+unfoldable pub foundKey : ℕ → ℕ → Found → List ℕ → List ℕ → List ℕ
+foundKey n t e capsule secret = cond (e .found && eqb (e .ones) t) (hashed 1 (take (bytesFor n) (e .pattern)) capsule) (hashed 0 secret capsule)

@@ -1,15 +1,16 @@
 // The session key of a capsule under a kept key, lent by its parts (request L4).
 use decoding::Found;
+use decoding::decode;
 use field::Verdict;
 use key::kept::Key;
 use reading::capsule_bits;
 use reading::check_published;
 use reading::check_row;
-use reading::open_checked;
 ghost use mathlib.Core.Path.{_≡_};
-ghost use mathlib.Core.Bool.{not};
+ghost use mathlib.Core.Bool.{not, cond, _&&_};
 ghost use Prim.Native.Nat.{_+_, _≤_};
-ghost use lib.ListN.{length};
+ghost use lib.Dec.{eqb};
+ghost use lib.ListN.{length, take};
 ghost use lib.Seq.{paste};
 ghost use Rattle.field.specs.Verdicts.{verdictOf};
 ghost use Rattle.key.specs.Kept.{kept, parts};
@@ -77,19 +78,35 @@ fn hash(first: u8, row: &[u8], capsule: &[u8]) -> [u8; 32]
     key
 }
 
-// For the byte 1 and the n bits of the pattern that is found; where none is, for the byte 0 and the secret.
-fn key_found(e: Found, n: u16, capsule: &[u8], secret: &[u8]) -> [u8; 32]
+// A pattern of exactly t ones is found.
+fn is_opened(found: bool, ones: u16, t: u16) -> bool
+    ensures { λ r. ⌜ r ≡ (found && eqb ones t) ⌝ }
+{
+    found && ones == t
+}
+
+// The pattern's first bytes where it is opened, else the secret.
+fn row<'a>(opened: bool, pattern: &'a [u8; 1024], end: usize, secret: &'a [u8]) -> &'a [u8]
+    requires { ⌜ end ≤ 1024 ⌝ }
+    ensures { λ r. ⌜ now r ≡ cond opened (take end (now (pattern .entry))) (now (secret .entry)) ⌝ }
+{
+    if opened {
+        let p = &pattern[..];
+        return &p[..end];
+    }
+    secret
+}
+
+// For the byte 1 and the n bits of a pattern that is found with t ones; where none is, for the byte 0 and the secret.
+fn key_found(e: Found, n: u16, t: u16, capsule: &[u8], secret: &[u8]) -> [u8; 32]
     requires { ⌜ n ≤ 8192 ⌝ }
     requires { ⌜ length (now capsule) ≤ 1024 ⌝ }
     requires { ⌜ length (now secret) ≤ 1024 ⌝ }
-    ensures { λ r. ⌜ r ≡ foundKey n e (now (capsule .entry)) (now (secret .entry)) ⌝ }
+    ensures { λ r. ⌜ r ≡ foundKey n t e (now (capsule .entry)) (now (secret .entry)) ⌝ }
 {
-    if !e.found {
-        return hash(0, secret, capsule);
-    }
-    let pattern = e.pattern;
+    let opened = is_opened(e.found, e.ones, t);
     let end = bits::bytes_for(n as usize);
-    hash(1, &pattern[..end], capsule)
+    hash(opened as u8, row(opened, &e.pattern, end, secret), capsule)
 }
 
 // No key, with the number.
@@ -104,7 +121,7 @@ fn refuse(number: u8) -> SessionKey
 }
 
 // The session key of a capsule, with the secret for one that gives 13; 25, 34, 24, 8, 9 or 33 on refusal. No refusal comes from
-// `open_checked` (`opening-not-refused`).
+// `decode` (`decoded-divides`). Kept short for the C call: a longer one copies the station once more (`scripts/copies`).
 pub fn session<'a>(
     m: u8,
     n: u16,
@@ -121,11 +138,7 @@ pub fn session<'a>(
     let Verdict::Accepted = x else {
         return refuse(field::number(x));
     };
-    let e = open_checked(m, n, t, support, g, capsule);
-    let y = e.verdict;
-    let Verdict::Accepted = y else {
-        return refuse(field::number(y));
-    };
-    let key = key_found(e, n, capsule, secret);
+    let e = decode(m, n, t, support, g, capsule);
+    let key = key_found(e, n, t, capsule, secret);
     SessionKey { refused: 0, key }
 }
