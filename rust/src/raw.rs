@@ -21,7 +21,7 @@ pub const STACK: usize = 512 * 1024;
 /// Bytes of stack that `shearcotter_fresh` takes, the station in the caller included.
 pub const STACK_FRESH: usize = 52 * 1024;
 /// Bytes of stack that `shearcotter_load` takes, its argument and reply in the caller included.
-pub const STACK_LOAD: usize = 306 * 1024;
+pub const STACK_LOAD: usize = 225 * 1024;
 /// The same for `shearcotter_publish`.
 pub const STACK_PUBLISH: usize = 280 * 1024;
 /// Bytes of stack that `shearcotter_lock` takes.
@@ -33,9 +33,9 @@ pub const STACK_READ: usize = 273 * 1024;
 /// The same for `shearcotter_report`.
 pub const STACK_REPORT: usize = 278 * 1024;
 /// The same for `shearcotter_session`.
-pub const STACK_SESSION: usize = 308 * 1024;
+pub const STACK_SESSION: usize = 276 * 1024;
 /// The same for `shearcotter_drop`.
-pub const STACK_DROP: usize = 147 * 1024;
+pub const STACK_DROP: usize = 98 * 1024;
 /// Bytes of stack that `shearcotter_shake256` takes.
 pub const STACK_SHAKE: usize = 2 * 1024;
 

@@ -11,6 +11,8 @@ use lib.ListN.{take, replicate}
 use Rattle.bits.specs.Bits.{Row, bytesFor, unpack, pack, ones, wellFormed}
 use Rattle.bits.proofs.Pack.{row-length, length-pack}
 use Rattle.bits.proofs.Padded.{take-padded}
+use Rattle.field.specs.declared.Verdict.the-variants as verdicts
+use Rattle.field.proofs.Verdicts.{verdict-refused}
 use Rattle.key.specs.Keys.{keyNumber}
 use Rattle.key.specs.Keys as Keys
 use Rattle.key.specs.Kept.{kept}
@@ -20,7 +22,7 @@ use Rattle.decoder.specs.Reading.{exactly}
 use Rattle.decoder.proofs.Sanity.{reading-sound}
 use Rattle.decoding.specs.Parts.{decodedNumber, decoded, packed, nothingOf, foundOf}
 use Rattle.decoding.specs.declared.decoding.Found.{Found}
-use Rattle.decoding.proofs.Explained.{decoded-divides, decoded-reading}
+use Rattle.decoding.proofs.Explained.{found-verdict, decoded-divides, decoded-reading}
 use Rattle.reading.proofs.Answered.{exactly-opening}
 use Rattle.session.specs.Session.{hashed, keyFor, sessionKey, sessionNumber, sessionBytes}
 use Rattle.session_key.specs.Answers.{foundKey, refusedKey, sessionAnswer}
@@ -59,11 +61,20 @@ key-by-found n t none capsule secret r = refl
 key-by-found n t (some e) capsule secret r = by-ones n e capsule secret (r e refl) (eqb (ones e) t)
 
 module _ (k : Key) (capsule secret : List ℕ) (z : keyNumber (kept k) ≡ 0) (w : wellFormed (capsuleBits (kept k)) capsule ≡ true) where
+  -- decode divides by no 0
+  divided : {f : Found} → f ≡ foundOf (decodedNumber (kept k) (unpack (k .n) capsule)) (decoded (kept k) (unpack (k .n) capsule))
+      → f ≡ foundOf 0 (decoded (kept k) (unpack (k .n) capsule))
+  divided e = e ∙ ap (λ (x : ℕ). foundOf x (decoded (kept k) (unpack (k .n) capsule))) (decoded-divides k capsule z)
+
+  pub decode-not-refused : {f : Found} → f ≡ foundOf (decodedNumber (kept k) (unpack (k .n) capsule)) (decoded (kept k) (unpack (k .n) capsule))
+      → {x : ℕ} → f .verdict ≡ verdicts.Refused x → ⊥
+  decode-not-refused e h = verdict-refused 0 (found-verdict 0 _ (divided e)) h refl
+
   pub found-key : {f : Found} → f ≡ foundOf (decodedNumber (kept k) (unpack (k .n) capsule)) (decoded (kept k) (unpack (k .n) capsule))
       → foundKey (k .n) (k .t) f capsule secret ≡ sessionKey (kept k) capsule secret
   unfolding sessionKey kept
   found-key e =
-      ap (λ (f : Found). foundKey (k .n) (k .t) f capsule secret) (e ∙ ap (λ (x : ℕ). foundOf x (decoded (kept k) (unpack (k .n) capsule))) (decoded-divides k capsule z))
+      ap (λ (f : Found). foundKey (k .n) (k .t) f capsule secret) (divided e)
       ∙ key-by-found (k .n) (k .t) _ capsule secret (λ p h. reading-sound (kept k) _ p (sym (decoded-reading k capsule z) ∙ h) .bits)
       ∙ ap (λ (o : Option (List ℕ)). keyFor o capsule secret) (exactly-opening k capsule z w)
 

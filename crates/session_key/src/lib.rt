@@ -121,7 +121,7 @@ fn refuse(number: u8) -> SessionKey
 }
 
 // The session key of a capsule, with the secret for one that gives 13; 25, 34, 24, 8, 9 or 33 on refusal. No refusal comes from
-// `decode` (`decoded-divides`). Kept short for the C call: a longer one copies the station once more (`scripts/copies`).
+// `decode` (`decode-not-refused`). It is short for the C call's sake: a longer one copies the station once more (`scripts/copies`).
 pub fn session<'a>(
     m: u8,
     n: u16,
@@ -139,6 +139,10 @@ pub fn session<'a>(
         return refuse(field::number(x));
     };
     let e = decode(m, n, t, support, g, capsule);
+    let y = e.verdict;
+    let Verdict::Accepted = y else {
+        return refuse(field::number(y));
+    };
     let key = key_found(e, n, t, capsule, secret);
     SessionKey { refused: 0, key }
 }
