@@ -105,14 +105,14 @@ module _ (file : List ℕ) where
     clear : Width (parse file .m) × (wrong ≡ false) × (inLimits (parse file .m) (parse file .n) (parse file .t) ≡ true)
     clear = head-clear wrong (parse file) (ap (λ cs. firstOf (take 3 cs)) conditions-of ∙ z)
 
-    pub clear-width : Width (parse file .m)
+    clear-width : Width (parse file .m)
     clear-width = clear .0
 
-    pub clear-limits : inLimits (parse file .m) (parse file .n) (parse file .t) ≡ true
+    clear-limits : inLimits (parse file .m) (parse file .n) (parse file .t) ≡ true
     clear-limits = clear .2
 
     -- the shape s that the file says fits the arrays
-    pub said-fit : (s : Sizes) → s ≡ sizesOf (parse file) → (s .n ≤ 8192) × (s .t ≤ 128)
+    said-fit : (s : Sizes) → s ≡ sizesOf (parse file) → (s .n ≤ 8192) × (s .t ≤ 128)
     unfolding sizesOf
     said-fit s e =
         let fit = limits-fit (parse file .m) (parse file .n) (parse file .t) clear-width clear-limits in
@@ -144,15 +144,15 @@ module _ (file : List ℕ) where
   stored-decides z s e =
       ap (λ (k : Key). keyNumber (kept k)) (stored-key z s e) ∙ ap keyNumber (kept-keep (parse file) support-length g-length) ∙ key-decides z
 
-  -- what load answers, by its numbers
-  pub shape-refused : {x : ℕ} → x ≡ firstOf (fileConditions file) → (x ≡ 0 → ⊥) → answers.Refused x ≡ fileShape file
+  -- the shape or the number, by the first condition that holds
+  pub file-refused : {x : ℕ} → x ≡ firstOf (fileConditions file) → (x ≡ 0 → ⊥) → answers.Refused x ≡ fileShape file
   unfolding fileShape shapeAnswer
-  shape-refused {x = zero} e n = absurd (n refl)
-  shape-refused {x = suc x} e n = ap (λ (i : ℕ). shapeAnswer i (parse file .m, parse file .n, parse file .t)) e
+  file-refused {x = zero} e n = absurd (n refl)
+  file-refused {x = suc x} e n = ap (λ (i : ℕ). shapeAnswer i (parse file .m, parse file .n, parse file .t)) e
 
-  pub shape-said : {s : Sizes} → s ≡ sizesOf (parse file) → firstOf (fileConditions file) ≡ 0 → answers.Sizes s ≡ fileShape file
+  pub file-sizes : {s : Sizes} → s ≡ sizesOf (parse file) → firstOf (fileConditions file) ≡ 0 → answers.Sizes s ≡ fileShape file
   unfolding fileShape shapeAnswer sizes sizesOf
-  shape-said q z = ap (λ (s : Sizes). answers.Sizes s) q ∙ ap (λ (i : ℕ). shapeAnswer i (parse file .m, parse file .n, parse file .t)) (sym z)
+  file-sizes q z = ap (λ (s : Sizes). answers.Sizes s) q ∙ ap (λ (i : ℕ). shapeAnswer i (parse file .m, parse file .n, parse file .t)) (sym z)
 
   -- an accepted file's header is right
   pub head-accepted : firstOf (fileConditions file) ≡ 0 → head ≡ 0

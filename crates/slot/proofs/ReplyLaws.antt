@@ -23,7 +23,7 @@ reply-number (suc n) s next w = refl
 
 -- A call is refused by the first condition that holds, and then changes nothing; else it goes on.
 module _ (s : Slot) (c : Call) where
-  pub handed-number : handed s c .reply .refused ≡ callNumber (view s) c
+  handed-number : handed s c .reply .refused ≡ callNumber (view s) c
   unfolding handed
   handed-number = reply-number _ s (moved s c) _ ∙ step-number (view s) c
 
@@ -75,7 +75,7 @@ module _ (s : Slot) (c : Call) where
   pub number-stop : stop s c .0 ≡ true → stop s c .1 ≡ callNumber (view s) c
   number-stop h = sym (number-cond s c ∙ ap (λ (b : Bool). cond b (stop s c .1) (lower s c)) h)
 
-  pub number-lower : stop s c .0 ≡ false → callNumber (view s) c ≡ lower s c
+  number-lower : stop s c .0 ≡ false → callNumber (view s) c ≡ lower s c
   number-lower h = number-cond s c ∙ ap (λ (b : Bool). cond b (stop s c .1) (lower s c)) h
 
   pub stopped-number : stop s c .0 ≡ true → stop s c .1 ≡ handed s c .reply .refused
@@ -108,7 +108,7 @@ module _ (s : Slot) (c : Call) (passes : stop s c .0 ≡ false) where
   pub lower-refused : (x : ℕ) → x ≡ lower s c → (x ≡ 0 → ⊥) → refusal s x ≡ handed s c .reply
   lower-refused x e h = reply-refused s c x (e ∙ sym (number-lower s c passes)) h
 
-  pub lower-made : lower s c ≡ 0 → step (view s) c ≡ made (view s) c
+  lower-made : lower s c ≡ 0 → step (view s) c ≡ made (view s) c
   lower-made z = step-made (view s) c (step-number (view s) c ∙ number-lower s c passes ∙ z)
 
   pub lower-accepted : lower s c ≡ 0 → acceptance (moved s c) (made (view s) c .count) ≡ handed s c .reply

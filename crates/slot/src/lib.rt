@@ -74,7 +74,7 @@ impl Slot {
     }
 }
 
-// The shape of the file's key, which the slot keeps; 22, 1, 2, 3, 4, 5, 6 or 7 on refusal. A load asks for nothing but the state.
+// The shape of the file's key, which the slot is to keep; 22, 1, 2, 3, 4, 5, 6 or 7 on refusal. A load asks for nothing but the state.
 pub fn load(state: u8, file: &[u8]) -> ShapeAnswer
     ensures { λ r. ⌜ r ≡ loadedOf (handed (keyless state) (load (key-file (now (file .entry))))) ⌝ }
 {

@@ -1,6 +1,5 @@
 -- Zeros, and the elements over them. Assumes nothing.
 use mathlib.Core.Path.{_∙_}
-use native.Mathlib.Omega.{arith}
 use borrow.Author.Needs.{needs}
 use Rattle.key_file.proofs.Files.{stored-fill}
 use Rattle.key_file.proofs.write_g.Statement.{statement}

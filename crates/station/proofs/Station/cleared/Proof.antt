@@ -33,10 +33,10 @@ returns-2 : tie.Need-returns-2
 unfolding freshSlot byteOf noKey
 returns-2 c =
     let p = c .before .before in
-    let t = p .before .before .before .before .before .before in
-    let a = t .before .args in
+    let e = p .before .before .before .before .before .before in
+    let a = e .before .args in
     ap₂ (λ (x y : List ℕ). record { a = a .self .a; b = record { state = 0; key = parts 0 0 0 x y } }) (p .clear-places2 .ensures) (c .clear-coefficients2 .ensures)
-    ∙ put-second (a .name) freshSlot (a .self) (t .if1 .left)
+    ∙ put-second (a .name) freshSlot (a .self) (e .if1 .left)
 
 pub cleared-spec : {M : Type 1} → statement M
 cleared-spec =

@@ -3,7 +3,6 @@ use mathlib.Core.Path.{ap, _∙_}
 use Rattle.ledger.specs.Slot.{published}
 use Rattle.key.specs.declared.kept.Key.{Key}
 use Rattle.slot.specs.Replies.{byteOf}
-use Rattle.slot.specs.declared.Slot.{Slot}
 use Rattle.station.specs.Chosen.{placed}
 use Rattle.station.specs.declared.Station.{Station}
 use Rattle.station.proofs.Picked.{put-first, put-second, key-first, key-second}
