@@ -27,7 +27,7 @@
 //!
 //! # Stack
 //!
-//! A call takes up to 280 KiB of stack, at most 380 without optimisation, since the station passes by value. Each call touches
+//! A call takes up to 280 KiB of stack, at most 352 without optimisation, since the station passes by value. Each call touches
 //! [`raw::STACK`] bytes of stack first, 512 KiB, and [`Station::fresh`] fewer, so that a thread with less ends at its guard
 //! page and nowhere else. Beyond these 512 KiB a thread needs what its own functions take.
 //!
