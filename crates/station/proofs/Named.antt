@@ -138,9 +138,6 @@ module _ (s : Station) (b : ℕ) (h : known b ≡ true) {state : ℕ} (at : stat
     load-refused k x =
         reply-refused s b (load (key-file file)) h (load-number k ∙ load-refusal) (λ z. loaded-refused _ (sym e ∙ x) (sym (load-number k) ∙ z))
 
-    pub load-none : {n : ℕ} {z : Sizes} → n ≡ shapeNumber r → r ≡ shapes.Sizes z → n ≡ 0
-    load-none k x = load-number k ∙ loaded-accepted _ (sym e ∙ x)
-
     pub load-placed : {z : Sizes} {x y : List ℕ} → r ≡ shapes.Sizes z → x ≡ stored 8192 file 3 (z .n) → y ≡ stored 128 file (5 + 2 * z .n) (z .t)
         → placed b (record { state = byteOf loaded; key = parts (z .m) (z .n) (z .t) x y }) s ≡ replyOf (handed s (named b (load (key-file file))))
     unfolding made moved

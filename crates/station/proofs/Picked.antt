@@ -49,12 +49,12 @@ module _ (b : ℕ) where
   key-second s e = rw (ne-eqb b 1 e) refl
 
   -- a refusal's reply, once the slot of the name is written and the number is 0
-  module _ (s : Station) {q : Reply} (e : q ≡ refusal s 35) {n : ℕ} (z : n ≡ 0) (t : Slot) where
-    pub written-first : b ≡ 1 → record { station = record { a = t; b = q .station .b }; refused = n; ones = q .ones } ≡ placed b t s
-    written-first h = rw (e, z) (ap (λ (x : Station). record { station = x; refused = 0; ones = 0 }) (put-first t s h))
+  module _ (s : Station) {q : Reply} (e : q ≡ refusal s 35) (t : Slot) where
+    pub written-first : b ≡ 1 → record { station = record { a = t; b = q .station .b }; refused = 0; ones = q .ones } ≡ placed b t s
+    written-first h = rw e (ap (λ (x : Station). record { station = x; refused = 0; ones = 0 }) (put-first t s h))
 
-    pub written-second : (b ≡ 1 → ⊥) → record { station = record { a = q .station .a; b = t }; refused = n; ones = q .ones } ≡ placed b t s
-    written-second h = rw (e, z) (ap (λ (x : Station). record { station = x; refused = 0; ones = 0 }) (put-second t s h))
+    pub written-second : (b ≡ 1 → ⊥) → record { station = record { a = q .station .a; b = t }; refused = 0; ones = q .ones } ≡ placed b t s
+    written-second h = rw e (ap (λ (x : Station). record { station = x; refused = 0; ones = 0 }) (put-second t s h))
 
 -- the state alone, and the whole slot
 picked : (x : Bool) (s : Station) → slotIn (cond x (s .a .state) (s .b .state)) (cond x (s .a .key .m) (s .b .key .m)) (cond x (s .a .key .n) (s .b .key .n)) (cond x (s .a .key .t) (s .b .key .t)) (cond x (s .a .key .support) (s .b .key .support)) (cond x (s .a .key .g) (s .b .key .g))

@@ -196,10 +196,11 @@ impl Station {
             return reply;
         }
         let answer = slot::load(byte(name, self.a.state, self.b.state), file);
-        reply.refused = key::shape::number(answer);
         let ShapeAnswer::Sizes(s) = answer else {
+            reply.refused = key::shape::number(answer);
             return reply;
         };
+        reply.refused = 0;
         if name == Station::A {
             reply.station.a.state = Slot::LOADED;
             reply.station.a.key.m = s.m;

@@ -7,7 +7,7 @@ use Rattle.ledger.specs.Calls.{load}
 use Rattle.slot.specs.Replies.{byteOf}
 use Rattle.station.specs.declared.Reply.{Reply}
 use Rattle.station.proofs.Picked.{slot-state, written-first, written-second}
-use Rattle.station.proofs.Named.{reply-unknown, load-refused, load-none, load-placed}
+use Rattle.station.proofs.Named.{reply-unknown, load-refused, load-placed}
 use Rattle.station.proofs.Station.load.Statement.{statement}
 use Rattle.station.proofs.Station.load.Tie as tie
 
@@ -30,28 +30,27 @@ byte-requires c κs = tt
 load-requires : tie.Need-load-requires
 load-requires c κs = tt
 
-number-requires : tie.Need-number-requires
-number-requires c κs = tt
-
 enum-known-answer : tie.Need-enum-known-answer
 enum-known-answer c = search needs
 
 enum-told : tie.Need-enum-told
 enum-told c = search needs
 
+number-requires : tie.Need-number-requires
+number-requires c κs = tt
+
 returns-2 : tie.Need-returns-2
 returns-2 c =
-    let m = c in
-    let n = m .before .before in
-    let l = n .before in
+    let m = c .before in
+    let l = m .before .before in
     let e = l .before .before in
     let i = e .before in
     let r = i .before in
     let a = r .before .before .args in
     let k = sym (i .is-name .ensures) ∙ not-false _ (e .if1 .left) in
     let h = l .before .byte .ensures ∙ slot-state (a .name) (a .self) in
-    ap (λ (q : Reply). record { station = q .station; refused = n .number .result; ones = q .ones }) (r .refuse .ensures)
-    ∙ load-refused (a .self) (a .name) k h (a .file .now) (l .load .ensures) (n .number .ensures) (c .enum-told .given .1)
+    ap (λ (q : Reply). record { station = q .station; refused = c .number .result; ones = q .ones }) (r .refuse .ensures)
+    ∙ load-refused (a .self) (a .name) k h (a .file .now) (l .load .ensures) (c .number .ensures) (m .enum-told .given .1)
 
 way-write-given-reply : tie.Need-way-write-given-reply
 way-write-given-reply c = search needs
@@ -89,15 +88,14 @@ returns-3 c =
     let w = c .before .before in
     let t = w .before .before .before .before .before .before in
     let m = t .before .before in
-    let n = m .before .before in
-    let l = n .before in
+    let l = m .before .before in
     let e = l .before .before in
     let i = e .before in
     let r = i .before in
     let a = r .before .before .args in
     let k = sym (i .is-name .ensures) ∙ not-false _ (e .if1 .left) in
     let h = l .before .byte .ensures ∙ slot-state (a .name) (a .self) in
-    written-first (a .name) (a .self) (r .refuse .ensures) (load-none (a .self) (a .name) k h (a .file .now) (l .load .ensures) (n .number .ensures) (m .answer .given .1)) _ (t .if2 .taken)
+    written-first (a .name) (a .self) (r .refuse .ensures) _ (t .if2 .taken)
     ∙ load-placed (a .self) (a .name) k h (a .file .now) (l .load .ensures) (m .answer .given .1) (w .write-support .ensures) (c .write-g .ensures)
 
 returns-4 : tie.Need-returns-4
@@ -106,15 +104,14 @@ returns-4 c =
     let w = c .before .before in
     let t = w .before .before .before .before .before .before in
     let m = t .before .before in
-    let n = m .before .before in
-    let l = n .before in
+    let l = m .before .before in
     let e = l .before .before in
     let i = e .before in
     let r = i .before in
     let a = r .before .before .args in
     let k = sym (i .is-name .ensures) ∙ not-false _ (e .if1 .left) in
     let h = l .before .byte .ensures ∙ slot-state (a .name) (a .self) in
-    written-second (a .name) (a .self) (r .refuse .ensures) (load-none (a .self) (a .name) k h (a .file .now) (l .load .ensures) (n .number .ensures) (m .answer .given .1)) _ (t .if2 .left)
+    written-second (a .name) (a .self) (r .refuse .ensures) _ (t .if2 .left)
     ∙ load-placed (a .self) (a .name) k h (a .file .now) (l .load .ensures) (m .answer .given .1) (w .write-support2 .ensures) (c .write-g2 .ensures)
 
 pub load-spec : {M : Type 1} → statement M
@@ -126,9 +123,9 @@ load-spec =
     returns
     byte-requires
     load-requires
-    number-requires
     enum-known-answer
     enum-told
+    number-requires
     returns-2
     way-write-given-reply
     way-write-given-reply-2
