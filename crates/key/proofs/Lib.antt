@@ -15,3 +15,4 @@ pub mod Values
 pub mod Order
 pub mod Conditions
 pub mod Filled
+pub mod ShapeAnswers

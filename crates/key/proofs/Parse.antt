@@ -14,20 +14,20 @@ use Rattle.field.specs.Numbers.{firstOf}
 use Rattle.key.specs.Keys.{Key, pair, elements, parse, twoBytes, fileOf, conditions, fileConditions, keyNumber}
 use Rattle.field.proofs.Numbers.{first-clear}
 
-two-back : (x : ℕ) → x % 256 + 256 * (x / 256) ≡ x
+pub two-back : (x : ℕ) → x % 256 + 256 * (x / 256) ≡ x
 two-back x = omega arith
 
 -- two bytes at the front, read back
-pair-first : (x : ℕ) (l : List ℕ) → pair (x % 256 ∷ x / 256 ∷ l) 0 ≡ x
+pub pair-first : (x : ℕ) (l : List ℕ) → pair (x % 256 ∷ x / 256 ∷ l) 0 ≡ x
 unfolding pair
 pair-first x l = two-back x
 
 -- what stands in front is passed over: one byte, and the bytes of elements
-pair-behind : (x : ℕ) (l : List ℕ) (i : ℕ) → pair (x ∷ l) (suc i) ≡ pair l i
+pub pair-behind : (x : ℕ) (l : List ℕ) (i : ℕ) → pair (x ∷ l) (suc i) ≡ pair l i
 unfolding pair
 pair-behind x l i = let e : suc i + 1 ≡ suc (i + 1) = omega arith in ap (λ (k : ℕ). getD l i 0 + 256 * getD (x ∷ l) k 0) e
 
-pair-behind-all : (xs rest : List ℕ) (i : ℕ) → pair (flatMap twoBytes xs ++ rest) (2 * length xs + i) ≡ pair rest i
+pub pair-behind-all : (xs rest : List ℕ) (i : ℕ) → pair (flatMap twoBytes xs ++ rest) (2 * length xs + i) ≡ pair rest i
 unfolding flatMap twoBytes
 pair-behind-all [] rest i = ap (pair rest) (omega arith)
 pair-behind-all (x ∷ xs) rest i =
@@ -39,12 +39,12 @@ unfolding elements
 length-elements file at k = length-map-from (λ j. pair file (at + 2 * j)) 0 k
 
 -- the elements at one place of a file are those at another place of another
-elements-moved : (l r : List ℕ) (at to k : ℕ) → ((i : ℕ) → pair l (at + i) ≡ pair r (to + i)) → elements l at k ≡ elements r to k
+pub elements-moved : (l r : List ℕ) (at to k : ℕ) → ((i : ℕ) → pair l (at + i) ≡ pair r (to + i)) → elements l at k ≡ elements r to k
 unfolding elements
 elements-moved l r at to k h = map-from _ _ 0 0 k (λ i b. h (2 * (0 + i)))
 
 -- the bytes of elements, read back
-elements-back : (xs rest : List ℕ) → elements (flatMap twoBytes xs ++ rest) 0 (length xs) ≡ xs
+pub elements-back : (xs rest : List ℕ) → elements (flatMap twoBytes xs ++ rest) 0 (length xs) ≡ xs
 unfolding elements flatMap twoBytes from pair
 elements-back [] rest = refl
 elements-back (x ∷ xs) rest = cons-eq (two-back x) (map-from _ _ 1 0 (length xs) shift ∙ elements-back xs rest)
@@ -109,7 +109,7 @@ parse-file k a b = λ i. record { m = k .m; n = n-back i; t = t-back i; support 
         ap₂ (λ (x y : ℕ). elements file (5 + 2 * x) y) (n-back ∙ sym a) (t-back ∙ sym b)
         ∙ elements-moved file (flatMap twoBytes (k .g) ++ []) (5 + size) 0 (length (k .g)) behind ∙ elements-back (k .g) []
 
-right-length : (wrong : Bool) (k : Key) → firstOf (conditions wrong k) ≡ 0 → wrong ≡ false
+pub right-length : (wrong : Bool) (k : Key) → firstOf (conditions wrong k) ≡ 0 → wrong ≡ false
 unfolding conditions
 right-length wrong k e = first-clear wrong 1 _ (first-clear _ 0 _ e .1) .0
 
