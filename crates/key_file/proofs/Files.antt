@@ -21,6 +21,7 @@ use Rattle.key.specs.declared.shape.ShapeAnswer.the-variants as answers
 use Rattle.key.specs.declared.shape.Sizes.{Sizes}
 use Rattle.key.specs.declared.kept.Key.{Key}
 use Rattle.key.proofs.Conditions.{head-width, head-length, head-limits, head-none, head-clear, first-take, number-faults, limits-fit}
+use Rattle.key.proofs.ShapeAnswers as Answers
 use Rattle.key.proofs.Parse.{length-elements}
 use Rattle.key.proofs.Filled.{kept-keep}
 use Rattle.key_file.specs.Files.{fileShape, stored}
@@ -160,3 +161,12 @@ module _ (file : List ℕ) where
     | yes h ↦ h
     | no n ↦ absurd (n (first-take 3 (fileConditions file) n ∙ z))
   ]
+
+  -- what an answer says
+  pub shape-accepted : {s : Sizes} → fileShape file ≡ answers.Sizes s → (firstOf (fileConditions file) ≡ 0) × (s ≡ sizesOf (parse file))
+  unfolding fileShape sizes sizesOf
+  shape-accepted e = Answers.shape-sizes (firstOf (fileConditions file)) _ e
+
+  pub shape-refused : {x : ℕ} → fileShape file ≡ answers.Refused x → (x ≡ firstOf (fileConditions file)) × (firstOf (fileConditions file) ≡ 0 → ⊥)
+  unfolding fileShape
+  shape-refused e = Answers.shape-refused (firstOf (fileConditions file)) _ e

@@ -17,17 +17,19 @@ ghost use Rattle.key.specs.Kept.{sizesOf};
 ghost use Rattle.key_file.specs.Files.{fileShape, stored};
 
 // The byte at i, and 0 past the end.
-fn byte(file: &[u8], i: usize) -> u8
+pub fn byte(file: &[u8], i: usize) -> u8
     ensures { λ r. ⌜ r ≡ getD (now (file .entry)) i 0 ⌝ }
 {
     if i < file.len() { file[i] } else { 0 }
 }
 
 // Two bytes at i, the low one first.
-fn pair(file: &[u8], i: usize) -> u16
-    requires { ⌜ i < 2 ^ 32 ⌝ }
+pub fn pair(file: &[u8], i: usize) -> u16
     ensures { λ r. ⌜ r ≡ pairOf (now (file .entry)) i ⌝ }
 {
+    if file.len() <= i {
+        return 0;
+    }
     byte(file, i) as u16 + 256 * (byte(file, i + 1) as u16)
 }
 

@@ -25,7 +25,7 @@ add-pair : tie.Need-add-pair Inv-loop μ-loop
 add-pair c = omega arith
 
 pair-requires : tie.Need-pair-requires Inv-loop μ-loop
-pair-requires c κs = omega arith
+pair-requires c κs = tt
 
 mul-out : tie.Need-mul-out Inv-loop μ-loop
 mul-out c = omega arith

@@ -5,7 +5,7 @@ use Rattle.key_file.proofs.sizes.Statement.{statement}
 use Rattle.key_file.proofs.sizes.Tie as tie
 
 pair-requires : tie.Need-pair-requires
-pair-requires c κs = omega arith
+pair-requires c κs = tt
 
 byte-requires : tie.Need-byte-requires
 byte-requires c κs = tt
@@ -20,7 +20,7 @@ add-pair : tie.Need-add-pair
 add-pair c = omega arith
 
 pair-requires-2 : tie.Need-pair-requires-2
-pair-requires-2 c κs = omega arith
+pair-requires-2 c κs = tt
 
 returns : tie.Need-returns
 returns c = sizes-said _ (c .before .byte .ensures) (c .before .before .pair .ensures) (c .pair2 .ensures)

@@ -1,0 +1,3 @@
+pub mod Places
+pub mod Shifts
+pub mod Back
