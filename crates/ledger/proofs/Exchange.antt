@@ -13,6 +13,7 @@ use Rattle.field.proofs.Numbers.{first-clear}
 use Rattle.key.specs.Keys.{Key, fileOf, conditions, fileConditions, keyNumber, reducible}
 use Rattle.key.proofs.Accepted.{Accepted, accepted}
 use Rattle.key.proofs.Parse.{accepted-file}
+use Rattle.network_key.specs.Files.{networkConditions}
 use Rattle.code.specs.PublicKey.{dependent}
 use Rattle.code.specs.Publish.{capsuleBits, publicBytes, workBytes, publishChecks, publishConditions}
 use Rattle.code.proofs.Exchange.{exchangeable, exchange-refused}
@@ -21,7 +22,7 @@ use Rattle.records.specs.Records.{reportConditions}
 use Rattle.records.proofs.Values.{bits-some, bytes-some}
 use Rattle.session.specs.Session.{sessionConditions}
 use Rattle.ledger.specs.Slot.{State, empty, loaded, published, Slot, Held, isEmpty, heldBy}
-use Rattle.ledger.specs.Loading.{key-file, loadingConditions, loadedKey}
+use Rattle.ledger.specs.Loading.{key-file, network-file, loadingConditions, loadedKey}
 use Rattle.ledger.specs.Publishing.{systematic, publicBuffer, publishingConditions}
 use Rattle.ledger.specs.Questions.{open-capsule, read-word, report, session-key, questionConditions}
 use Rattle.ledger.specs.Calls.{Call, load, publish, ask, drop-key, conditionsOf, outputOf, noAnswer, step}
@@ -55,8 +56,9 @@ exchange-begins h drop-key e = absurd (false≢true e)
 
 -- the others have no 34
 others-without : (h : Held) (c : Call) → exchanges c ≡ false → without 34 (conditionsOf h c) ≡ true
-unfolding exchanges opens conditionsOf loadingConditions fileConditions conditions questionConditions readConditions without
+unfolding exchanges opens conditionsOf loadingConditions fileConditions networkConditions conditions questionConditions readConditions without
 others-without h (load (key-file file)) e = refl
+others-without h (load (network-file file)) e = refl
 others-without h (publish p) e = absurd (true≢false e)
 others-without h (ask (open-capsule capsule out)) e = absurd (true≢false e)
 others-without h (ask (read-word word out)) e = refl

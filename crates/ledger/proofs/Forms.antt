@@ -12,6 +12,8 @@ use Rattle.field.specs.Numbers.{firstOf}
 use Rattle.field.proofs.Numbers.{numbered, first-clear, first-append}
 use Rattle.key.specs.Keys.{Key, conditions, fileConditions, keyNumber, unsound, reducible}
 use Rattle.key.proofs.Parse.{accepted-key}
+use Rattle.network_key.specs.Files.{networkConditions}
+use Rattle.network_key.proofs.Convert.{accepted-network}
 use Rattle.code.specs.PublicKey.{Matrix, publicKey, dependent}
 use Rattle.code.specs.Publish.{workBytes, publishChecks, publishConditions, freeBytes}
 use Rattle.code.proofs.Exchange.{exchangeable}
@@ -19,18 +21,20 @@ use Rattle.decoder.specs.Calls.{openConditions, readConditions}
 use Rattle.records.specs.Records.{reportConditions}
 use Rattle.session.specs.Session.{sessionConditions}
 use Rattle.ledger.specs.Slot.{Held}
-use Rattle.ledger.specs.Loading.{Loading, key-file, loadingConditions, loadedKey}
+use Rattle.ledger.specs.Loading.{Loading, key-file, network-file, loadingConditions, loadedKey}
 use Rattle.ledger.specs.Publishing.{Publishing, systematic, publishingConditions, freedBytes}
 use Rattle.ledger.specs.Questions.{Question, open-capsule, read-word, report, session-key, questionConditions}
 
 -- load
 pub loading-numbered : (f : Loading) → numbered (loadingConditions f) ≡ true
-unfolding numbered loadingConditions conditions fileConditions
+unfolding numbered loadingConditions conditions fileConditions networkConditions
 loading-numbered (key-file file) = refl
+loading-numbered (network-file file) = refl
 
 pub loading-good : (f : Loading) → firstOf (loadingConditions f) ≡ 0 → keyNumber (loadedKey f) ≡ 0
 unfolding loadingConditions loadedKey
 loading-good (key-file file) e = accepted-key file e
+loading-good (network-file file) e = accepted-network file e
 
 -- publish
 pub publishing-numbered : (h : Held) (p : Publishing) → numbered (publishingConditions h p) ≡ true

@@ -9,12 +9,13 @@ use borrow.Author.Tests.{eqb-false, not-true}
 use Rattle.bits.proofs.Lists.{and-left, and-right}
 use Rattle.field.specs.Numbers.{firstOf}
 use Rattle.key.specs.Keys.{conditions, fileConditions}
+use Rattle.network_key.specs.Files.{networkConditions}
 use Rattle.code.specs.Publish.{publishChecks, publishConditions}
 use Rattle.decoder.specs.Calls.{openConditions, readConditions}
 use Rattle.records.specs.Records.{reportConditions}
 use Rattle.session.specs.Session.{sessionConditions}
 use Rattle.ledger.specs.Slot.{Held}
-use Rattle.ledger.specs.Loading.{key-file, loadingConditions}
+use Rattle.ledger.specs.Loading.{key-file, network-file, loadingConditions}
 use Rattle.ledger.specs.Publishing.{systematic, publishingConditions}
 use Rattle.ledger.specs.Questions.{open-capsule, read-word, report, session-key, questionConditions}
 use Rattle.ledger.specs.Calls.{Call, load, publish, ask, drop-key, conditionsOf}
@@ -36,8 +37,9 @@ without-first n (c ∷ cs) w e =
 
 -- no call of a slot has 35, which says that a recipient's name is unknown
 pub calls-without-35 : (h : Held) (c : Call) → without 35 (conditionsOf h c) ≡ true
-unfolding without conditionsOf loadingConditions fileConditions conditions publishingConditions publishConditions publishChecks questionConditions openConditions readConditions reportConditions sessionConditions
+unfolding without conditionsOf loadingConditions fileConditions networkConditions conditions publishingConditions publishConditions publishChecks questionConditions openConditions readConditions reportConditions sessionConditions
 calls-without-35 h (load (key-file file)) = refl
+calls-without-35 h (load (network-file file)) = refl
 calls-without-35 h (publish (systematic out work)) = refl
 calls-without-35 h (ask (open-capsule capsule out)) = refl
 calls-without-35 h (ask (read-word word out)) = refl

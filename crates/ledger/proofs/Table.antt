@@ -16,6 +16,9 @@ use Rattle.factors.specs.Factors.{hasFactor}
 use Rattle.key.specs.Shapes.{inLimits}
 use Rattle.key.specs.Keys.{Key, pair, elements, parse, twoBytes, fileOf, distinct, goppaAt, conditions, fileConditions, keyNumber, unsound, reducible}
 use Rattle.key.specs.Bench.{K1, K2, K1-with, K3}
+use Rattle.network.specs.Network.{exchange, sent, switches}
+use Rattle.network.specs.Network as Network
+use Rattle.network_key.specs.Files.{reversed, supportOf, four, fourBytes, parseNetwork, networkConditions}
 use Rattle.code.specs.Code.{entry, inCode, parityRow, parityRows}
 use Rattle.code.specs.PublicKey.{withRow, findPivot, clear, withPivot, columns, echelon, publicKey, dependent, written}
 use Rattle.code.specs.Lock.{locked, rowOf, rowsOf, lockNumber, lock}
@@ -26,7 +29,7 @@ use Rattle.decoder.specs.Calls.{found, isNone, openConditions, readConditions}
 use Rattle.records.specs.Records.{cut, capsulesOf, capsuleConditions, recordOf, recordsOf, occurrences, countsOf, reportConditions}
 use Rattle.session.specs.Session.{sessionConditions}
 use Rattle.ledger.specs.Slot.{State, empty, loaded, published, Slot, emptyKey, fresh, isEmpty, isUnpublished, heldBy, Outcome}
-use Rattle.ledger.specs.Loading.{key-file, loadingConditions, loadedKey}
+use Rattle.ledger.specs.Loading.{key-file, network-file, loadingConditions, loadedKey}
 use Rattle.ledger.specs.Publishing.{systematic, publicBuffer, publishingConditions, publication, freedBytes}
 use Rattle.ledger.specs.Questions.{open-capsule, read-word, report, session-key, answerBuffer, questionConditions, gives, given, answerSize}
 use Rattle.ledger.specs.Calls.{Call, load, publish, ask, drop-key, conditionsOf, outputOf, noAnswer, made, unless, step, run}
@@ -93,6 +96,13 @@ published-1 = record { state = published; key = parse K1 }
 unfoldable pub file : ℕ → ℕ → List ℕ → List ℕ → List ℕ
 file n t support g = fileOf (record { m = 4; n = n; t = t; support = support; g = g })
 
+-- a network file of width 4 with this bit count and these packed bits, and that of K1
+unfoldable pub network : ℕ → List ℕ → ℕ → List ℕ → List ℕ
+network n g count row = 4 ∷ (twoBytes n ++ (twoBytes (length g) ++ (flatMap twoBytes g ++ (fourBytes count ++ row))))
+
+unfoldable pub N1 : List ℕ
+N1 = network 6 (0 ∷ []) 56 (0x60 ∷ 0x40 ∷ 0xB0 ∷ 0x7C ∷ 0x33 ∷ 0xFC ∷ 0x84 ∷ [])
+
 -- P1 to P13
 unfoldable pub rows : List (Asked × Answer)
 rows =
@@ -152,6 +162,18 @@ orders =
     (after [] (load (key-file (file 9 2 (2 ∷ from 2 8) (1 ∷ 0 ∷ [])))), refused 5) ∷
     (after [] (load (key-file (file 9 2 (from 0 9) (1 ∷ 0 ∷ [])))), refused 6) ∷
     (after [] (load (key-file factored-file)), accepted [] 0) ∷
+    -- load of a network file 22, 1, 2, 36, 3, 4, 6, 7
+    (after (load (key-file K1) ∷ []) (load (network-file [])), refused 22) ∷
+    (after [] (load (network-file [])), refused 1) ∷
+    (after [] (load (network-file (0x04 ∷ []))), refused 2) ∷
+    (after [] (load (network-file (network 6 (0 ∷ []) 57 (zeros 8)))), refused 2) ∷
+    (after [] (load (network-file (network 4 (0 ∷ []) 64 (zeros 7)))), refused 36) ∷
+    (after [] (load (network-file (network 4 (16 ∷ []) 56 (zeros 7)))), refused 3) ∷
+    (after [] (load (network-file (network 9 (16 ∷ 16 ∷ []) 56 (zeros 7)))), refused 4) ∷
+    (after [] (load (network-file (network 9 (1 ∷ 0 ∷ []) 56 (zeros 7)))), refused 6) ∷
+    (after [] (load (network-file (network 6 (0 ∷ []) 56 (zeros 7)))), refused 7) ∷
+    (after [] (load (network-file N1)), accepted [] 0) ∷
+    (after (load (network-file N1) ∷ publish (systematic (zeros 4) (zeros 4)) ∷ []) (ask (open-capsule (0x03 ∷ []) (zeros 1))), accepted (0x10 ∷ []) 1) ∷
     -- publish 21, 25, 34, 10, 11, 23
     (after [] (publish (systematic [] [])), refused 21) ∷
     (on (bad empty) (publish (systematic (zeros 4) (zeros 4))), refused 21) ∷
@@ -312,7 +334,7 @@ Story =
 
 -- one computation for all tables
 tables-hold : Holds rows × Holds running × Holds orders × Holds remains × Holds reports × Story
-unfolding _⊕_ from every bytesFor bitAt unpack number pack ones weight fillerClear wellFormed eachWith xorRow dot firstOf isWidth isElement modulusOf polyMul reduced mulMod mul power lastBelow inv value sum same monic product someBelow someList hasSquare hasFactor inLimits pair elements parse twoBytes fileOf distinct goppaAt conditions fileConditions keyNumber reducible K1 K2 K1-with K3 entry inCode parityRow parityRows withRow findPivot clear withPivot columns echelon publicKey dependent written locked rowOf rowsOf lockNumber lock orElse firstRow corrects reading filled exactly opening unsound emptyKey fresh isEmpty isUnpublished heldBy capsuleBits found isNone publishChecks publishConditions freeBytes openConditions readConditions cut capsulesOf capsuleConditions recordOf recordsOf occurrences countsOf reportConditions sessionConditions loadingConditions loadedKey publicBuffer publishingConditions publication freedBytes answerBuffer questionConditions gives given answerSize over conditionsOf outputOf noAnswer made unless step run blank heldIn ledgerNumber entered fed ledgerAfter expected answerBy answerOf lockAnswer countsIn answer zeros file published-K1 published-1 rows running factored-file factored bad-factored bad orders remains two-bytes reports answers story calls flatMap zipWith
+unfolding _⊕_ from every bytesFor bitAt unpack number pack ones weight fillerClear wellFormed eachWith xorRow dot firstOf isWidth isElement modulusOf polyMul reduced mulMod mul power lastBelow inv value sum same monic product someBelow someList hasSquare hasFactor inLimits pair elements parse twoBytes fourBytes fileOf distinct goppaAt conditions fileConditions exchange sent Network.network reversed switches supportOf four parseNetwork networkConditions keyNumber reducible K1 K2 K1-with K3 entry inCode parityRow parityRows withRow findPivot clear withPivot columns echelon publicKey dependent written locked rowOf rowsOf lockNumber lock orElse firstRow corrects reading filled exactly opening unsound emptyKey fresh isEmpty isUnpublished heldBy capsuleBits found isNone publishChecks publishConditions freeBytes openConditions readConditions cut capsulesOf capsuleConditions recordOf recordsOf occurrences countsOf reportConditions sessionConditions loadingConditions loadedKey publicBuffer publishingConditions publication freedBytes answerBuffer questionConditions gives given answerSize over conditionsOf outputOf noAnswer made unless step run blank heldIn ledgerNumber entered fed ledgerAfter expected answerBy answerOf lockAnswer countsIn answer zeros file network N1 published-K1 published-1 rows running factored-file factored bad-factored bad orders remains two-bytes reports answers story calls flatMap zipWith
 tables-hold = (refl, refl, refl, refl, refl, (refl, refl, refl))
 
 pub rows-hold : Holds rows

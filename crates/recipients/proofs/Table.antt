@@ -24,7 +24,7 @@ use Rattle.decoder.specs.Calls.{found, isNone, openConditions, readConditions}
 use Rattle.records.specs.Records.{cut, capsulesOf, capsuleConditions, recordOf, recordsOf, occurrences, countsOf, reportConditions}
 use Rattle.session.specs.Session.{sessionConditions}
 use Rattle.ledger.specs.Slot.{emptyKey, fresh, isEmpty, isUnpublished, heldBy}
-use Rattle.ledger.specs.Loading.{key-file, loadingConditions, loadedKey}
+use Rattle.ledger.specs.Loading.{key-file, network-file, loadingConditions, loadedKey}
 use Rattle.ledger.specs.Publishing.{systematic, publicBuffer, publishingConditions, publication, freedBytes}
 use Rattle.ledger.specs.Questions.{open-capsule, read-word, report, session-key, answerBuffer, questionConditions, gives, given, answerSize}
 use Rattle.ledger.specs.Calls.{Call, load, publish, ask, drop-key, conditionsOf, outputOf, noAnswer, made, unless, step, run}
@@ -62,6 +62,7 @@ unfoldable pub kinds : List Call
 kinds =
     load (key-file K1) ∷
     load (key-file []) ∷
+    load (network-file []) ∷
     publish (systematic (zeros 4) (zeros 4)) ∷
     publish (systematic [] []) ∷
     ask (open-capsule (0x03 ∷ []) (zeros 1)) ∷

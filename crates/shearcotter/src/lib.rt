@@ -4,6 +4,7 @@ use boundary::Element;
 use boundary::Shape;
 use boundary::as_element;
 use boundary::as_shape;
+use converting::Converted;
 use field::Verdict;
 use station::Derived;
 use station::Reply;
@@ -16,7 +17,9 @@ ghost use Rattle.field.specs.Answers.{addOf, multiplyOf, invertOf};
 ghost use Rattle.register.specs.Registered.{registeredOf};
 ghost use Rattle.key.specs.Answers.{shapeOf};
 ghost use Rattle.code.specs.Lock.{lockNumber, lockOutput};
-ghost use Rattle.ledger.specs.Loading.{key-file};
+ghost use Rattle.network_key.specs.Converting.{to-network, from-network, convertOutput};
+ghost use Rattle.converting.specs.Answers.{convertedOf};
+ghost use Rattle.ledger.specs.Loading.{key-file, network-file};
 ghost use Rattle.ledger.specs.Publishing.{systematic};
 ghost use Rattle.ledger.specs.Questions.{open-capsule, read-word, report, session-key};
 ghost use Rattle.ledger.specs.Calls.{load, publish, ask, drop-key};
@@ -92,6 +95,24 @@ pub extern "C" fn shearcotter_shake256(input: &[u8], out: &mut [u8])
     shake::shake256(input, out);
 }
 
+// The network file of a key file's key is written from the output's start; 1, 2, 3, 4, 5, 6, 7 or 10 on refusal.
+#[no_mangle]
+pub extern "C" fn shearcotter_to_network(file: &[u8], out: &mut [u8]) -> Converted
+    ensures answer { λ r. ⌜ r ≡ convertedOf to-network (now (file .entry)) (length (now (out .entry))) ⌝ }
+    ensures output { λ _. ⌜ now (out .exit) ≡ convertOutput to-network (now (file .entry)) (now (out .entry)) ⌝ }
+{
+    converting::to_network(file, out)
+}
+
+// The key file of a network file's key is written from the output's start; 1, 2, 36, 3, 4, 6, 7 or 10 on refusal.
+#[no_mangle]
+pub extern "C" fn shearcotter_from_network(file: &[u8], out: &mut [u8]) -> Converted
+    ensures answer { λ r. ⌜ r ≡ convertedOf from-network (now (file .entry)) (length (now (out .entry))) ⌝ }
+    ensures output { λ _. ⌜ now (out .exit) ≡ convertOutput from-network (now (file .entry)) (now (out .entry)) ⌝ }
+{
+    converting::from_network(file, out)
+}
+
 // The station with two empty slots.
 #[no_mangle]
 pub extern "C" fn shearcotter_fresh() -> Station
@@ -100,12 +121,20 @@ pub extern "C" fn shearcotter_fresh() -> Station
     Station::fresh()
 }
 
-// The file's key is kept; 35, 22, 1, 2, 3, 4, 5, 6 or 7 on refusal.
+// The key of a key file is kept; 35, 22, 1, 2, 3, 4, 5, 6 or 7 on refusal.
 #[no_mangle]
 pub extern "C" fn shearcotter_load(own: Station, name: u8, file: &[u8]) -> Reply
     ensures { λ r. ⌜ r ≡ replyOf (handed own (named name (load (key-file (now (file .entry)))))) ⌝ }
 {
     own.load(name, file)
+}
+
+// The key of a network file is kept; 35, 22, 1, 2, 36, 3, 4, 6 or 7 on refusal.
+#[no_mangle]
+pub extern "C" fn shearcotter_load_network(own: Station, name: u8, file: &[u8]) -> Reply
+    ensures { λ r. ⌜ r ≡ replyOf (handed own (named name (load (network-file (now (file .entry)))))) ⌝ }
+{
+    own.load_network(name, file)
 }
 
 // T is written from the output's start, made in the first m·t × ceil(n/8) bytes of work; 35, 21, 25, 34, 10, 11 or 23 on refusal.

@@ -8,3 +8,4 @@ pub mod ReportLaws
 pub mod SessionLaws
 pub mod Demands
 pub mod Table
+pub mod Alike

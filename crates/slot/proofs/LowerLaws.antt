@@ -5,15 +5,15 @@ use mathlib.Core.Bool.{Bool, true, false, not, cond}
 use mathlib.Core.List.{List}
 use native.Mathlib.Omega.{arith}
 use lib.ListN.{drop}
-use Rattle.key.specs.Keys.{parse}
+use Rattle.key.specs.Keys.{Key}
 use Rattle.key.specs.Kept.{kept, keep}
 use Rattle.key.specs.Answers.{shapeAnswer}
-use Rattle.key_file.specs.Files.{fileShape}
 use Rattle.code.specs.Publish.{freeBytes, publishNumber, publishOutput}
 use Rattle.decoder.specs.Calls.{openNumber, readNumber, openOutput, readOutput, patternOutput}
 use Rattle.reading.specs.Answers.{answerOf, openOf, readOf}
 use Rattle.ledger.specs.Slot.{isEmpty, isUnpublished, heldBy}
-use Rattle.ledger.specs.Loading.{key-file, loadingConditions, loadedKey}
+use Rattle.ledger.specs.Loading.{Loading, loadingConditions, loadedKey}
+use Rattle.loading.specs.Forms.{loadedShape}
 use Rattle.ledger.specs.Publishing.{systematic, publicBuffer, publishingConditions, publication, freedBytes}
 use Rattle.ledger.specs.Questions.{open-capsule, read-word, answerBuffer, questionConditions, gives, given}
 use Rattle.ledger.specs.Calls.{Call, load, publish, ask, outputOf, made}
@@ -23,20 +23,23 @@ use Rattle.slot.specs.Parts.{loadedOf, answeredOf}
 use Rattle.slot.specs.declared.Slot.{Slot}
 use Rattle.slot.proofs.ReplyLaws.{stop, lower, lower-number, lower-refused, lower-accepted, lower-output}
 
--- load, on an empty slot: the shape of the file's key, which is kept
-pub load-answer : (s : Slot) (file : List ℕ) → isEmpty (stateOf (s .state)) ≡ true → fileShape file ≡ loadedOf (handed s (load (key-file file)))
-unfolding fileShape loadedOf stop lower loadingConditions shapeAnswer moved loadedKey keep acceptance refusal
-load-answer s file empty = go (lower s (load (key-file file))) refl
+-- load, on an empty slot: the shape of the key that is kept
+pub load-answer : (s : Slot) (f : Loading) → isEmpty (stateOf (s .state)) ≡ true → loadedShape f ≡ loadedOf (handed s (load f))
+unfolding loadedShape loadedOf stop lower loadingConditions shapeAnswer moved loadedKey keep acceptance refusal
+load-answer s f empty = go (lower s (load f)) refl
   where
-    go : (n : ℕ) → n ≡ lower s (load (key-file file)) → fileShape file ≡ loadedOf (handed s (load (key-file file)))
+    k : Key
+    k = loadedKey f
+
+    go : (n : ℕ) → n ≡ lower s (load f) → loadedShape f ≡ loadedOf (handed s (load f))
     go zero e =
-        ap (λ (i : ℕ). shapeAnswer i (parse file .m, parse file .n, parse file .t)) (sym e)
+        ap (λ (i : ℕ). shapeAnswer i (k .m, k .n, k .t)) (sym e)
         ∙ ap (λ (r : Reply). shapeAnswer (r .refused) (r .slot .key .m, r .slot .key .n, r .slot .key .t))
-        (lower-accepted s (load (key-file file)) (ap not empty) (sym e))
+        (lower-accepted s (load f) (ap not empty) (sym e))
     go (suc n) e =
-        ap (λ (i : ℕ). shapeAnswer i (parse file .m, parse file .n, parse file .t)) (sym e)
+        ap (λ (i : ℕ). shapeAnswer i (k .m, k .n, k .t)) (sym e)
         ∙ ap (λ (r : Reply). shapeAnswer (r .refused) (r .slot .key .m, r .slot .key .n, r .slot .key .t))
-        (lower-refused s (load (key-file file)) (ap not empty) (suc n) e (λ z. omega arith))
+        (lower-refused s (load f) (ap not empty) (suc n) e (λ z. omega arith))
 
 -- publish, with a key
 module _ (s : Slot) (out work : List ℕ) (keyed : isEmpty (stateOf (s .state)) ≡ false) where

@@ -7,9 +7,11 @@ use Rattle.key.specs.Keys.{Key, parse}
 use Rattle.key.specs.Kept.{kept, keep, noKey}
 use Rattle.key.proofs.Parse.{length-elements}
 use Rattle.key.proofs.Filled.{kept-keep}
+use Rattle.network_key.specs.Files.{parseNetwork}
+use Rattle.network_key.proofs.Settings.{length-supportOf}
 use Rattle.field.specs.Numbers.{firstOf}
 use Rattle.ledger.specs.Slot.{loaded, emptyKey, fresh, heldBy, Result}
-use Rattle.ledger.specs.Loading.{Loading, key-file, loadedKey}
+use Rattle.ledger.specs.Loading.{Loading, key-file, network-file, loadedKey}
 use Rattle.ledger.specs.Publishing.{Publishing}
 use Rattle.ledger.specs.Questions.{Question}
 use Rattle.ledger.specs.Calls.{Call, load, publish, ask, drop-key, conditionsOf, made, step}
@@ -27,8 +29,9 @@ unfolding parse
 kept-parse file = kept-keep (parse file) (length-elements file _ _) (length-elements file _ _)
 
 kept-loaded : (f : Loading) → kept (keep (loadedKey f)) ≡ loadedKey f
-unfolding loadedKey
+unfolding loadedKey parseNetwork
 kept-loaded (key-file file) = kept-parse file
+kept-loaded (network-file file) = kept-keep (parseNetwork file) (length-supportOf _ _ _) (length-elements file _ _)
 
 -- the fresh slot
 pub view-fresh : view freshSlot ≡ fresh

@@ -1,41 +1,24 @@
 -- What the answers of load, open and read say once they are taken apart. Assumes nothing.
-use Prim.Native.Nat.{ℕ, zero, suc, _+_, _*_}
-use mathlib.Core.Path.{_≡_, refl, ap, _∙_}
-use mathlib.Core.List.{List}
+use Prim.Native.Nat.{ℕ, zero, suc}
+use mathlib.Core.Path.{_≡_, refl, sym, ap, _∙_}
 use native.Mathlib.Omega.{arith}
-use Rattle.key.specs.Keys.{parse}
+use Rattle.bits.specs.Bits.{padded}
 use Rattle.key.specs.Kept.{parts, keep, sizesOf}
 use Rattle.key.specs.Answers.{sizes, shapeAnswer, answerNumber as shapeNumber}
-use Rattle.key.specs.declared.kept.Key.{Key}
+use Rattle.key.proofs.ShapeAnswers.{shape-number, shape-sizes, shape-refused}
 use Rattle.key.specs.declared.shape.Sizes.{Sizes}
 use Rattle.key.specs.declared.shape.ShapeAnswer.the-variants as shapes
-use Rattle.key_file.specs.Files.{stored}
-use Rattle.key_file.proofs.Files.{head-accepted, stored-key}
 use Rattle.reading.specs.Answers.{answerOf}
 use Rattle.reading.specs.declared.calls.Answer.the-variants as answers
 use Rattle.ledger.specs.Slot.{loaded}
-use Rattle.ledger.specs.Loading.{key-file, loadingConditions, loadedKey}
+use Rattle.ledger.specs.Loading.{Loading, loadedKey}
 use Rattle.ledger.specs.Calls.{load, made}
+use Rattle.loading.specs.Forms.{loadedShape}
 use Rattle.slot.specs.Replies.{byteOf, answerNumber, Reply, acceptance, moved, Handed, handed}
 use Rattle.slot.specs.Parts.{loadedOf, answeredOf}
 use Rattle.slot.specs.declared.Slot.{Slot}
 use Rattle.slot.proofs.ReplyLaws.{lower, lower-none}
 use Rattle.slot.proofs.StepView.{accepted-reply}
-
-shape-number : (q : ℕ) (s : ℕ × ℕ × ℕ) → shapeNumber (shapeAnswer q s) ≡ q
-unfolding shapeNumber shapeAnswer
-shape-number zero s = refl
-shape-number (suc q) s = refl
-
-shape-sizes : (q : ℕ) (s : ℕ × ℕ × ℕ) {z : Sizes} → shapeAnswer q s ≡ shapes.Sizes z → (q ≡ 0) × (z ≡ sizes s)
-unfolding shapeAnswer
-shape-sizes zero s e = (refl, cc)
-shape-sizes (suc q) s e = let z : _≡_ {A = ℕ} 0 1 = cc in absurd (omega arith)
-
-shape-refused : (q : ℕ) (s : ℕ × ℕ × ℕ) {x : ℕ} → shapeAnswer q s ≡ shapes.Refused x → q ≡ 0 → ⊥
-unfolding shapeAnswer
-shape-refused zero s e h = let z : _≡_ {A = ℕ} 0 1 = cc in omega arith
-shape-refused (suc q) s e h = omega arith
 
 answer-number : (q w : ℕ) → answerNumber (answerOf q w) ≡ q
 unfolding answerNumber answerOf
@@ -60,7 +43,7 @@ module _ (h : Handed) where
 
   pub loaded-refused : {x : ℕ} → loadedOf h ≡ shapes.Refused x → h .reply .refused ≡ 0 → ⊥
   unfolding loadedOf
-  loaded-refused e = shape-refused _ _ e
+  loaded-refused e = shape-refused _ _ e .1
 
   pub loaded-accepted : {z : Sizes} → loadedOf h ≡ shapes.Sizes z → h .reply .refused ≡ 0
   unfolding loadedOf
@@ -79,13 +62,22 @@ module _ (h : Handed) where
   unfolding answeredOf
   answered-ones e = answer-ones _ _ e
 
--- the file's key is kept: its shape, and its arrays
-pub loaded-slot : (s : Slot) (file : List ℕ) {z : Sizes} → loadedOf (handed s (load (key-file file))) ≡ shapes.Sizes z
-    → record { state = byteOf loaded; key = parts (z .m) (z .n) (z .t) (stored 8192 file 3 (z .n)) (stored 128 file (5 + 2 * z .n) (z .t)) } ≡ moved s (load (key-file file))
-unfolding loadedOf lower loadingConditions moved loadedKey made acceptance keep sizes sizesOf
-loaded-slot s file {z} e =
-    let o = shape-sizes _ _ e in
-    let c = load (key-file file) in
-    let said : z ≡ sizesOf (parse file) =
-    o .1 ∙ ap (λ (r : Reply). sizes (r .slot .key .m, r .slot .key .n, r .slot .key .t)) (accepted-reply s c refl (o .0)) in
-    ap (λ (k : Key). record { state = byteOf loaded; key = k }) (stored-key file (head-accepted file (lower-none s c (o .0))) z said)
+-- an accepted load: nothing refuses what is loaded, and the shape is its key's
+module _ (s : Slot) (f : Loading) {z : Sizes} (e : loadedOf (handed s (load f)) ≡ shapes.Sizes z) where
+  loaded-said : z ≡ sizesOf (loadedKey f)
+  unfolding loadedOf moved keep made acceptance sizes sizesOf
+  loaded-said =
+      let o = shape-sizes _ _ e in
+      o .1 ∙ ap (λ (r : Reply). sizes (r .slot .key .m, r .slot .key .n, r .slot .key .t)) (accepted-reply s (load f) refl (o .0))
+
+  pub loaded-shape : loadedShape f ≡ shapes.Sizes z
+  unfolding loadedShape lower shapeAnswer sizes sizesOf
+  loaded-shape =
+      ap (λ (i : ℕ). shapeAnswer i (loadedKey f .m, loadedKey f .n, loadedKey f .t)) (lower-none s (load f) (loaded-accepted (handed s (load f)) e))
+      ∙ ap (λ (z : Sizes). shapes.Sizes z) (sym loaded-said)
+
+  -- the key is kept: its shape, and its arrays
+  pub loaded-slot : record { state = byteOf loaded; key = parts (z .m) (z .n) (z .t) (padded 8192 (loadedKey f .support)) (padded 128 (loadedKey f .g)) } ≡ moved s (load f)
+  unfolding moved keep sizesOf
+  loaded-slot =
+      ap (λ (z : Sizes). record { state = byteOf loaded; key = parts (z .m) (z .n) (z .t) (padded 8192 (loadedKey f .support)) (padded 128 (loadedKey f .g)) }) loaded-said

@@ -3,6 +3,7 @@
 use field::Verdict;
 use key::kept::Key;
 use key::shape::ShapeAnswer;
+use loading::Form;
 use reading::Answer;
 use reporting::Counted;
 use session_key::SessionKey;
@@ -11,10 +12,10 @@ ghost use mathlib.Core.Bool.{not};
 ghost use lib.ListN.{drop};
 ghost use Rattle.field.specs.Verdicts.{verdictOf};
 ghost use Rattle.ledger.specs.Slot.{isEmpty, isUnpublished};
-ghost use Rattle.ledger.specs.Loading.{key-file};
 ghost use Rattle.ledger.specs.Publishing.{systematic};
 ghost use Rattle.ledger.specs.Questions.{open-capsule, read-word, report, session-key};
 ghost use Rattle.ledger.specs.Calls.{load, publish, ask, drop-key};
+ghost use Rattle.loading.specs.Forms.{loadingOf};
 ghost use Rattle.slot.specs.Replies.{stateOf, answerNumber, freshSlot, handed};
 ghost use Rattle.slot.specs.Parts.{slotIn, keyless, loadedOf, answeredOf, countedOf, derivedOf};
 
@@ -74,14 +75,15 @@ impl Slot {
     }
 }
 
-// The shape of the file's key, which the slot is to keep; 22, 1, 2, 3, 4, 5, 6 or 7 on refusal. A load asks for nothing but the state.
-pub fn load(state: u8, file: &[u8]) -> ShapeAnswer
-    ensures { λ r. ⌜ r ≡ loadedOf (handed (keyless state) (load (key-file (now (file .entry))))) ⌝ }
+// The shape of the file's key, which the slot is to keep; 22, 1, 2, 3, 4, 5, 6 or 7 on refusal, and for a network file 36 behind 2.
+// A load asks for nothing but the state.
+pub fn load(state: u8, form: Form, file: &[u8]) -> ShapeAnswer
+    ensures { λ r. ⌜ r ≡ loadedOf (handed (keyless state) (load (loadingOf form (now (file .entry))))) ⌝ }
 {
     if !is_empty(state) {
         return ShapeAnswer::Refused(22);
     }
-    key_file::shape(file)
+    loading::shape(form, file)
 }
 
 // T is written from the output's start, made in the first m·t × ceil(n/8) bytes of work; 21, 25, 34, 10, 11 or 23 on refusal.

@@ -1,11 +1,12 @@
 -- What a call hands back, by its byte: 35 where that is no name, else what the slot's call hands back. Assumes nothing.
-use Prim.Native.Nat.{ℕ, zero, suc, _+_, _*_}
+use Prim.Native.Nat.{ℕ, zero, suc}
 use mathlib.Core.Path.{_≡_, refl, sym, ap, ap₂, _∙_}
 use mathlib.Core.Bool.{Bool, true, false, true≢false}
 use mathlib.Core.List.{List}
 use native.Mathlib.Omega.{arith}
 use borrow.Author.Tests.{ne-eqb}
 use lib.ListN.{drop}
+use Rattle.bits.specs.Bits.{padded}
 use Rattle.field.specs.Verdicts.{verdictOf, numberOf}
 use Rattle.field.specs.declared.Verdict.{Verdict}
 use Rattle.field.specs.declared.Verdict.the-variants as verdicts
@@ -16,11 +17,10 @@ use Rattle.key.specs.declared.kept.Key.{Key}
 use Rattle.key.specs.declared.shape.Sizes.{Sizes}
 use Rattle.key.specs.declared.shape.ShapeAnswer.{ShapeAnswer}
 use Rattle.key.specs.declared.shape.ShapeAnswer.the-variants as shapes
-use Rattle.key_file.specs.Files.{stored}
 use Rattle.reading.specs.declared.calls.Answer.{Answer}
 use Rattle.reading.specs.declared.calls.Answer.the-variants as answers
 use Rattle.ledger.specs.Slot.{loaded, heldBy, Outcome}
-use Rattle.ledger.specs.Loading.{key-file}
+use Rattle.ledger.specs.Loading.{Loading, loadedKey}
 use Rattle.ledger.specs.Publishing.{Publishing}
 use Rattle.ledger.specs.Questions.{Question}
 use Rattle.ledger.specs.Calls.{Call, load, publish, ask, drop-key, conditionsOf, outputOf, noAnswer, made}
@@ -125,26 +125,26 @@ state-refusal : (s : Station) (b : ℕ) {state : ℕ} → state ≡ slotOf (chos
 state-refusal s b at c asks = ap (λ (n : ℕ). Slots.handed (keyless n) c .reply .refused) at ∙ state-number (slotOf (chosen b) s) c asks
 
 module _ (s : Station) (b : ℕ) (h : known b ≡ true) {state : ℕ} (at : state ≡ slotOf (chosen b) s .state) where
-  -- load writes the key of the file
-  module _ (file : List ℕ) {r : ShapeAnswer} (e : r ≡ loadedOf (Slots.handed (keyless state) (load (key-file file)))) where
-    load-refusal : Slots.handed (keyless state) (load (key-file file)) .reply .refused ≡ Slots.handed (slotOf (chosen b) s) (load (key-file file)) .reply .refused
+  -- load writes the key
+  module _ (f : Loading) {r : ShapeAnswer} (e : r ≡ loadedOf (Slots.handed (keyless state) (load f))) where
+    load-refusal : Slots.handed (keyless state) (load f) .reply .refused ≡ Slots.handed (slotOf (chosen b) s) (load f) .reply .refused
     unfolding conditionsOf heldBy view
-    load-refusal = state-refusal s b at (load (key-file file)) refl
+    load-refusal = state-refusal s b at (load f) refl
 
-    load-number : {n : ℕ} → n ≡ shapeNumber r → n ≡ Slots.handed (keyless state) (load (key-file file)) .reply .refused
+    load-number : {n : ℕ} → n ≡ shapeNumber r → n ≡ Slots.handed (keyless state) (load f) .reply .refused
     load-number k = k ∙ ap shapeNumber e ∙ loaded-number _
 
-    pub load-refused : {n x : ℕ} → n ≡ shapeNumber r → r ≡ shapes.Refused x → refusal s n ≡ replyOf (handed s (named b (load (key-file file))))
+    pub load-refused : {n x : ℕ} → n ≡ shapeNumber r → r ≡ shapes.Refused x → refusal s n ≡ replyOf (handed s (named b (load f)))
     load-refused k x =
-        reply-refused s b (load (key-file file)) h (load-number k ∙ load-refusal) (λ z. loaded-refused _ (sym e ∙ x) (sym (load-number k) ∙ z))
+        reply-refused s b (load f) h (load-number k ∙ load-refusal) (λ z. loaded-refused _ (sym e ∙ x) (sym (load-number k) ∙ z))
 
-    pub load-placed : {z : Sizes} {x y : List ℕ} → r ≡ shapes.Sizes z → x ≡ stored 8192 file 3 (z .n) → y ≡ stored 128 file (5 + 2 * z .n) (z .t)
-        → placed b (record { state = byteOf loaded; key = parts (z .m) (z .n) (z .t) x y }) s ≡ replyOf (handed s (named b (load (key-file file))))
+    pub load-placed : {z : Sizes} {x y : List ℕ} → r ≡ shapes.Sizes z → x ≡ padded 8192 (loadedKey f .support) → y ≡ padded 128 (loadedKey f .g)
+        → placed b (record { state = byteOf loaded; key = parts (z .m) (z .n) (z .t) x y }) s ≡ replyOf (handed s (named b (load f)))
     unfolding made moved
     load-placed {z} a p q =
         ap₂ (λ (x y : List ℕ). placed b (record { state = byteOf loaded; key = parts (z .m) (z .n) (z .t) x y }) s) p q
-        ∙ ap (λ (t : Slot). placed b t s) (loaded-slot (keyless state) file (sym e ∙ a))
-        ∙ reply-accepted s b (load (key-file file)) h refl (sym load-refusal ∙ loaded-accepted _ (sym e ∙ a))
+        ∙ ap (λ (t : Slot). placed b t s) (loaded-slot (keyless state) f (sym e ∙ a))
+        ∙ reply-accepted s b (load f) h refl (sym load-refusal ∙ loaded-accepted _ (sym e ∙ a))
 
   -- a drop leaves the fresh slot
   module _ {r : Verdict} (e : r ≡ verdictOf (Slots.handed (keyless state) drop-key .reply .refused)) where

@@ -3,14 +3,15 @@
 use field::Verdict;
 use key::kept::Key;
 use key::shape::ShapeAnswer;
-use key_file::write_g;
-use key_file::write_support;
+use loading::Form;
+use loading::write_g;
+use loading::write_support;
 use reading::Answer;
 use slot::Slot;
 use slot::answer_number;
 ghost use mathlib.Core.Path.{_≡_};
 ghost use lib.ListN.{drop, replicate};
-ghost use Rattle.ledger.specs.Loading.{key-file};
+ghost use Rattle.ledger.specs.Loading.{key-file, network-file};
 ghost use Rattle.ledger.specs.Publishing.{systematic};
 ghost use Rattle.ledger.specs.Questions.{open-capsule, read-word, report, session-key};
 ghost use Rattle.ledger.specs.Calls.{load, publish, ask, drop-key};
@@ -187,7 +188,7 @@ impl Station {
         }
     }
 
-    // The file's key is kept; 35, 22, 1, 2, 3, 4, 5, 6 or 7 on refusal. The key is written where it stays, so that it is not copied.
+    // The key of a key file is kept; 35, 22, 1, 2, 3, 4, 5, 6 or 7 on refusal. It is written where it stays, so that it is not copied.
     pub fn load(self, name: u8, file: &[u8]) -> Reply
         ensures { λ r. ⌜ r ≡ replyOf (handed self (named name (load (key-file (now (file .entry)))))) ⌝ }
     {
@@ -195,7 +196,7 @@ impl Station {
         if !is_name(name) {
             return reply;
         }
-        let answer = slot::load(byte(name, self.a.state, self.b.state), file);
+        let answer = slot::load(byte(name, self.a.state, self.b.state), Form::KeyFile, file);
         let ShapeAnswer::Sizes(s) = answer else {
             reply.refused = key::shape::number(answer);
             return reply;
@@ -206,17 +207,53 @@ impl Station {
             reply.station.a.key.m = s.m;
             reply.station.a.key.n = s.n;
             reply.station.a.key.t = s.t;
-            write_support(file, s.n, &mut reply.station.a.key.support);
-            write_g(file, s.n, s.t, &mut reply.station.a.key.g);
+            write_support(Form::KeyFile, file, s, &mut reply.station.a.key.support);
+            write_g(Form::KeyFile, file, s, &mut reply.station.a.key.g);
         } else {
             reply.station.b.state = Slot::LOADED;
             reply.station.b.key.m = s.m;
             reply.station.b.key.n = s.n;
             reply.station.b.key.t = s.t;
-            write_support(file, s.n, &mut reply.station.b.key.support);
-            write_g(file, s.n, s.t, &mut reply.station.b.key.g);
+            write_support(Form::KeyFile, file, s, &mut reply.station.b.key.support);
+            write_g(Form::KeyFile, file, s, &mut reply.station.b.key.g);
         }
         reply
+    }
+
+    // The key of a network file is kept likewise; 35, 22, 1, 2, 36, 3, 4, 6 or 7 on refusal.
+    pub fn load_network(self, name: u8, file: &[u8]) -> Reply
+        ensures { λ r. ⌜ r ≡ replyOf (handed self (named name (load (network-file (now (file .entry)))))) ⌝ }
+    {
+        let mut held = self.refuse(35);
+        if !is_name(name) {
+            return held;
+        }
+        let answer = slot::load(
+            byte(name, self.a.state, self.b.state),
+            Form::NetworkFile,
+            file,
+        );
+        let ShapeAnswer::Sizes(s) = answer else {
+            held.refused = key::shape::number(answer);
+            return held;
+        };
+        held.refused = 0;
+        if name == Station::A {
+            held.station.a.state = Slot::LOADED;
+            held.station.a.key.m = s.m;
+            held.station.a.key.n = s.n;
+            held.station.a.key.t = s.t;
+            write_support(Form::NetworkFile, file, s, &mut held.station.a.key.support);
+            write_g(Form::NetworkFile, file, s, &mut held.station.a.key.g);
+        } else {
+            held.station.b.state = Slot::LOADED;
+            held.station.b.key.m = s.m;
+            held.station.b.key.n = s.n;
+            held.station.b.key.t = s.t;
+            write_support(Form::NetworkFile, file, s, &mut held.station.b.key.support);
+            write_g(Form::NetworkFile, file, s, &mut held.station.b.key.g);
+        }
+        held
     }
 
     // T is written from the output's start, made in the first m·t × ceil(n/8) bytes of work; 35, 21, 25, 34, 10, 11 or 23 on refusal.

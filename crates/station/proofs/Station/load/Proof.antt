@@ -4,7 +4,10 @@ use borrow.Author.Needs.{needs}
 use borrow.Author.Tests.{not-true, not-false}
 use Rattle.ledger.specs.Loading.{key-file}
 use Rattle.ledger.specs.Calls.{load}
+use Rattle.loading.specs.Forms.{loadingOf}
 use Rattle.slot.specs.Replies.{byteOf}
+use Rattle.slot.specs.Parts.{keyless}
+use Rattle.slot.proofs.Taken.{loaded-shape}
 use Rattle.station.specs.declared.Reply.{Reply}
 use Rattle.station.proofs.Picked.{slot-state, written-first, written-second}
 use Rattle.station.proofs.Named.{reply-unknown, load-refused, load-placed}
@@ -40,6 +43,7 @@ number-requires : tie.Need-number-requires
 number-requires c κs = tt
 
 returns-2 : tie.Need-returns-2
+unfolding loadingOf
 returns-2 c =
     let m = c .before in
     let l = m .before .before in
@@ -50,7 +54,7 @@ returns-2 c =
     let k = sym (i .is-name .ensures) ∙ not-false _ (e .if1 .left) in
     let h = l .before .byte .ensures ∙ slot-state (a .name) (a .self) in
     ap (λ (q : Reply). record { station = q .station; refused = c .number .result; ones = q .ones }) (r .refuse .ensures)
-    ∙ load-refused (a .self) (a .name) k h (a .file .now) (l .load .ensures) (c .number .ensures) (m .enum-told .given .1)
+    ∙ load-refused (a .self) (a .name) k h (key-file (a .file .now)) (l .load .ensures) (c .number .ensures) (m .enum-told .given .1)
 
 way-write-given-reply : tie.Need-way-write-given-reply
 way-write-given-reply c = search needs
@@ -83,7 +87,7 @@ write-g-requires-2 : tie.Need-write-g-requires-2
 write-g-requires-2 c κs = tt
 
 returns-3 : tie.Need-returns-3
-unfolding byteOf
+unfolding byteOf loadingOf
 returns-3 c =
     let w = c .before .before in
     let t = w .before .before .before .before .before .before in
@@ -95,11 +99,12 @@ returns-3 c =
     let a = r .before .before .args in
     let k = sym (i .is-name .ensures) ∙ not-false _ (e .if1 .left) in
     let h = l .before .byte .ensures ∙ slot-state (a .name) (a .self) in
+    let z = loaded-shape (keyless (l .before .byte .result)) (key-file (a .file .now)) (sym (l .load .ensures) ∙ m .answer .given .1) in
     written-first (a .name) (a .self) (r .refuse .ensures) _ (t .if2 .taken)
-    ∙ load-placed (a .self) (a .name) k h (a .file .now) (l .load .ensures) (m .answer .given .1) (w .write-support .ensures) (c .write-g .ensures)
+    ∙ load-placed (a .self) (a .name) k h (key-file (a .file .now)) (l .load .ensures) (m .answer .given .1) (w .write-support .ensures z) (c .write-g .ensures z)
 
 returns-4 : tie.Need-returns-4
-unfolding byteOf
+unfolding byteOf loadingOf
 returns-4 c =
     let w = c .before .before in
     let t = w .before .before .before .before .before .before in
@@ -111,8 +116,9 @@ returns-4 c =
     let a = r .before .before .args in
     let k = sym (i .is-name .ensures) ∙ not-false _ (e .if1 .left) in
     let h = l .before .byte .ensures ∙ slot-state (a .name) (a .self) in
+    let z = loaded-shape (keyless (l .before .byte .result)) (key-file (a .file .now)) (sym (l .load .ensures) ∙ m .answer .given .1) in
     written-second (a .name) (a .self) (r .refuse .ensures) _ (t .if2 .left)
-    ∙ load-placed (a .self) (a .name) k h (a .file .now) (l .load .ensures) (m .answer .given .1) (w .write-support2 .ensures) (c .write-g2 .ensures)
+    ∙ load-placed (a .self) (a .name) k h (key-file (a .file .now)) (l .load .ensures) (m .answer .given .1) (w .write-support2 .ensures z) (c .write-g2 .ensures z)
 
 pub load-spec : {M : Type 1} → statement M
 load-spec =
