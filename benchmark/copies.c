@@ -7,7 +7,8 @@
 
 enum { ARRAY = 2 * SHEARCOTTER_MOST_PLACES, CAPSULE = SHEARCOTTER_CAPSULE_BYTES(12, 64), PATTERN = SHEARCOTTER_PATTERN_BYTES(3488) };
 
-static uint8_t file[1 << 15], public_key[1 << 19], work[1 << 19], row[1 << 10], out[1 << 10];
+static uint8_t file[1 << 15], network[SHEARCOTTER_NETWORK_BYTES(12, 64)], public_key[1 << 19], work[1 << 19];
+static uint8_t row[1 << 10], out[1 << 10];
 static shearcotter_station station;
 static shearcotter_reply reply;
 static shearcotter_reported reported;
@@ -70,8 +71,10 @@ static void say(const char *call, size_t reply_size, int number, int wrong)
 static void refused(uint8_t at, int number, size_t size)
 {
     plain = 1;
-    if (number == 35)
+    if (number == 35) {
         COUNT("load, refused", shearcotter_load(station, at, file, size), number);
+        COUNT("load_network, refused", shearcotter_load_network(station, at, network, sizeof network), number);
+    }
     COUNT("publish, refused", shearcotter_publish(station, at, public_key, sizeof public_key, work, sizeof work), number);
     COUNT("open, refused", shearcotter_open(station, at, row, 1, out, sizeof out), number);
     COUNT("read, refused", shearcotter_read(station, at, row, 1, out, sizeof out), number);
@@ -81,9 +84,13 @@ static void refused(uint8_t at, int number, size_t size)
     plain = 0;
 }
 
-/* Load and publish, and their refusals. */
+/* Both loads and publish, and their refusals. */
 static void published(size_t size)
 {
+    COUNT("load_network, refused", shearcotter_load_network(station, name, network, sizeof network - 1), 2);
+    COUNT("load_network", shearcotter_load_network(station, name, network, sizeof network), 0);
+    COUNT("load_network, refused", shearcotter_load_network(station, name, network, sizeof network), 22);
+    station = shearcotter_drop(station, name).station;
     COUNT("load, refused", shearcotter_load(station, name, file, size - 1), 2);
     COUNT("load", shearcotter_load(station, name, file, size), 0);
     COUNT("load, refused", shearcotter_load(station, name, file, size), 22);
@@ -119,6 +126,7 @@ int main(int count, char **words)
 {
     FILE *key = count == 2 ? fopen(words[1], "rb") : NULL;
     size_t size = key ? fread(file, 1, sizeof file, key) : 0;
+    failed |= shearcotter_to_network(file, size, network, sizeof network).refused;
     for (name = SHEARCOTTER_A; name <= SHEARCOTTER_B; name++) {
         reply = shearcotter_load(shearcotter_fresh(), SHEARCOTTER_A + SHEARCOTTER_B - name, file, size);
         station = reply.station;

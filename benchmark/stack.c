@@ -10,7 +10,8 @@
 
 enum { SIZE = 1 << 20, MARK = 0xA5, M = 13, N = 8192, T = 128 };
 
-static uint8_t file[1 << 15], public_key[1 << 21], work[1 << 21], pattern[N / 8], capsule[M * T / 8], out[N / 8];
+static uint8_t file[1 << 15], network[SHEARCOTTER_NETWORK_BYTES(M, T)], other[1 << 15], public_key[1 << 21], work[1 << 21];
+static uint8_t pattern[N / 8], capsule[M * T / 8], out[N / 8];
 static uint8_t card[3 * sizeof capsule + 1], records[4];
 static uint16_t list[SHEARCOTTER_LONGEST];
 static size_t size;
@@ -32,6 +33,7 @@ static void *fresh(void *none) { station = shearcotter_fresh(); return none; }
     }
 
 CALL(load, shearcotter_load(station, name, file, size))
+CALL(load_network, shearcotter_load_network(station, name, network, sizeof network))
 CALL(publish, shearcotter_publish(station, name, public_key, sizeof public_key, work, sizeof work))
 CALL(open_capsule, shearcotter_open(station, name, capsule, sizeof capsule, out, sizeof out))
 CALL(read_word, shearcotter_read(station, name, pattern, sizeof pattern, out, sizeof out))
@@ -61,6 +63,18 @@ static void *session_13(void *none)
     capsule[0] ^= 1;
     session(none);
     capsule[0] ^= 1;
+    return none;
+}
+
+static void *to_network(void *none)
+{
+    refused = shearcotter_to_network(file, size, network, sizeof network).refused;
+    return none;
+}
+
+static void *from_network(void *none)
+{
+    refused = shearcotter_from_network(network, sizeof network, other, sizeof other).refused;
     return none;
 }
 
@@ -113,6 +127,8 @@ static void measure(const char *of, const char *call, void *(*made)(void *), siz
 /* The calls that take a name; what is locked is for the named recipient's key. */
 static void measure_named(const char *of)
 {
+    measure(of, "load_network", load_network, SHEARCOTTER_STACK_LOAD_NETWORK);
+    drop(NULL);
     measure(of, "load", load, SHEARCOTTER_STACK_LOAD);
     measure(of, "publish", publish, SHEARCOTTER_STACK_PUBLISH);
     measure("", "lock", lock, SHEARCOTTER_STACK_LOCK);
@@ -132,6 +148,8 @@ int main(int count, char **words)
     for (int i = 0; i < SHEARCOTTER_LONGEST; i++)
         list[i] = (uint16_t)(i * i % (1 << M));
     measure("", "fresh", fresh, SHEARCOTTER_STACK_FRESH);
+    measure("", "to_network", to_network, SHEARCOTTER_STACK_TO_NETWORK);
+    measure("", "from_network", from_network, SHEARCOTTER_STACK_FROM_NETWORK);
     for (name = SHEARCOTTER_A; name <= SHEARCOTTER_B; name++)
         measure_named(name == SHEARCOTTER_A ? "A" : "B");
     measure("", "register", shortest_register, SHEARCOTTER_STACK_REGISTER);

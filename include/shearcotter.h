@@ -1,4 +1,5 @@
-/* Goppa code capsules: field, keys, public key, locking, reading, opening, reports, session keys. Link libshearcotter.a (x86-64).
+/* Goppa code capsules: field, keys, public key, locking, reading, opening, reports, session keys, conversions of key files. Link
+ * libshearcotter.a (x86-64).
  *
  * Rules for every call:
  * - Pointers are not null, also with length 0, and the buffers of one call do not overlap.
@@ -41,6 +42,7 @@ enum shearcotter_limit {
 enum shearcotter_stack_kib {
     SHEARCOTTER_STACK_FRESH = 52,
     SHEARCOTTER_STACK_LOAD = 225,
+    SHEARCOTTER_STACK_LOAD_NETWORK = 225,
     SHEARCOTTER_STACK_PUBLISH = 280,
     SHEARCOTTER_STACK_LOCK = 2,
     SHEARCOTTER_STACK_OPEN = 273,
@@ -49,11 +51,14 @@ enum shearcotter_stack_kib {
     SHEARCOTTER_STACK_SESSION = 276,
     SHEARCOTTER_STACK_DROP = 98,
     SHEARCOTTER_STACK_REGISTER = 4,
-    SHEARCOTTER_STACK_SHAKE = 2
+    SHEARCOTTER_STACK_SHAKE = 2,
+    SHEARCOTTER_STACK_TO_NETWORK = 224,
+    SHEARCOTTER_STACK_FROM_NETWORK = 127
 };
 
 /* Byte lengths for the shape (m, n, t), with m*t < n. */
 #define SHEARCOTTER_FILE_BYTES(n, t) (5 + 2 * (size_t)(n) + 2 * (size_t)(t))
+#define SHEARCOTTER_NETWORK_BYTES(m, t) (9 + 2 * (size_t)(t) + ((2 * (size_t)(m) - 1) * ((size_t)1 << ((m) - 1)) + 7) / 8)
 #define SHEARCOTTER_PATTERN_BYTES(n) (((size_t)(n) + 7) / 8)
 #define SHEARCOTTER_CAPSULE_BYTES(m, t) (((size_t)(m) * (t) + 7) / 8)
 #define SHEARCOTTER_PUBLIC_BYTES(m, n, t) ((size_t)(m) * (t) * (((size_t)(n) - (size_t)(m) * (t) + 7) / 8))
@@ -112,7 +117,9 @@ enum shearcotter_name {
     /* of a key that words are read with, and nothing else */                                          \
     X(SHEARCOTTER_REDUCIBLE_KEY, 34, "g has a proper factor")                                          \
     /* of every call on a station */                                                                   \
-    X(SHEARCOTTER_UNKNOWN_NAME, 35, "a name other than A and B")
+    X(SHEARCOTTER_UNKNOWN_NAME, 35, "a name other than A and B")                                       \
+    /* of a network file */                                                                            \
+    X(SHEARCOTTER_BAD_BIT_COUNT, 36, "bit count other than (2m-1)*2^(m-1)")
 
 /* What `refused` says. */
 #define SHEARCOTTER_NUMBER(name, number, words) name = number,
@@ -200,6 +207,12 @@ typedef struct {
     uint16_t c[SHEARCOTTER_COEFFICIENTS];
 } shearcotter_register;
 
+/* The number of the refusal, 0 for none, and how many bytes were written, 0 where it is refused. */
+typedef struct {
+    uint8_t refused;
+    size_t length;
+} shearcotter_converted;
+
 /* The layout that the archive has, in bytes; a compiler that has another stops here. */
 #if defined(__cplusplus) && __cplusplus >= 201103L
 #define SHEARCOTTER_HOLDS(name, condition) static_assert(condition, #name);
@@ -248,14 +261,18 @@ SHEARCOTTER_SIZE(register, 536)
 SHEARCOTTER_OFFSET(register, refused, 0)
 SHEARCOTTER_OFFSET(register, length, 8)
 SHEARCOTTER_OFFSET(register, c, 16)
+SHEARCOTTER_SIZE(converted, 16)
+SHEARCOTTER_OFFSET(converted, refused, 0)
+SHEARCOTTER_OFFSET(converted, length, 8)
 
 #undef SHEARCOTTER_OFFSET
 #undef SHEARCOTTER_SIZE
 #undef SHEARCOTTER_HOLDS
 
 /* Secrets. On the stack the calls leave copies of the station, both slots, whichever was named; points of the pattern that they
- * found, and what they hashed. Who holds a key wipes
- * - the bytes of the key file after load, and publish's workspace after publish, refused or not;
+ * found, what they hashed, and what a conversion worked out. Who holds a key wipes
+ * - the bytes of a key file of either form after load, load_network or a conversion, those of the file that a conversion wrote after
+ *   their use, and publish's workspace after publish, refused or not;
  * - each pattern, session key, station and reply after its use, and after the last session the secret that was lent for it; drop
  *   hands back a station with a fresh slot, and the old station stays the caller's;
  * - the stack. Stations pass by value, so that the compiler makes copies without a name in the frame of the function that calls.
@@ -287,6 +304,17 @@ void shearcotter_shake256(const uint8_t *input, size_t input_length, uint8_t *ou
 uint8_t shearcotter_lock(uint8_t m, uint16_t n, uint16_t t, const uint8_t *public_key, size_t public_length,
                          const uint8_t *pattern, size_t pattern_length, uint8_t *out, size_t out_length);
 
+/* Writes the network file of a key file: SHEARCOTTER_NETWORK_BYTES(m, t), which are handed back. The network's other values, those
+ * whose bits in reverse order the support has not, come behind in rising order, and the control bits are those of the standard's
+ * routine. shearcotter_from_network gives the same key file back. Refused as load refuses the file, 22 and the name aside, then:
+ * 1, 2, 3, 4, 5, 6, 7, 10. */
+shearcotter_converted shearcotter_to_network(const uint8_t *file, size_t file_length, uint8_t *out, size_t out_length);
+
+/* Writes the key file of a network file: SHEARCOTTER_FILE_BYTES(n, t), which are handed back. Converted forward
+ * again, support and g are the same; spare settings may differ. Refused as load_network refuses the file, 22 and the
+ * name aside, then: 1, 2, 36, 3, 4, 5, 6, 7, 10. */
+shearcotter_converted shearcotter_from_network(const uint8_t *file, size_t file_length, uint8_t *out, size_t out_length);
+
 /* The station with both slots empty, zeros only. */
 shearcotter_station shearcotter_fresh(void);
 
@@ -295,6 +323,13 @@ shearcotter_station shearcotter_fresh(void);
  * session refuse with 34.
  * Refused: 35, 22, 1, 2, 3, 4, 5, 6, 7. */
 shearcotter_reply shearcotter_load(shearcotter_station station, uint8_t name, const uint8_t *file, size_t file_length);
+
+/* Keeps the key of a network file in the named slot: m in a byte, n and t in two, g_0 to g_(t-1) of two, the bit count
+ * (2m-1)*2^(m-1) in four, and the packed control bits; all low byte first. The support is the first n values that the switching
+ * network sends out, their m bits in reverse order, as in Classic McEliece's field ordering. Afterwards loaded, as by
+ * shearcotter_load of the file that shearcotter_from_network writes. 2 goes by m and t; 5 cannot hold.
+ * Refused: 35, 22, 1, 2, 36, 3, 4, 5, 6, 7. */
+shearcotter_reply shearcotter_load_network(shearcotter_station station, uint8_t name, const uint8_t *file, size_t file_length);
 
 /* Writes the public key of the named key, row after row, worked out in the first SHEARCOTTER_WORK_BYTES of `work`: their contents
  * are free once 35, 21, 25, 34, 10, 11 are passed; every other byte of it stays. Afterwards published.

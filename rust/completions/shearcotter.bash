@@ -41,10 +41,11 @@ _shearcotter() {
             read,--format) _shearcotter_words 'places hex raw json' "$cur" ;;
         esac
     elif [[ -z $command ]]; then
-        _shearcotter_words 'check publish lock open session report read shapes help man completions --help --version' "$cur"
+        _shearcotter_words 'check convert publish lock open session report read shapes help man completions --help --version' "$cur"
     elif [[ -z $ended && $cur == -* ]]; then
         case $command in
             check) _shearcotter_words '--quiet --help' "$cur" ;;
+            convert) _shearcotter_words '--quiet --help' "$cur" ;;
             publish) _shearcotter_words '--quiet --help' "$cur" ;;
             lock) _shearcotter_words '--format --quiet --help' "$cur" ;;
             open) _shearcotter_words '--second --format --jobs --explain --quiet --help' "$cur" ;;
@@ -59,6 +60,8 @@ _shearcotter() {
     else
         case $command,$place in
             check,0) _shearcotter_files "$cur" ;;
+            convert,0) _shearcotter_files "$cur" ;;
+            convert,1) _shearcotter_files "$cur" ;;
             publish,0) _shearcotter_files "$cur" ;;
             publish,1) _shearcotter_files "$cur" ;;
             lock,0) _shearcotter_words 'mceliece348864 mceliece460896 mceliece6688128 mceliece6960119 mceliece8192128' "$cur" ;;
@@ -74,7 +77,7 @@ _shearcotter() {
             report,1) _shearcotter_files "$cur" ;;
             read,0) _shearcotter_files "$cur" ;;
             read,1) _shearcotter_files "$cur" ;;
-            help,0) _shearcotter_words 'check publish lock open session report read shapes help man completions' "$cur" ;;
+            help,0) _shearcotter_words 'check convert publish lock open session report read shapes help man completions' "$cur" ;;
             completions,0) _shearcotter_words 'bash' "$cur" ;;
         esac
     fi

@@ -18,6 +18,7 @@ const _: () = {
     let taken = [
         raw::STACK_FRESH,
         raw::STACK_LOAD,
+        raw::STACK_LOAD_NETWORK,
         raw::STACK_PUBLISH,
         raw::STACK_LOCK,
         raw::STACK_OPEN,
@@ -26,6 +27,8 @@ const _: () = {
         raw::STACK_SESSION,
         raw::STACK_DROP,
         raw::STACK_SHAKE,
+        raw::STACK_TO_NETWORK,
+        raw::STACK_FROM_NETWORK,
     ];
     let mut i = 0;
     while i < taken.len() {
@@ -99,6 +102,24 @@ pub(crate) fn lock(shape: (u8, u16, u16), public: &[u8], pattern: &[u8], out: &m
     })
 }
 
+fn converted(answer: raw::Converted) -> Result<usize, Refusal> {
+    Refusal::check(answer.refused).map(|()| answer.length)
+}
+
+/// How many bytes are written.
+pub(crate) fn to_network(file: &[u8], out: &mut [u8]) -> Result<usize, Refusal> {
+    secretly::<{ raw::STACK_TO_NETWORK + FRAMES }, _>(|| {
+        converted(unsafe { raw::shearcotter_to_network(file.as_ptr(), file.len(), out.as_mut_ptr(), out.len()) })
+    })
+}
+
+/// How many bytes are written.
+pub(crate) fn from_network(file: &[u8], out: &mut [u8]) -> Result<usize, Refusal> {
+    secretly::<{ raw::STACK_FROM_NETWORK + FRAMES }, _>(|| {
+        converted(unsafe { raw::shearcotter_from_network(file.as_ptr(), file.len(), out.as_mut_ptr(), out.len()) })
+    })
+}
+
 /// Not inlined, so that no caller's frame holds the station; its own does, and so it makes sure of what it needs alone.
 #[inline(never)]
 pub(crate) fn fresh() -> Box<raw::Station> {
@@ -109,6 +130,14 @@ pub(crate) fn fresh() -> Box<raw::Station> {
 pub(crate) fn load(station: &mut raw::Station, name: Name, file: &[u8]) -> Result<(), Refusal> {
     secretly::<{ raw::STACK_LOAD + COPIES }, _>(|| {
         let reply = unsafe { raw::shearcotter_load(*station, name.byte(), file.as_ptr(), file.len()) };
+        *station = reply.station;
+        Refusal::check(reply.refused)
+    })
+}
+
+pub(crate) fn load_network(station: &mut raw::Station, name: Name, file: &[u8]) -> Result<(), Refusal> {
+    secretly::<{ raw::STACK_LOAD_NETWORK + COPIES }, _>(|| {
+        let reply = unsafe { raw::shearcotter_load_network(*station, name.byte(), file.as_ptr(), file.len()) };
         *station = reply.station;
         Refusal::check(reply.refused)
     })

@@ -1,11 +1,12 @@
 //! Classic McEliece capsules: the proved calls of `libshearcotter.a` as safe types.
 //!
 //! A [`Station`] keeps a key for each of two recipients, [`Name::A`] and [`Name::B`], and each call names one:
-//! [`load`](Station::load) its key from a key file, [`publish`](Station::publish) its public key, [`open`](Station::open)
-//! capsules, derive their [`session`](Station::session) keys, [`report`](Station::report) on them and
-//! [`read`](Station::read) words. A [`Recipient`] is a handle for one of the two. [`lock`](lock()) makes a capsule from a
-//! public key, and [`shake256`](shake256()) is the function that session keys are derived by. A call that is refused answers
-//! a [`Refusal`] and changes nothing.
+//! [`load`](Station::load) its key from a key file, or from a [network file](Station::load_network),
+//! [`publish`](Station::publish) its public key, [`open`](Station::open) capsules, derive their
+//! [`session`](Station::session) keys, [`report`](Station::report) on them and [`read`](Station::read) words. A
+//! [`Recipient`] is a handle for one of the two. [`lock`](lock()) makes a capsule from a public key, [`to_network`] and
+//! [`from_network`] turn the one form of key file into the other, and [`shake256`](shake256()) is the function that session
+//! keys are derived by. A call that is refused answers a [`Refusal`] and changes nothing.
 //! Words are read with every key; all else asks for an exchange key, one with an irreducible g:
 //! [`is_exchange_key`](Station::is_exchange_key).
 //!
@@ -34,9 +35,9 @@
 //! # Secrets
 //!
 //! A [`Station`] and a [`Pattern`] are overwritten with zeros when they are dropped, publish's workspace when it is done,
-//! and the stack that a call used when it returns. The caller's to [`wipe`] are the bytes of a key file, buffers and
-//! secrets that were lent, session keys, and bytes from [`Pattern::into_bytes`]. Registers, swapped pages and core dumps are
-//! not reached, nor what the calls of [`raw`] leave, nor what [`std::mem::forget`] keeps.
+//! and the stack that a call used when it returns. The caller's to [`wipe`] are the bytes of a key file, also one that a
+//! conversion gave, buffers and secrets that were lent, session keys, and bytes from [`Pattern::into_bytes`]. Registers,
+//! swapped pages and core dumps are not reached, nor what the calls of [`raw`] leave, nor what [`std::mem::forget`] keeps.
 
 #![deny(missing_docs)]
 #![deny(unsafe_code)]
@@ -45,6 +46,7 @@ mod calls;
 pub mod field;
 mod locking;
 mod name;
+mod network;
 mod pattern;
 pub mod raw;
 mod recipient;
@@ -58,6 +60,7 @@ mod wiping;
 
 pub use locking::{lock, lock_into};
 pub use name::Name;
+pub use network::{from_network, from_network_into, to_network, to_network_into};
 pub use pattern::Pattern;
 pub use recipient::Recipient;
 pub use refusal::Refusal;

@@ -22,6 +22,8 @@ pub const STACK: usize = 512 * 1024;
 pub const STACK_FRESH: usize = 52 * 1024;
 /// Bytes of stack that `shearcotter_load` takes, its argument and reply in the caller included.
 pub const STACK_LOAD: usize = 225 * 1024;
+/// The same for `shearcotter_load_network`.
+pub const STACK_LOAD_NETWORK: usize = 225 * 1024;
 /// The same for `shearcotter_publish`.
 pub const STACK_PUBLISH: usize = 280 * 1024;
 /// Bytes of stack that `shearcotter_lock` takes.
@@ -38,6 +40,10 @@ pub const STACK_SESSION: usize = 276 * 1024;
 pub const STACK_DROP: usize = 98 * 1024;
 /// Bytes of stack that `shearcotter_shake256` takes.
 pub const STACK_SHAKE: usize = 2 * 1024;
+/// Bytes of stack that `shearcotter_to_network` takes.
+pub const STACK_TO_NETWORK: usize = 224 * 1024;
+/// Bytes of stack that `shearcotter_from_network` takes.
+pub const STACK_FROM_NETWORK: usize = 127 * 1024;
 
 /// `state` of an empty slot.
 pub const EMPTY: u8 = 0;
@@ -159,6 +165,16 @@ pub struct Register {
     pub c: [u16; COEFFICIENTS],
 }
 
+/// What a conversion hands back.
+#[derive(Clone, Copy, PartialEq, Eq, Debug)]
+#[repr(C)]
+pub struct Converted {
+    /// 0, or the refusal's number.
+    pub refused: u8,
+    /// How many bytes were written; 0 where it is refused.
+    pub length: usize,
+}
+
 extern "C" {
     /// a + b.
     pub fn shearcotter_add(m: u8, a: u32, b: u32) -> Element;
@@ -184,10 +200,16 @@ extern "C" {
         out: *mut u8,
         out_length: usize,
     ) -> u8;
+    /// Writes the network file of a key file.
+    pub fn shearcotter_to_network(file: *const u8, file_length: usize, out: *mut u8, out_length: usize) -> Converted;
+    /// Writes the key file of a network file.
+    pub fn shearcotter_from_network(file: *const u8, file_length: usize, out: *mut u8, out_length: usize) -> Converted;
     /// A station with both slots empty.
     pub fn shearcotter_fresh() -> Station;
     /// Keeps the key of a key file.
     pub fn shearcotter_load(station: Station, name: u8, file: *const u8, file_length: usize) -> Reply;
+    /// Keeps the key of a network file.
+    pub fn shearcotter_load_network(station: Station, name: u8, file: *const u8, file_length: usize) -> Reply;
     /// Writes the public key.
     pub fn shearcotter_publish(
         station: Station,

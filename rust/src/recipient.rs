@@ -99,6 +99,11 @@ impl<S: BorrowMut<Station>> Recipient<S> {
         self.station.borrow_mut().load(self.name, file)
     }
 
+    /// [`Station::load_network`].
+    pub fn load_network(&mut self, file: &[u8]) -> Result<(), Refusal> {
+        self.station.borrow_mut().load_network(self.name, file)
+    }
+
     /// [`Station::publish`].
     pub fn publish(&mut self) -> Result<Vec<u8>, Refusal> {
         self.station.borrow_mut().publish(self.name)

@@ -70,6 +70,7 @@ refusals! {
     BadSecret 33 "secret of wrong length or with filler set",
     ReducibleKey 34 "g has a proper factor",
     UnknownName 35 "a name other than A and B",
+    BadBitCount 36 "bit count other than (2m-1)*2^(m-1)",
 }
 
 impl Refusal {

@@ -83,6 +83,16 @@ impl Shape {
         5 + 2 * usize::from(self.n) + 2 * usize::from(self.t)
     }
 
+    /// Bytes of a network file.
+    pub fn network_file_length(self) -> usize {
+        9 + 2 * usize::from(self.t) + self.switches().div_ceil(8)
+    }
+
+    /// Control bits of a network file: 2m - 1 layers of 2^(m-1) switches.
+    pub fn switches(self) -> usize {
+        (2 * usize::from(self.m) - 1) << (self.m - 1)
+    }
+
     /// Bytes of a pattern, word or secret.
     pub fn pattern_length(self) -> usize {
         usize::from(self.n).div_ceil(8)

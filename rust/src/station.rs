@@ -73,6 +73,27 @@ impl Station {
         calls::load(&mut self.raw, name, file)
     }
 
+    /// Takes the key of a network file, which stores the support as control bits of a switching network: refused with the
+    /// first that applies of 22, 1, 2, 36, 3, 4, 6, 7. Afterwards the station is as by [`load`](Station::load) of the file
+    /// that [`from_network`](crate::from_network) gives. The file's bytes are the caller's to [`wipe`].
+    ///
+    /// ```
+    /// use shearcotter::{to_network, wipe, Name, Refusal, Station};
+    ///
+    /// let file = [4, 6, 0, 1, 0, 9, 0, 13, 0, 15, 0, 14, 0, 11, 0, 1, 0, 0, 0];
+    /// let mut network = to_network(&file)?;
+    /// let mut station = Station::fresh();
+    /// station.load_network(Name::A, &network)?;
+    /// wipe(&mut network);
+    /// assert_eq!(station.publish(Name::A)?, [3, 1, 2, 0]);
+    /// // Neither form of file is taken for the other.
+    /// assert_eq!(station.load_network(Name::B, &file), Err(Refusal::BadLength));
+    /// # Ok::<(), Refusal>(())
+    /// ```
+    pub fn load_network(&mut self, name: Name, file: &[u8]) -> Result<(), Refusal> {
+        calls::load_network(&mut self.raw, name, file)
+    }
+
     /// Whether the recipient's key is an exchange key: one whose g is irreducible, as the standard has it, so that
     /// partners' programs work with it. Refused with 21.
     ///

@@ -15,8 +15,8 @@ compile_error!("libshearcotter.a is for x86-64");
 
 /// Overwrites the bytes with zeros, in a way that the compiler keeps.
 ///
-/// For what the caller holds: the bytes of a key file after [`load`](crate::Station::load), a lent workspace, a pattern
-/// that was written into a lent output, a session key and the secret that was lent for it.
+/// For what the caller holds: the bytes of a key file of either form after [`load`](crate::Station::load) or a conversion, a
+/// lent workspace, a pattern that was written into a lent output, a session key and the secret that was lent for it.
 pub fn wipe(bytes: &mut [u8]) {
     bytes.fill(0);
     keep(bytes.as_ptr());

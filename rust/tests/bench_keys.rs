@@ -5,6 +5,9 @@ use shearcotter::{field, lock, Name, Pattern, Refusal, Shape, Station};
 pub const K1: [u8; 19] = [4, 6, 0, 1, 0, 9, 0, 13, 0, 15, 0, 14, 0, 11, 0, 1, 0, 0, 0];
 pub const K3: [u8; 19] = [4, 6, 0, 1, 0, 14, 0, 9, 0, 13, 0, 15, 0, 11, 0, 1, 0, 0, 0];
 
+/// K1 as a network file: the values 8, 9, 11, 15, 7 and 13, then the others in rising order.
+pub const K1_NETWORK: [u8; 18] = [4, 6, 0, 1, 0, 0, 0, 56, 0, 0, 0, 0x60, 0x40, 0xb0, 0x7c, 0x33, 0xfc, 0x84];
+
 /// A key whose g is x times x + 1, with the elements 2 to 10 for its support.
 pub const SPLIT: [u8; 27] = [4, 9, 0, 2, 0, 3, 0, 4, 0, 5, 0, 6, 0, 7, 0, 8, 0, 9, 0, 10, 0, 2, 0, 0, 0, 1, 0];
 

@@ -55,6 +55,7 @@ fn limits_states_names_and_stack() {
         ("B", raw::B.into()),
         ("STACK_FRESH", raw::STACK_FRESH / 1024),
         ("STACK_LOAD", raw::STACK_LOAD / 1024),
+        ("STACK_LOAD_NETWORK", raw::STACK_LOAD_NETWORK / 1024),
         ("STACK_PUBLISH", raw::STACK_PUBLISH / 1024),
         ("STACK_LOCK", raw::STACK_LOCK / 1024),
         ("STACK_OPEN", raw::STACK_OPEN / 1024),
@@ -63,6 +64,8 @@ fn limits_states_names_and_stack() {
         ("STACK_SESSION", raw::STACK_SESSION / 1024),
         ("STACK_DROP", raw::STACK_DROP / 1024),
         ("STACK_SHAKE", raw::STACK_SHAKE / 1024),
+        ("STACK_TO_NETWORK", raw::STACK_TO_NETWORK / 1024),
+        ("STACK_FROM_NETWORK", raw::STACK_FROM_NETWORK / 1024),
     ] {
         assert_eq!(constant(name), value, "{name}");
     }
@@ -102,4 +105,5 @@ fn layout_is_the_crate_s() {
     layout!(Element "element" refused value);
     layout!(Shape "shape" refused m n t);
     layout!(Register "register" refused length c);
+    layout!(Converted "converted" refused length);
 }

@@ -14,7 +14,7 @@ use crate::support::bytes;
 #[test]
 fn refusals_have_their_numbers_and_words() {
     let numbers: Vec<u8> = Refusal::ALL.iter().map(|refusal| refusal.number()).collect();
-    let expected: Vec<u8> = (1..=14).chain(21..=25).chain(31..=35).collect();
+    let expected: Vec<u8> = (1..=14).chain(21..=25).chain(31..=36).collect();
     assert_eq!(numbers, expected);
     for number in 0..=255 {
         let refusal = Refusal::from_number(number);
@@ -78,6 +78,8 @@ fn positions_names_and_lengths() {
     assert_eq!(Shape::MCELIECE8192128.capsule_length(), 208);
     assert_eq!(Shape::MCELIECE348864.workspace_length(), 768 * 436);
     assert_eq!(Shape::MCELIECE8192128.key_file_length(), 16_645);
+    assert_eq!(Shape::STANDARD.map(Shape::network_file_length), [6025, 13_001, 13_065, 13_047, 13_065]);
+    assert_eq!([Shape::MCELIECE348864, Shape::MCELIECE460896].map(Shape::switches), [47_104, 102_400]);
     assert_eq!(Shape::named("mceliece"), None);
     let capsules = [0, 1, 95, 96, 97, 960].map(|length| Shape::MCELIECE348864.capsules_in(length));
     assert_eq!(capsules, [0, 1, 1, 1, 2, 10]);
@@ -103,7 +105,7 @@ fn sizes_of_the_structs() {
     // To the station's 2 bytes of alignment.
     assert_eq!(size_of::<raw::Derived>(), size_of::<raw::Station>() + 1 + 32 + 1);
     assert_eq!((size_of::<raw::Element>(), size_of::<raw::Shape>()), (4, 6));
-    assert_eq!(size_of::<raw::Register>(), 536);
+    assert_eq!((size_of::<raw::Register>(), size_of::<raw::Converted>()), (536, 16));
 }
 
 #[test]

@@ -15,9 +15,25 @@ use crate::support::named::{make, same};
 use crate::support::raw_calls::{empty, fresh, holding, placed, slot, with};
 
 /// All calls, and how often they are drawn.
-const CALLS: [&str; 16] = [
-    "load", "load", "publish", "publish", "publish", "open", "open", "open", "read", "read", "report", "report",
-    "session", "session", "session", "drop",
+const CALLS: [&str; 18] = [
+    "load",
+    "load",
+    "load_network",
+    "load_network",
+    "publish",
+    "publish",
+    "publish",
+    "open",
+    "open",
+    "open",
+    "read",
+    "read",
+    "report",
+    "report",
+    "session",
+    "session",
+    "session",
+    "drop",
 ];
 
 /// Exchange keys with a public key, one without and one perhaps without, and reading keys.
@@ -62,6 +78,7 @@ fn answers_and_stations_of_random_lists() {
         &met,
         &[
             ("load", &[0, 22, 1, 2, 3, 4, 5, 6, 7]),
+            ("load_network", &[0, 22, 1, 2, 36, 3, 4, 6, 7]),
             ("publish", &[0, 21, 34, 10, 11, 23]),
             ("open", &[0, 21, 34, 24, 8, 9, 10, 13]),
             ("report", &[0, 21, 34, 24, 31]),
@@ -72,7 +89,7 @@ fn answers_and_stations_of_random_lists() {
     );
     let unknown = met.iter().filter(|((_, name, number), _)| *name == 0 || *number == 35);
     assert!(unknown.clone().all(|((_, name, number), _)| (*name, *number) == (0, 35)), "{met:?}");
-    assert_eq!(unknown.count(), 7, "{met:?}");
+    assert_eq!(unknown.count(), 8, "{met:?}");
 }
 
 /// The answers to the calls of a list, and the station behind each.
@@ -125,6 +142,8 @@ fn of_each_kind(random: &mut Random, held: &Held) -> Vec<Call> {
     vec![
         Call::Load { file: key.file() },
         Call::Load { file: vec![] },
+        Call::LoadNetwork { file: random.network_file(key) },
+        Call::LoadNetwork { file: vec![] },
         Call::Publish { out: public, work },
         Call::Publish { out: vec![], work: vec![] },
         Call::Open { capsule: capsule.clone(), out: row.clone() },

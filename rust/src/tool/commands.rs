@@ -4,7 +4,7 @@ use std::ffi::OsStr;
 
 use crate::arguments::Given;
 use crate::table::{Choice, Command, Kind, Operand, Takes};
-use crate::{completions, deriving, formats, help, keys, locking, manual, opening, reporting, shapes};
+use crate::{completions, deriving, formats, forms, help, keys, locking, manual, opening, reporting, shapes};
 
 pub const FORMAT: &str = "--format";
 pub const JOBS: &str = "--jobs";
@@ -38,10 +38,10 @@ const SECOND_KEY: Choice = Choice {
     name: SECOND,
     short: None,
     takes: Takes::Input { value: "KEY" },
-    about: "a second key file, B's, for capsules that are refused 13 with the first, A's",
+    about: "a second key file, of either form, B's, for capsules that are refused 13 with the first, A's",
 };
 
-const KEY: Operand = Operand::needed("KEY", Kind::Input, "a key file");
+const KEY: Operand = Operand::needed("KEY", Kind::Input, "a key file, of either form: see shearcotter help convert");
 const EXCHANGE_KEY: Operand =
     Operand::needed("KEY", Kind::Input, "a key file of an exchange key: see shearcotter help check");
 const CAPSULES: Operand = Operand::optional("FILE", Kind::Input, "capsules, back to back");
@@ -54,9 +54,11 @@ pub const COMMANDS: &[Command] = &[
         about: "check a key file",
         details: "\
 Loads the key file KEY and prints `accepted`, its shape m,n,t, its name where it
-is one of the standard's, and `exchange` or `reading-only`:
+is one of the standard's, and `exchange` or `reading-only`; behind that,
+`network` where the file is one:
 
     accepted 12,3488,64 mceliece348864 exchange
+    accepted 12,3488,64 mceliece348864 exchange network
 
 An exchange key has an irreducible g, as the standard has it, and works with
 partners' programs; whether it has a public key is not looked at. With any other
@@ -64,6 +66,30 @@ key words are read, and publish, open, session and report are refused 34. The
 status is 0 for both.
 ",
         run: keys::check,
+    },
+    Command {
+        name: "convert",
+        operands: &[
+            Operand::needed("IN", Kind::Input, "a key file, of either form"),
+            Operand::needed("OUT", Kind::Output, "the same key in the other form"),
+        ],
+        options: &[],
+        about: "convert a key file to its other form",
+        details: "\
+Writes the key of the key file IN to OUT in the other form. A key file stores
+the support as its n elements; a network file as control bits of a switching
+network, as the standard's private key does. Which of them IN is, is told from
+its bytes, here and in every command that takes KEY: no file is both.
+
+From elements to a network, the network's other values come in rising order, and
+the control bits are those of the standard's routine. From there back the file
+is the same. A partner's network file may have other control bits for the same
+key; converted twice, it has those.
+
+Both files are secret. OUT is replaced in one step, and left alone where IN is
+refused; a new one can be read by its owner alone.
+",
+        run: forms::convert,
     },
     Command {
         name: "publish",

@@ -124,9 +124,22 @@ fn identity(name: &OsStr, standard: fn() -> io::Result<File>) -> Option<(u64, u6
     Some((file.dev(), file.ino()))
 }
 
+/// Modes of a new file, before the umask: for everyone, and for its owner alone.
+const FOR_ALL: u32 = 0o666;
+const FOR_OWNER: u32 = 0o600;
+
 /// Writes to standard output, or replaces a file in one step; a failure leaves the file as it was, and nothing beside it.
 pub fn write(name: &OsStr, bytes: &[u8]) -> Result<(), Failure> {
-    let mut out = Output::create(name)?;
+    write_new(name, bytes, FOR_ALL)
+}
+
+/// The same for a secret: a file that was not there is its owner's alone.
+pub fn write_secret(name: &OsStr, bytes: &[u8]) -> Result<(), Failure> {
+    write_new(name, bytes, FOR_OWNER)
+}
+
+fn write_new(name: &OsStr, bytes: &[u8], mode: u32) -> Result<(), Failure> {
+    let mut out = Output::with_mode(name, mode)?;
     let done = out.write_all(bytes);
     done.map_err(|error| Failure::output(out.name(), error)).and_then(|()| out.finish())
 }
@@ -148,11 +161,15 @@ struct New {
 
 impl Output {
     pub fn create(name: &OsStr) -> Result<Output, Failure> {
+        Output::with_mode(name, FOR_ALL)
+    }
+
+    fn with_mode(name: &OsStr, mode: u32) -> Result<Output, Failure> {
         if name == STANDARD {
             return Ok(Output { file: standard_output()?, new: None });
         }
         let path = Path::new(name);
-        create_new(path).map_err(|error| Failure::file(path, error))
+        create_new(path, mode).map_err(|error| Failure::file(path, error))
     }
 
     /// The file's name; none for standard output.
@@ -190,9 +207,9 @@ impl Drop for New {
     }
 }
 
-fn create_new(path: &Path) -> io::Result<Output> {
+fn create_new(path: &Path, mode: u32) -> io::Result<Output> {
     let (target, old) = target(path)?;
-    let (beside, file) = create_beside(&target, old.as_ref())?;
+    let (beside, file) = create_beside(&target, if old.is_some() { FOR_OWNER } else { mode })?;
     Ok(Output { file, new: Some(New { name: path.to_owned(), target, old, beside }) })
 }
 
@@ -241,9 +258,8 @@ fn behind_links(path: &Path) -> io::Result<PathBuf> {
     Err(io::Error::other("too many symbolic links"))
 }
 
-/// A new file beside the target: with the mode that the umask gives, or closed to others until it has the old one's.
-fn create_beside(target: &Path, old: Option<&Metadata>) -> io::Result<(PathBuf, File)> {
-    let mode = if old.is_some() { 0o600 } else { 0o666 };
+/// A new file beside the target: with the mode that the umask leaves, or closed to others until it has the old one's.
+fn create_beside(target: &Path, mode: u32) -> io::Result<(PathBuf, File)> {
     let mut attempt = 0;
     loop {
         let path = target.with_file_name(format!(".shearcotter.{}.{attempt}.tmp", process::id()));

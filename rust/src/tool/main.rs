@@ -1,5 +1,5 @@
-//! The command-line tool: checks keys, publishes, locks patterns, opens capsules, derives their session keys, reports on them and
-//! reads words.
+//! The command-line tool: checks and converts keys, publishes, locks patterns, opens capsules, derives their session keys, reports on
+//! them and reads words.
 
 #![forbid(unsafe_code)]
 
@@ -11,6 +11,7 @@ mod explain;
 mod failure;
 mod files;
 mod formats;
+mod forms;
 mod help;
 mod json;
 mod keys;

@@ -14,6 +14,10 @@ A public key, a capsule locked with it, and capsules opened:
     shearcotter lock mceliece348864 office.pub pattern capsule
     shearcotter open office.key capsules
 
+A partner's key, stored as a switching network, as one that lists its elements:
+
+    shearcotter convert partner.network partner.key
+
 Capsules from a pipe, opened on four threads, as objects:
 
     cat *.capsule | shearcotter open --jobs 4 --format json office.key

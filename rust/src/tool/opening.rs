@@ -33,7 +33,7 @@ pub fn open(given: &Given) -> Result<Status, Failure> {
 /// The command `read`.
 pub fn read(given: &Given) -> Result<Status, Failure> {
     let [key, file] = given.operands();
-    let (station, shape) = keys::load(key)?;
+    let (station, _, shape) = keys::load(key)?;
     let form = form(given, file, formats::READ, true);
     let tally = answers(given, file, (Row::Word, shape), form, |form, position, word| {
         station.read(keys::ONLY, word).map(|pattern| form.accepted(position, None, &pattern))

@@ -4,6 +4,7 @@
 //! SHEARCOTTER_TRIALS sets the number of calls (1,000,000 where it is not set).
 
 mod buffers;
+mod networks;
 #[cfg(target_os = "linux")]
 mod pages;
 mod plain;
@@ -31,14 +32,17 @@ type Tally = BTreeMap<Met, u64>;
 const STREAMS: u64 = 2;
 
 /// Every call, and the numbers that it has in document 01 or in its request.
-const CALLS: [(&str, &[u8]); 14] = [
+const CALLS: [(&str, &[u8]); 17] = [
     ("add", &[0, 1, 4]),
     ("multiply", &[0, 1, 4]),
     ("invert", &[0, 1, 4, 32]),
     ("shape_at", &[0, 3]),
     ("register", &[0, 1, 2, 4]),
     ("lock", &[0, 1, 3, 8, 9, 12, 10]),
+    ("to_network", &[0, 1, 2, 3, 4, 5, 6, 7, 10]),
+    ("from_network", &[0, 1, 2, 36, 3, 4, 6, 7, 10]),
     ("load", &[0, 35, 22, 1, 2, 3, 4, 5, 6, 7]),
+    ("load_network", &[0, 35, 22, 1, 2, 36, 3, 4, 6, 7]),
     ("publish", &[0, 35, 21, 25, 34, 10, 11, 23]),
     ("open", &[0, 35, 21, 25, 34, 24, 8, 9, 10, 13]),
     ("report", &[0, 35, 21, 25, 34, 24, 31]),
@@ -59,8 +63,10 @@ fn one_call(random: &mut Random, pool: &Pool) -> Met {
         12..=17 => unnamed(plain::register(random)),
         18..=29 => unnamed(plain::lock(random, pool)),
         30 => unnamed(plain::shake256(random)),
-        31..=41 => stations::load(random, pool),
-        42..=51 => stations::publish(random, pool),
+        31..=34 => unnamed(networks::convert(random, pool)),
+        35..=39 => stations::load(random, pool),
+        40..=43 => networks::load(random, pool),
+        44..=51 => stations::publish(random, pool),
         52..=62 => stations::open(random, pool),
         63..=72 => stations::report(random, pool),
         73..=83 => stations::session(random, pool),

@@ -84,6 +84,30 @@ fn load_and_publish(held: &Held, cut: usize) {
     }
 }
 
+/// A network file of the key, loaded and converted, and the key's file converted, with room as needed, one byte less and one more.
+fn networks(random: &mut Random, held: &Held, cut: usize) {
+    let (file, network) = (held.key.file(), random.network_file(&held.key));
+    let [file, network] = [file, network].map(|file| Walled::new(&file[..file.len() - cut]));
+    for (name, station) in placed(empty()) {
+        let reply = unsafe { raw::shearcotter_load_network(station, name, network.start(), network.length) };
+        assert_eq!(reply.refused, calls::load_network(0, network.bytes()));
+    }
+    let (to, from) = (calls::to_network(file.bytes(), usize::MAX), calls::from_network(network.bytes(), usize::MAX));
+    for more in [0, 1, 2] {
+        let [out, other] =
+            [&to, &from].map(|whole| Walled::new(&vec![0; (whole.written.len() + more).saturating_sub(1)]));
+        let converted = unsafe { raw::shearcotter_to_network(file.start(), file.length, out.start(), out.length) };
+        let expected = calls::to_network(file.bytes(), out.length);
+        assert_eq!((converted.refused, converted.length), (expected.number, expected.written.len()));
+        written(&out, &expected);
+        let converted =
+            unsafe { raw::shearcotter_from_network(network.start(), network.length, other.start(), other.length) };
+        let expected = calls::from_network(network.bytes(), other.length);
+        assert_eq!((converted.refused, converted.length), (expected.number, expected.written.len()));
+        written(&other, &expected);
+    }
+}
+
 fn open_and_read(random: &mut Random, held: &Held, cut: usize) {
     let (key, [(_, station), _]) = (&held.key, placed(holding(2, &held.key)));
     let pattern = random.pattern(key.n, key.t);
@@ -171,6 +195,7 @@ fn nothing_past_the_ends() {
         let held = random.published(m, n, t);
         for cut in [0, 1] {
             load_and_publish(&held, cut);
+            networks(&mut random, &held, cut);
             open_and_read(&mut random, &held, cut);
             report(&mut random, &held, cut);
             session(&mut random, &held, cut);

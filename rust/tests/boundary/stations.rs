@@ -153,7 +153,8 @@ fn fitting(random: &mut Random, pool: &Pool, case: &Case) -> Arc<Held> {
     }
 }
 
-fn file(random: &mut Random, held: &Held) -> Vec<u8> {
+/// A key file, mostly damaged.
+pub fn file(random: &mut Random, held: &Held) -> Vec<u8> {
     let key: &Key = &held.key;
     match random.below(12) {
         0 => {
@@ -175,25 +176,40 @@ fn file(random: &mut Random, held: &Held) -> Vec<u8> {
     }
 }
 
-pub fn load(random: &mut Random, pool: &Pool) -> Met {
+/// One of the two loads: its C call, its number on a slot in a state, and the key of a file that it accepts.
+pub struct Loading {
+    pub name: &'static str,
+    pub call: unsafe extern "C" fn(Station, u8, *const u8, usize) -> Reply,
+    pub number: fn(u8, &[u8]) -> u8,
+    pub key: fn(&[u8]) -> Option<Key>,
+}
+
+/// Loads a file on a slot that is mostly empty.
+pub fn load_as(loading: &Loading, random: &mut Random, pool: &Pool, content: &[u8]) -> Met {
     let (mut slot, held) = any_slot(random, pool);
     if !random.one_in(8) {
         slot.state = 0;
     }
     let case = case(random, pool, (slot, held));
-    let held = pool.key(random);
-    let content = file(random, &held);
-    let file = holding(random, &content);
-    let reply = unsafe { raw::shearcotter_load(case.station, case.name, file.as_ptr(), file.len()) };
+    let file = holding(random, content);
+    let reply = unsafe { (loading.call)(case.station, case.name, file.as_ptr(), file.len()) };
     file.same();
-    let number = |state| expected::load(state, file.content());
+    let number = |state| (loading.number)(state, file.content());
     let expected = case.expected(|state, _| Outcome { number: number(state), ..Outcome::default() });
-    let accepted = match Key::parse(file.content()) {
+    let accepted = match (loading.key)(file.content()) {
         Some(key) if expected.number == 0 => raw_calls::holding(1, &key),
         _ => case.slot,
     };
     case.same(&reply, &expected, accepted);
-    case.met("load", reply.refused)
+    case.met(loading.name, reply.refused)
+}
+
+const LOAD: Loading = Loading { name: "load", call: raw::shearcotter_load, number: expected::load, key: Key::parse };
+
+pub fn load(random: &mut Random, pool: &Pool) -> Met {
+    let held = pool.key(random);
+    let content = file(random, &held);
+    load_as(&LOAD, random, pool, &content)
 }
 
 pub fn publish(random: &mut Random, pool: &Pool) -> Met {

@@ -5,8 +5,9 @@ use std::array;
 use super::bits;
 use super::field::Field;
 use super::held::Held;
-use super::key::{load_number, shape_number};
+use super::key::{load_number, shape_number, Key};
 use super::matrix;
+use super::network_key;
 use super::shake::shake256;
 
 /// A number, or 0 with the bytes written from the output's start and the ones among them.
@@ -36,6 +37,37 @@ pub fn load(state: u8, file: &[u8]) -> u8 {
         22
     } else {
         load_number(file)
+    }
+}
+
+pub fn load_network(state: u8, file: &[u8]) -> u8 {
+    if state != 0 {
+        22
+    } else {
+        network_key::load_network(file).0
+    }
+}
+
+/// A file of so many bytes of room: 10 behind the load's numbers.
+fn converted(file: Vec<u8>, out: usize) -> Outcome {
+    if out < file.len() {
+        refused(10)
+    } else {
+        written(file)
+    }
+}
+
+pub fn to_network(file: &[u8], out: usize) -> Outcome {
+    match (load_number(file), Key::parse(file)) {
+        (0, Some(key)) => converted(network_key::to_network(&key), out),
+        (number, _) => refused(number),
+    }
+}
+
+pub fn from_network(file: &[u8], out: usize) -> Outcome {
+    match network_key::load_network(file) {
+        (_, Some(key)) => converted(key.file(), out),
+        (number, None) => refused(number),
     }
 }
 

@@ -13,12 +13,12 @@ pub struct Key {
 }
 
 /// The two bytes from `at` on, low byte first; a missing byte counts as 0.
-fn number_at(file: &[u8], at: usize) -> usize {
+pub(super) fn number_at(file: &[u8], at: usize) -> usize {
     let byte = |i: usize| usize::from(file.get(i).copied().unwrap_or(0));
     byte(at) + 256 * byte(at + 1)
 }
 
-fn elements_at(file: &[u8], at: usize, count: usize) -> Vec<u16> {
+pub(super) fn elements_at(file: &[u8], at: usize, count: usize) -> Vec<u16> {
     (0..count).map(|i| number_at(file, at + 2 * i) as u16).collect()
 }
 

@@ -3,6 +3,7 @@
 use std::sync::Arc;
 
 use super::drawn::near_code_word;
+use super::drawn_networks::DAMAGES;
 use super::held::Held;
 use super::matrix;
 use super::random::Random;
@@ -51,9 +52,18 @@ impl Drawing<'_> {
     /// Any of the kinds, or the one that a recipient in that state waits for.
     fn kind(&mut self, state: Option<u8>, kinds: &Kinds) -> &'static str {
         match state {
-            Some(0) if self.random.one_in(2) => "load",
+            Some(0) if self.random.one_in(2) => self.load(kinds),
             Some(1) if self.random.one_in(3) => "publish",
             _ => kinds[self.random.below(kinds.len())],
+        }
+    }
+
+    /// Either load, where both are drawn.
+    fn load(&mut self, kinds: &Kinds) -> &'static str {
+        if kinds.contains(&"load_network") && self.random.one_in(2) {
+            "load_network"
+        } else {
+            "load"
         }
     }
 
@@ -75,6 +85,7 @@ impl Drawing<'_> {
         let key = &held.key;
         match kind {
             "load" => Call::Load { file: self.file() },
+            "load_network" => Call::LoadNetwork { file: self.network_file() },
             "publish" => {
                 let (out, work) = (self.buffer(key.public_length()), self.buffer(key.work_length()));
                 Call::Publish { out, work }
@@ -108,6 +119,20 @@ impl Drawing<'_> {
             if file.len() <= self.longest {
                 return file;
             }
+        }
+    }
+
+    /// A network file of one of the keys, one in six of them damaged, or of the other form.
+    fn network_file(&mut self) -> Vec<u8> {
+        let keys = self.keys;
+        let key = &self.random.pick(keys).key;
+        match self.random.below(12) {
+            0 => key.file(),
+            1 | 2 => {
+                let number = *self.random.pick(&DAMAGES);
+                self.random.damaged_network(key, number)
+            }
+            _ => self.random.network_file(key),
         }
     }
 

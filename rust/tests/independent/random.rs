@@ -112,7 +112,7 @@ impl Random {
         other.file()
     }
 
-    fn other_length(&mut self, mut file: Vec<u8>) -> Vec<u8> {
+    pub(super) fn other_length(&mut self, mut file: Vec<u8>) -> Vec<u8> {
         let length = match self.below(4) {
             0 => file.len() - 1,
             1 => file.len() + 1,
@@ -124,7 +124,7 @@ impl Random {
     }
 
     /// t of 0, over 128 or with m·t ≥ n, or n over 2^m; the lists have those lengths.
-    fn bad_shape(&mut self, key: &mut Key) {
+    pub(super) fn bad_shape(&mut self, key: &mut Key) {
         let width = usize::from(key.m);
         match self.below(4) {
             0 => key.t = 0,
@@ -146,7 +146,7 @@ impl Random {
     }
 
     /// (x + a)² times a random polynomial, of degree t; only t of 2 or more has one.
-    fn square(&mut self, key: &Key) -> Vec<u16> {
+    pub(super) fn square(&mut self, key: &Key) -> Vec<u16> {
         let a = self.element(key.m);
         let f = key.field();
         let mut rest = self.elements(key.m, key.t.saturating_sub(2));
@@ -157,7 +157,7 @@ impl Random {
     }
 
     /// (x + α_i) times a random polynomial, of degree t.
-    fn with_root(&mut self, key: &Key) -> Vec<u16> {
+    pub(super) fn with_root(&mut self, key: &Key) -> Vec<u16> {
         let root = *self.pick(&key.support);
         let mut rest = self.elements(key.m, key.t - 1);
         rest.push(1);

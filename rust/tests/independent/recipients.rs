@@ -5,6 +5,7 @@ use std::sync::Arc;
 use super::calls::{self, Outcome};
 use super::held::Held;
 use super::key::Key;
+use super::network_key::load_network;
 
 /// The names of A and B.
 pub const NAMES: [u8; 2] = [1, 2];
@@ -13,6 +14,7 @@ pub const NAMES: [u8; 2] = [1, 2];
 #[derive(Clone, PartialEq, Eq, Debug)]
 pub enum Call {
     Load { file: Vec<u8> },
+    LoadNetwork { file: Vec<u8> },
     Publish { out: Vec<u8>, work: Vec<u8> },
     Open { capsule: Vec<u8>, out: Vec<u8> },
     Read { word: Vec<u8>, out: Vec<u8> },
@@ -25,6 +27,7 @@ impl Call {
     pub fn kind(&self) -> &'static str {
         match self {
             Call::Load { .. } => "load",
+            Call::LoadNetwork { .. } => "load_network",
             Call::Publish { .. } => "publish",
             Call::Open { .. } => "open",
             Call::Read { .. } => "read",
@@ -40,7 +43,7 @@ impl Call {
             Call::Publish { out, .. } | Call::Open { out, .. } | Call::Read { out, .. } | Call::Report { out, .. } => {
                 out
             }
-            Call::Load { .. } | Call::Session { .. } | Call::Drop => &[],
+            Call::Load { .. } | Call::LoadNetwork { .. } | Call::Session { .. } | Call::Drop => &[],
         }
     }
 
@@ -97,11 +100,16 @@ impl Entry {
         Entry { state: 0, held: Arc::new(Held::new(none)) }
     }
 
+    fn loaded(key: Option<Key>) -> Entry {
+        Entry { state: 1, held: Arc::new(Held::new(key.expect("a key"))) }
+    }
+
     /// What a call by its name answers, and how it leaves the entry.
     fn call(&mut self, call: &Call) -> Answer {
         let (state, held) = (self.state, Arc::clone(&self.held));
         let answer = match call {
             Call::Load { file } => Answer::refused(calls::load(state, file), call),
+            Call::LoadNetwork { file } => Answer::refused(calls::load_network(state, file), call),
             Call::Publish { out, work } => Answer::written(&calls::publish(state, &held, out.len(), work.len()), call),
             Call::Open { capsule, out } => Answer::written(&calls::open(state, &held, capsule, out.len()), call),
             Call::Read { word, out } => Answer::written(&calls::read(state, &held, word, out.len()), call),
@@ -123,9 +131,8 @@ impl Entry {
 
     fn accepted(&mut self, call: &Call) {
         match call {
-            Call::Load { file } => {
-                *self = Entry { state: 1, held: Arc::new(Held::new(Key::parse(file).expect("a key"))) };
-            }
+            Call::Load { file } => *self = Entry::loaded(Key::parse(file)),
+            Call::LoadNetwork { file } => *self = Entry::loaded(load_network(file).1),
             Call::Publish { .. } => self.state = 2,
             Call::Drop => *self = Entry::blank(),
             _ => {}

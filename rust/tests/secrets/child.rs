@@ -8,7 +8,7 @@ use std::io::{self, Read, Write};
 use std::process::{self, Command, Stdio};
 use std::{env, iter};
 
-use shearcotter::{raw, wipe, Name, Refusal, Shape, Station};
+use shearcotter::{from_network, raw, to_network, wipe, Name, Refusal, Shape, Station};
 
 use crate::support::{raw_calls, vectors};
 
@@ -43,6 +43,12 @@ pub enum Point {
     StationDropped,
     LoadedAgain,
     KeyDropped,
+    NetworkLoaded,
+    NetworkDropped,
+    ToNetwork,
+    ToNetworkWiped,
+    FromNetwork,
+    FromNetworkWiped,
 }
 
 pub struct Child(process::Child);
@@ -181,6 +187,31 @@ fn with_the_crate() {
     again.drop_key(Name::A).expect("there is a key");
     pause(Point::KeyDropped);
     assert_eq!(again.shape(Name::A), None);
+    networks(again);
+}
+
+/// A network file loaded, and both conversions; the files are wiped.
+fn networks(mut station: Station) {
+    let mut network = file::<6025>("key_network_standard.bin");
+    station.load_network(Name::B, &network[..]).expect("load accepts");
+    assert_eq!(station.load_network(Name::B, &network[..]), Err(Refusal::KeyHeld));
+    wipe(&mut network[..]);
+    pause(Point::NetworkLoaded);
+    drop(station);
+    pause(Point::NetworkDropped);
+    converted(&mut file::<7109>("key.bin")[..], to_network, [Point::ToNetwork, Point::ToNetworkWiped]);
+    converted(&mut file::<6025>("key_network.bin")[..], from_network, [Point::FromNetwork, Point::FromNetworkWiped]);
+}
+
+/// While both files are held, and when they are wiped; a conversion that is refused leaves nothing either.
+fn converted(file: &mut [u8], convert: fn(&[u8]) -> Result<Vec<u8>, Refusal>, [held, wiped]: [Point; 2]) {
+    let mut other = convert(file).expect("a key");
+    let length = file.len();
+    assert_eq!(convert(&file[..length - 1]), Err(Refusal::BadLength));
+    pause(held);
+    wipe(&mut other);
+    wipe(file);
+    pause(wiped);
 }
 
 /// Publishes, opens and derives; the station, the pattern, the secret, the session key and the workspace are left where they are.

@@ -5,7 +5,9 @@ use std::env;
 use std::process::Command;
 use std::thread::Builder;
 
-use shearcotter::{field, lock, lock_into, raw, register, shake256, Name, Recipient, Refusal, Shape, Station};
+use shearcotter::{
+    field, from_network, lock, lock_into, raw, register, shake256, to_network, Name, Recipient, Refusal, Shape, Station,
+};
 
 use crate::support::vectors;
 
@@ -48,6 +50,9 @@ fn every_call() {
         station.drop_key(name).expect("there is a key");
         assert_eq!((station.shape(name), station.is_published(name)), (None, false));
     }
+    for name in Name::BOTH {
+        station.load_network(name, &file("key_network.bin")).expect("load accepts");
+    }
     drop(Station::default());
     without_station();
 }
@@ -86,4 +91,6 @@ fn without_station() {
     assert_eq!(register(13, &[1; raw::LONGEST]).expect("a register").length(), 1);
     assert_eq!(Shape::new(13, 8192, 128), Ok(SHAPE));
     shake256(&[1; 200], &mut [0; 300]);
+    let network = to_network(&file("key.bin")).expect("a key");
+    assert!(network == file("key_network.bin") && from_network(&network).as_ref() == Ok(&file("key.bin")));
 }

@@ -18,6 +18,7 @@ const SECOND_G: &str = "the second g";
 const PATTERN: &str = "pattern";
 const SECRET: &str = "secret";
 const SESSION: &str = "session key";
+const SETTINGS: &str = "control bits";
 
 /// What is found in the child at a point.
 fn found_at(child: &mut Child, point: Point, secrets: &Secrets) -> Found {
@@ -58,6 +59,12 @@ fn no_secret_outlives_its_owner() {
         (Point::StationDropped, &[]),
         (Point::LoadedAgain, &[KEY, G]),
         (Point::KeyDropped, &[]),
+        (Point::NetworkLoaded, &[KEY, G]),
+        (Point::NetworkDropped, &[]),
+        (Point::ToNetwork, &[KEY, G, SETTINGS]),
+        (Point::ToNetworkWiped, &[]),
+        (Point::FromNetwork, &[KEY, G, SETTINGS]),
+        (Point::FromNetworkWiped, &[]),
     ] {
         only(&found_at(&mut child, point, &secrets), names, point);
     }

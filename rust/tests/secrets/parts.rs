@@ -1,11 +1,13 @@
-//! What is looked for in memory: the key, the pattern, the secret, session keys, and numbers that opening works out.
+//! What is looked for in memory: the key, the pattern, the secret, session keys, control bits, and numbers that opening and conversions
+//! work out.
 
 use std::collections::{BTreeMap, HashMap};
 
 use super::child::{FOLDER, SECOND};
-use super::{G, KEY, PATTERN, SECOND_G, SECOND_KEY, SECRET, SESSION};
+use super::{G, KEY, PATTERN, SECOND_G, SECOND_KEY, SECRET, SESSION, SETTINGS};
 use crate::independent::bits::places;
 use crate::independent::key::Key;
+use crate::independent::network_key;
 use crate::independent::poly;
 use crate::support::memory::Stretch;
 use crate::support::vectors;
@@ -72,7 +74,7 @@ impl Secrets {
         }
     }
 
-    /// The child's keys, pattern, secret and session keys, and what is worked out from the first key and the pattern.
+    /// The child's keys, pattern, secret, session keys and control bits, and what is worked out from the first key and the pattern.
     pub fn of_the_vector() -> Secrets {
         let at = |part: &str| vectors::file(&format!("{FOLDER}/{part}"));
         let key = Key::parse(&at("key.bin")).expect("a key");
@@ -86,6 +88,11 @@ impl Secrets {
             at(name).windows(FIRST).for_each(|part| secrets.add(SESSION, part.to_vec()));
         }
         secrets.add_worked_out(&key, &places(key.n, &pattern));
+        for name in ["control_bits.bin", "key_network.bin"] {
+            secrets.add_bits(SETTINGS, &at(name)[2 * key.t..]);
+        }
+        let values: Vec<u16> = network_key::values(&key).iter().map(|value| *value as u16).collect();
+        secrets.add_list("values of the network", &values);
         let second = Key::parse(&vectors::file(&format!("{SECOND}/key.bin"))).expect("a key");
         secrets.add_list(SECOND_KEY, &second.support);
         secrets.add_list(SECOND_G, &second.g);

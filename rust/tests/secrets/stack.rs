@@ -5,7 +5,7 @@ use std::hint::black_box;
 use std::os::unix::fs::FileExt;
 use std::ptr;
 
-use shearcotter::{lock, raw, shake256, wipe, Name, Shape, Station};
+use shearcotter::{from_network_into, lock, raw, shake256, to_network_into, wipe, Name, Shape, Station};
 
 use crate::support::{raw_calls, vectors};
 
@@ -57,6 +57,11 @@ fn calls_leave_zeros_on_the_stack() {
     assert_eq!(left_by(|| drop(station.publish(Name::B).expect("publish accepts"))), 0, "publish beside another key");
     assert_eq!(left_by(|| drop(station.open(Name::B, &capsule).expect("it opens"))), 0, "open beside another key");
     assert_eq!(left_by(|| station.drop_key(Name::A).expect("there is a key")), 0, "drop");
+    let network = file("key_network_standard.bin");
+    assert_eq!(left_by(|| station.load_network(Name::A, &network).expect("load accepts")), 0, "load_network");
+    let mut other = vec![0; key.len()];
+    assert_eq!(left_by(|| assert!(to_network_into(&key, &mut other).is_ok())), 0, "to_network");
+    assert_eq!(left_by(|| assert!(from_network_into(&network, &mut other).is_ok())), 0, "from_network");
     let mut out = vec![0; 300];
     assert_eq!(left_by(|| shake256(&pattern, &mut out)), 0, "shake256");
 }

@@ -36,6 +36,7 @@ pub fn make(station: Station, named: &Named) -> Made {
     let (mut out, mut work) = (call.out().to_vec(), call.work().to_vec());
     match call {
         Call::Load { file } => Made::reply(raw_calls::load(station, name, file), call, out, work),
+        Call::LoadNetwork { file } => Made::reply(raw_calls::load_network(station, name, file), call, out, work),
         Call::Publish { .. } => {
             let reply = raw_calls::publish(station, name, &mut out, &mut work);
             Made::reply(reply, call, out, work)

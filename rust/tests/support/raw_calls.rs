@@ -1,6 +1,6 @@
 //! The raw calls on slices, and slots and stations made by hand.
 
-use shearcotter::raw::{self, Derived, Key, Reply, Reported, Slot, Station, A, B, MOST_ERRORS, MOST_PLACES};
+use shearcotter::raw::{self, Converted, Derived, Key, Reply, Reported, Slot, Station, A, B, MOST_ERRORS, MOST_PLACES};
 
 use crate::independent::key;
 
@@ -10,6 +10,18 @@ pub fn fresh() -> Station {
 
 pub fn load(station: Station, name: u8, file: &[u8]) -> Reply {
     unsafe { raw::shearcotter_load(station, name, file.as_ptr(), file.len()) }
+}
+
+pub fn load_network(station: Station, name: u8, file: &[u8]) -> Reply {
+    unsafe { raw::shearcotter_load_network(station, name, file.as_ptr(), file.len()) }
+}
+
+pub fn to_network(file: &[u8], out: &mut [u8]) -> Converted {
+    unsafe { raw::shearcotter_to_network(file.as_ptr(), file.len(), out.as_mut_ptr(), out.len()) }
+}
+
+pub fn from_network(file: &[u8], out: &mut [u8]) -> Converted {
+    unsafe { raw::shearcotter_from_network(file.as_ptr(), file.len(), out.as_mut_ptr(), out.len()) }
 }
 
 pub fn publish(station: Station, name: u8, out: &mut [u8], work: &mut [u8]) -> Reply {

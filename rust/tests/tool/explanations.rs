@@ -3,7 +3,12 @@
 use shearcotter::field;
 
 use super::{accepted, all_accepted, fails, fails_on, some_refused, standard, with_k1};
-use crate::bench_keys::{file, K1, K3};
+use crate::bench_keys::{file, K1, K1_NETWORK, K3};
+use crate::independent::key::Key;
+use crate::independent::random::Random;
+
+/// K1 with 9 as its first element.
+const K1_BY_9: [u8; 19] = [4, 6, 0, 9, 0, 1, 0, 13, 0, 15, 0, 14, 0, 11, 0, 1, 0, 0, 0];
 
 /// K1 with a byte changed.
 fn with(at: usize, byte: u8) -> Vec<u8> {
@@ -25,9 +30,11 @@ fn widths_and_lengths() {
     refused(&[], "1: width missing or not 4, 12, 13: expected 4, 12 or 13, found an empty file");
     refused(&with(0, 5), "1: width missing or not 4, 12, 13: expected 4, 12 or 13, found 5 in byte 0");
     let length = |key: &[u8], says: &str| refused(key, &format!("2: key file ends too early or too late: {says}"));
-    length(&[&K1[..], &[0]].concat(), "expected 19 bytes for n 6 and t 1, found 20");
-    length(&K1[..18], "expected 19 bytes for n 6 and t 1, found 18");
-    length(&K1[..15], "expected at least 17 bytes for n 6, found 15");
+    let network = "or 18 for a network file with t 1";
+    length(&[&K1[..], &[0]].concat(), &format!("expected 19 bytes for n 6 and t 1, {network}, found 20"));
+    length(&K1[..15], &format!("expected at least 17 bytes for n 6, {network}, found 15"));
+    // 9 is no t of a network file with n 6.
+    length(&K1_BY_9[..18], "expected 19 bytes for n 6 and t 1, found 18");
     length(&K1[..1], "expected at least 5 bytes for n and t, found 1");
     length(&[4; 300_000], "expected 4117 bytes for n 1028 and t 1028, found more than 262145");
 }
@@ -66,6 +73,79 @@ fn conditions_that_need_another_key() {
     let says = "the key opens no capsules, though it reads words: use another key\n";
     fails(&["open", &k3], 3, says);
     fails(&["publish", &k3, "-"], 3, says);
+}
+
+/// The network file of K1 with a byte changed.
+fn network_with(at: usize, byte: u8) -> Vec<u8> {
+    let mut file = K1_NETWORK.to_vec();
+    file[at] = byte;
+    file
+}
+
+#[test]
+fn network_files() {
+    let count = "36: bit count other than (2m-1)*2^(m-1): expected 56 for m 4 from byte 7 on, found";
+    refused(&network_with(7, 57), &format!("{count} 57"));
+    refused(&network_with(10, 1), &format!("{count} 16777272"));
+    // A key file that is cut to the length of a network file.
+    refused(&K1[..18], &format!("{count} 983053"));
+    let limits = "expected t from 1 to 128, n above m*t and at most 2^m";
+    let shape = |n: u8| format!("3: shape out of limits: {limits}, found 4,{n},1, where m*t is 4 and 2^m is 16");
+    [4, 17, 255].into_iter().for_each(|n| refused(&network_with(1, n), &shape(n)));
+    let element = "4: element 2^m or more: expected elements below 16, found 16 at coefficient 0 of g, byte 5";
+    refused(&network_with(5, 16), element);
+    let root = "7: some g(a_i) is 0: expected g other than 0 on the support, found 0 at place 3, element 15";
+    refused(&network_with(5, 15), root);
+    // Of wrong length for both forms.
+    let length = "2: key file ends too early or too late: expected at least 17 bytes for n 6";
+    refused(&K1_NETWORK[..16], &format!("{length}, or 18 for a network file with t 1, found 16"));
+    refused(&network_with(0, 5), "1: width missing or not 4, 12, 13: expected 4, 12 or 13, found 5 in byte 0");
+}
+
+/// Large network files: the count, a square, and a place far behind.
+#[test]
+fn large_network_files() {
+    let mut file = standard("key_network_standard.bin");
+    let key = Key::parse(&standard("key.bin")).expect("a key");
+    file[5..7].copy_from_slice(&[255, 255]);
+    refused(&file, "4: element 2^m or more: expected elements below 4096, found 65535 at coefficient 0 of g, byte 5");
+    // x^64 + c^64 for an element c of the support has all its roots there, 64 times c.
+    let (place, f) = (3000, key.field());
+    let power = (0..6).fold(key.support[place], |x, _| f.multiply(x, x));
+    file[5..5 + 2 * 64].fill(0);
+    file[5..7].copy_from_slice(&power.to_le_bytes());
+    let square = "6: a square divides g: expected g without a repeated factor, else t errors cannot be corrected";
+    refused(&file, &format!("{square}: use another key"));
+    // x times an irreducible polynomial of degree 63, where 0 is an element of the support.
+    let mut random = Random::new(710);
+    let key = random.key_with_root(12, 3488, 64, place);
+    let root = "7: some g(a_i) is 0: expected g other than 0 on the support, found 0 at place 3000, element";
+    refused(&random.network_file(&key), &format!("{root} {}", key.support[place]));
+    file[5 + 2 * 64 + 3] = 1;
+    let count = "36: bit count other than (2m-1)*2^(m-1): expected 47104 for m 12 from byte 133 on, found 16824320";
+    refused(&file, count);
+}
+
+/// A file with the length of both forms counts by its bit count.
+#[test]
+fn files_with_both_lengths() {
+    // 5 + 2n + 2t of a key file at m 12 is 9 + 2·64 + 5888, where the first element is 64.
+    let mut random = Random::new(711);
+    let (n, t) = (2946, 64);
+    let mut key = random.exchange_key(12, n, t);
+    let place = key.support.iter().position(|x| *x == 64).unwrap_or(0);
+    key.support.swap(0, place);
+    key.support[0] = 64;
+    key.support[5] = key.support[9];
+    let file = key.file();
+    assert_eq!(file.len(), 9 + 2 * 64 + 5888);
+    let twice = "5: support element twice: expected each element once, found";
+    refused(&file, &format!("{twice} {} at places 5 and 9 of the support", key.support[5]));
+    // With the bit count of a network file in its place, it is one, whose g has this element.
+    let mut other = file.clone();
+    other[5 + 128..9 + 128].copy_from_slice(&47_104_u32.to_le_bytes());
+    other[5..7].copy_from_slice(&[255, 255]);
+    refused(&other, "4: element 2^m or more: expected elements below 4096, found 65535 at coefficient 0 of g, byte 5");
 }
 
 fn lock(shape: &str, public: &[u8], pattern: &[u8], status: i32, says: &str) {

@@ -1,5 +1,6 @@
 //! The command-line tool: each command, its texts, statuses and files.
 
+mod convert;
 mod document;
 mod errors;
 mod exchange;

@@ -102,7 +102,7 @@ fn bash_takes_the_completions() {
 #[test]
 fn commands_and_options() {
     assert_eq!(completed(&["op"]), ["open"]);
-    assert_eq!(completed(&["c"]), ["check", "completions"]);
+    assert_eq!(completed(&["c"]), ["check", "completions", "convert"]);
     assert_eq!(completed(&["--v"]), ["--version"]);
     assert_eq!(completed(&["open", "--f"]), ["--format"]);
     let rows = ["--explain", "--format", "--help", "--jobs", "--quiet"];
@@ -140,6 +140,8 @@ fn files() {
     }
     let files = |words: &[&str]| completed_in(folder.path(), words);
     assert_eq!(files(&["check", "o"]), ["one key", "other"]);
+    assert_eq!(files(&["convert", "o"]), ["one key", "other"]);
+    assert_eq!(files(&["convert", "key", "ot"]), ["other"]);
     assert_eq!(files(&["open", "--format", "hex", "k", "ot"]), ["other"]);
     assert_eq!(files(&["open", "--format", "=", "hex", "--jobs", "2", "k", "ot"]), ["other"]);
     assert_eq!(files(&["open", "--", "k", "-d"]), ["-dash"]);

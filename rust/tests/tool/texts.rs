@@ -2,8 +2,20 @@
 
 use super::{accepted, outcome};
 
-const COMMANDS: [&str; 11] =
-    ["check", "publish", "lock", "open", "session", "report", "read", "shapes", "help", "man", "completions"];
+const COMMANDS: [&str; 12] = [
+    "check",
+    "convert",
+    "publish",
+    "lock",
+    "open",
+    "session",
+    "report",
+    "read",
+    "shapes",
+    "help",
+    "man",
+    "completions",
+];
 
 const STATUSES: &str = "
 Exit status:
@@ -76,6 +88,9 @@ fn help_names_operands_options_and_values() {
     assert!(!session.contains("  places "), "{session}");
     let check = help(&["help", "check"]);
     assert!(check.contains("`exchange` or `reading-only`") && check.contains("refused 34"), "{check}");
+    assert!(check.contains("exchange network"), "{check}");
+    let convert = help(&["help", "convert"]);
+    assert!(convert.contains("[OPTION]... IN OUT") && convert.contains("told from"), "{convert}");
     let report = help(&["help", "report"]);
     assert!(report.contains("--records OUT ") && report.contains("--jobs N "), "{report}");
 }

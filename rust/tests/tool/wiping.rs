@@ -62,6 +62,25 @@ fn no_bytes_of_two_key_files_are_left() {
     assert!(child.wait().expect("the tool ends").success());
 }
 
+/// Of a network file neither its bytes are left nor what the other load was tried on.
+#[test]
+fn no_bytes_of_a_network_file_are_left() {
+    let (folder, _) = with_k1();
+    let (file, support) = (standard("key_network_standard.bin"), standard("key.bin"));
+    let key = folder.write("large.network", &file);
+    let mut child = start(&["read", &key]);
+    let mut input = child.stdin.take().expect("its standard input");
+    input.write_all(&standard("pattern.bin")).expect("a word");
+    let lines = Lines::of(&mut child);
+    assert!(lines.next().expect("a line").starts_with("1 read 64 "));
+    for part in file[9 + 128..].chunks(64).take(20) {
+        assert_eq!(occurrences(child.id(), part), 0);
+    }
+    assert!(occurrences(child.id(), &support[3..3 + 64]) > 0);
+    drop(input);
+    assert!(child.wait().expect("the tool ends").success());
+}
+
 #[test]
 fn no_session_key_is_left_once_it_is_written() {
     let (folder, _) = with_k1();

@@ -18,6 +18,7 @@ fn call(case: &[String]) -> Call {
     let buffer = |i: usize| vec![UNTOUCHED; case[i].parse().expect("a length")];
     match case[0].as_str() {
         "load" => Call::Load { file: row(1) },
+        "load_network" => Call::LoadNetwork { file: row(1) },
         "publish" => Call::Publish { out: buffer(1), work: buffer(2) },
         "open" => Call::Open { capsule: row(1), out: buffer(2) },
         "read" => Call::Read { word: row(1), out: buffer(2) },
@@ -100,7 +101,7 @@ pub fn run(station: Station, name: u8, case: &[String]) -> Station {
         _ => 0,
     };
     assert!(only_written(&made.work[free..], &[]), "{case:?}");
-    let moves = matches!(named.call, Call::Load { .. } | Call::Publish { .. } | Call::Drop);
+    let moves = matches!(named.call, Call::Load { .. } | Call::LoadNetwork { .. } | Call::Publish { .. } | Call::Drop);
     assert!(made.station == station || moves && made.answer.number == 0, "the station changed: {case:?}");
     made.station
 }

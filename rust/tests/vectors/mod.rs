@@ -5,6 +5,7 @@ mod fields;
 mod irreducible;
 mod keys;
 mod named;
+mod networks;
 mod program;
 mod sessions;
 mod shake;

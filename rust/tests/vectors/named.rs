@@ -60,7 +60,7 @@ fn hex(bytes: &[u8]) -> String {
 /// What a call is lent: bytes of inputs, lengths of the others.
 fn lent(call: &Call) -> String {
     match call {
-        Call::Load { file } => format!(" {}", hex(file)),
+        Call::Load { file } | Call::LoadNetwork { file } => format!(" {}", hex(file)),
         Call::Publish { out, work } => format!(" {} {}", out.len(), work.len()),
         Call::Open { capsule: row, out } | Call::Read { word: row, out } | Call::Report { capsules: row, out } => {
             format!(" {} {}", hex(row), out.len())

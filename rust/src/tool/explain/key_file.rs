@@ -1,19 +1,22 @@
-//! Key files: m in a byte, then n, n elements, t, and t coefficients of g, each in two bytes, the low byte first.
+//! Key files: m in a byte, then n, n elements, t, and t coefficients of g, each in two bytes, the low byte first. Network files: m, n,
+//! t, g, the bit count in four bytes, and packed control bits.
 
 use std::collections::HashMap;
 
-use shearcotter::{field, Refusal};
+use shearcotter::{field, Refusal, Shape};
 
-use super::{bytes_found, shapes, Explained};
+use super::{bytes_found, network, shapes, Explained};
+use crate::forms::KeyForm;
 
 const ANOTHER: &str = "use another key";
 
-/// A key file that load refuses; of a file past the limit one byte more was read.
-pub fn key_file(file: &[u8], limit: usize, refusal: Refusal) -> Explained {
-    let file = KeyFile::new(file);
+/// A key file that the load of its form refuses; of a file past the limit one byte more was read.
+pub fn key_file(file: &[u8], form: KeyForm, limit: usize, refusal: Refusal) -> Explained {
+    let file = KeyFile::new(file, form);
     match refusal {
         Refusal::BadWidth => Explained::new(refusal, refusal.condition(), file.width()),
         Refusal::BadLength => Explained::new(refusal, "key file ends too early or too late", file.length(limit)),
+        Refusal::BadBitCount => Explained::new(refusal, refusal.condition(), file.bit_count()),
         Refusal::BadShape => {
             let found = format!("{},{},{}", file.m, file.n, file.t);
             shapes::shape(&found, [file.m.into(), file.t as u64], refusal)
@@ -52,17 +55,23 @@ pub fn reading_only() -> String {
 /// A key file's numbers as load counts them: what is missing is 0.
 struct KeyFile<'a> {
     bytes: &'a [u8],
+    form: KeyForm,
     m: u8,
     n: usize,
     t: usize,
 }
 
 impl KeyFile<'_> {
-    fn new(bytes: &[u8]) -> KeyFile<'_> {
-        let mut file = KeyFile { bytes, m: bytes.first().copied().unwrap_or(0), n: 0, t: 0 };
+    fn new(bytes: &[u8], form: KeyForm) -> KeyFile<'_> {
+        let mut file = KeyFile { bytes, form, m: bytes.first().copied().unwrap_or(0), n: 0, t: 0 };
         file.n = file.number(1).into();
-        file.t = file.number(file.support_end()).into();
+        file.t = file.number(file.t_start()).into();
         file
+    }
+
+    /// The shape that the file has as a network file, where it is one.
+    fn network_shape(&self) -> Option<Shape> {
+        Shape::new(self.m, self.number(1), self.number(3)).ok()
     }
 
     fn number(&self, at: usize) -> u16 {
@@ -70,16 +79,32 @@ impl KeyFile<'_> {
         u16::from_le_bytes([byte(at), byte(at + 1)])
     }
 
-    fn support_end(&self) -> usize {
-        3 + 2 * self.n
+    /// Where t stands: behind the support, or behind n.
+    fn t_start(&self) -> usize {
+        match self.form {
+            KeyForm::Support => 3 + 2 * self.n,
+            KeyForm::Network => 3,
+        }
     }
 
-    fn support(&self) -> impl DoubleEndedIterator<Item = u16> + '_ {
-        (0..self.n).map(|i| self.number(3 + 2 * i))
+    fn g_start(&self) -> usize {
+        self.t_start() + 2
+    }
+
+    fn g_end(&self) -> usize {
+        self.g_start() + 2 * self.t
+    }
+
+    fn support(&self) -> Vec<u16> {
+        match (self.form, self.network_shape()) {
+            (KeyForm::Support, _) => (0..self.n).map(|i| self.number(3 + 2 * i)).collect(),
+            (KeyForm::Network, Some(shape)) => network::support(shape, &self.bytes[self.g_end() + 4..]),
+            (KeyForm::Network, None) => vec![],
+        }
     }
 
     fn g(&self) -> impl DoubleEndedIterator<Item = u16> + '_ {
-        (0..self.t).map(|i| self.number(self.support_end() + 2 + 2 * i))
+        (0..self.t).map(|i| self.number(self.g_start() + 2 * i))
     }
 
     fn width(&self) -> String {
@@ -91,19 +116,29 @@ impl KeyFile<'_> {
 
     fn length(&self, limit: usize) -> String {
         let found = bytes_found(self.bytes.len(), limit);
-        let (KeyFile { n, t, .. }, least) = (self, self.support_end() + 2);
+        let (KeyFile { n, t, .. }, least) = (self, self.g_start());
+        let network = self.network_shape().map_or(String::new(), |shape| {
+            format!(", or {} for a network file with t {}", shape.network_file_length(), shape.t())
+        });
         match self.bytes.len() {
             0..=2 => format!("expected at least 5 bytes for n and t, {found}"),
-            length if length < least => format!("expected at least {least} bytes for n {n}, {found}"),
-            _ => format!("expected {} bytes for n {n} and t {t}, {found}", least + 2 * t),
+            length if length < least => format!("expected at least {least} bytes for n {n}{network}, {found}"),
+            _ => format!("expected {} bytes for n {n} and t {t}{network}, {found}", self.g_end()),
         }
+    }
+
+    /// The four bytes behind g, of a network file with the right length.
+    fn bit_count(&self) -> String {
+        let (at, m) = (self.g_end(), usize::from(self.m));
+        let found = u32::from(self.number(at)) + (u32::from(self.number(at + 2)) << 16);
+        format!("expected {} for m {m} from byte {at} on, found {found}", (2 * m - 1) << (m - 1))
     }
 
     fn no_element(&self) -> String {
         let elements = 1_u32 << self.m.min(16);
-        let support = self.support().enumerate().map(|(i, x)| (x, format!("place {i} of the support"), 3 + 2 * i));
-        let start = self.support_end() + 2;
-        let g = self.g().enumerate().map(|(i, x)| (x, format!("coefficient {i} of g"), start + 2 * i));
+        let support = self.support().into_iter().enumerate();
+        let support = support.map(|(i, x)| (x, format!("place {i} of the support"), 3 + 2 * i));
+        let g = self.g().enumerate().map(|(i, x)| (x, format!("coefficient {i} of g"), self.g_start() + 2 * i));
         let found = support.chain(g).find(|(x, ..)| u32::from(*x) >= elements);
         found.map_or(String::new(), |(x, place, byte)| {
             format!("expected elements below {elements}, found {x} at {place}, byte {byte}")
@@ -112,7 +147,8 @@ impl KeyFile<'_> {
 
     fn twice(&self) -> String {
         let mut seen = HashMap::new();
-        let found = self.support().enumerate().find_map(|(i, x)| seen.insert(x, i).map(|first| (x, first, i)));
+        let found =
+            self.support().into_iter().enumerate().find_map(|(i, x)| seen.insert(x, i).map(|first| (x, first, i)));
         found.map_or(String::new(), |(x, first, second)| {
             format!("expected each element once, found {x} at places {first} and {second} of the support")
         })
@@ -127,7 +163,7 @@ impl KeyFile<'_> {
     }
 
     fn root(&self) -> String {
-        let found = self.support().enumerate().find(|(_, x)| self.value(*x) == Ok(0));
+        let found = self.support().into_iter().enumerate().find(|(_, x)| self.value(*x) == Ok(0));
         found.map_or(String::new(), |(i, x)| {
             format!("expected g other than 0 on the support, found 0 at place {i}, element {x}")
         })

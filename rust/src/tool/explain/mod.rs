@@ -3,6 +3,7 @@
 //! A function for each kind of input. The numbers are those of the calls; what is looked for here only names the place.
 
 mod key_file;
+mod network;
 mod rows;
 mod shapes;
 
