@@ -124,7 +124,7 @@ accepted-key file e =
     k = parse file
 
 -- a key's file has the length that its n and t say
-length-bytes : (xs : List ℕ) → length (flatMap twoBytes xs) ≡ 2 * length xs
+pub length-bytes : (xs : List ℕ) → length (flatMap twoBytes xs) ≡ 2 * length xs
 unfolding flatMap twoBytes
 length-bytes [] = refl
 length-bytes (x ∷ xs) = omega (arith, length-bytes xs)

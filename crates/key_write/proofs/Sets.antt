@@ -7,6 +7,7 @@ use native.Mathlib.Omega.{arith}
 use lib.ListN.{length, getD, drop, set, drop-of-length-le}
 use lib.Seq.{sets, drop-cons}
 use Rattle.key.specs.Keys.{twoBytes}
+use Rattle.key.proofs.Parse.{length-bytes}
 
 pub sets-two : (l : List ℕ) (at x : ℕ) → set (set l at (x % 256)) (at + 1) (x / 256) ≡ sets l at (twoBytes x)
 unfolding twoBytes
@@ -36,11 +37,6 @@ sets-next l at xs i h =
 pub sets-end : (l : List ℕ) (at : ℕ) (xs : List ℕ) (i : ℕ) → length xs ≤ i → sets l (at + 2 * i) (flatMap twoBytes (drop i xs)) ≡ l
 unfolding flatMap
 sets-end l at xs i h = ap (λ (r : List ℕ). sets l (at + 2 * i) (flatMap twoBytes r)) (drop-of-length-le xs h)
-
-pub length-bytes : (xs : List ℕ) → length (flatMap twoBytes xs) ≡ 2 * length xs
-unfolding flatMap twoBytes
-length-bytes [] = refl
-length-bytes (x ∷ xs) = let e = length-bytes xs in omega arith
 
 -- a key's parts, one after another
 pub sets-key : (o : List ℕ) (n t : ℕ) (xs ys : List ℕ) → length xs ≡ n

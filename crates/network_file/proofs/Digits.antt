@@ -10,15 +10,7 @@ use Rattle.bits.specs.Bits.{from, bitAt, bytesFor}
 use Rattle.bits.proofs.Lists.{cons-eq}
 use Rattle.network.specs.Network.{network, switches}
 use Rattle.network_key.specs.Files.{reversed, supportOf}
-use Rattle.network_key.proofs.Reversed.{reversed-lt}
-
-reversed-none : (y : ℕ) → reversed zero y ≡ 0
-unfolding reversed
-reversed-none y = refl
-
-reversed-suc : (k y : ℕ) → reversed (suc k) y ≡ y % 2 * 2 ^ k + reversed k (y / 2)
-unfolding reversed
-reversed-suc k y = refl
+use Rattle.network_key.proofs.Reversed.{reversed-lt, reversed-none, reversed-suc}
 
 join : (r d w z : ℕ) → (2 * r + d) * w + z ≡ r * (2 * w) + (d * w + z)
 join r d w z = omega arith

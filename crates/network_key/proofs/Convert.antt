@@ -12,13 +12,13 @@ use Rattle.bits.proofs.Pack.{length-pack, row-length}
 use Rattle.field.specs.Numbers.{firstOf}
 use Rattle.field.specs.Field.{isWidth}
 use Rattle.key.specs.Keys.{Key, pair, parse, twoBytes, fileOf, conditions, fileConditions, keyNumber}
-use Rattle.key.proofs.Parse.{pair-first, pair-behind, pair-behind-all, length-elements, parse-file, accepted-key}
+use Rattle.key.proofs.Parse.{pair-first, pair-behind, pair-behind-all, length-elements, length-bytes, parse-file, accepted-key}
 use Rattle.key.proofs.Accepted.{Accepted, accepted}
 use Rattle.network.specs.Network.{switches, controlBits}
 use Rattle.network_key.specs.Files.{supportOf, four, fourBytes, parseNetwork, networkConditions, permutation, networkOf, toNetwork, fromNetwork}
 use Rattle.network.proofs.Digits.{row-control}
 use Rattle.network_key.proofs.Settings.{length-supportOf}
-use Rattle.network_key.proofs.Parse.{length-bytes, parse-network}
+use Rattle.network_key.proofs.Parse.{parse-network}
 use Rattle.network_key.proofs.OldFile.{accepted-file}
 
 -- Old to new and back returns the same bytes, for every file that load accepts.

@@ -7,16 +7,11 @@ use lib.ListN.{length, drop}
 use lib.Seq.{drop-append-add}
 use Rattle.bits.specs.Bits.{pack}
 use Rattle.key.specs.Keys.{Key, pair, elements, twoBytes}
-use Rattle.key.proofs.Parse.{pair-first, pair-behind, elements-moved, elements-back}
+use Rattle.key.proofs.Parse.{pair-first, pair-behind, elements-moved, elements-back, length-bytes}
 use Rattle.key.proofs.Accepted.{Accepted}
 use Rattle.network.specs.Network.{switches, controlBits}
 use Rattle.network_key.specs.Files.{supportOf, parseNetwork, permutation, fourBytes, networkOf}
 use Rattle.network_key.proofs.Settings.{support-back}
-
-pub length-bytes : (xs : List ℕ) → length (flatMap twoBytes xs) ≡ 2 * length xs
-unfolding flatMap twoBytes
-length-bytes [] = refl
-length-bytes (x ∷ xs) = let e = length-bytes xs in omega arith
 
 -- a file with the parts m, n, g and a row, as they stand in it
 module _ (m n t c : ℕ) (g row : List ℕ) (size : length g ≡ t) where

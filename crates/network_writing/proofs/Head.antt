@@ -8,7 +8,8 @@ use lib.Seq.{sets, sets-eq}
 use borrow.Rule.Slice.PartMut.{putMid, post-is}
 use Rattle.bits.specs.Bits.{bytesFor}
 use Rattle.key.specs.Keys.{twoBytes}
-use Rattle.key_write.proofs.Sets.{sets-append, two-long, length-bytes}
+use Rattle.key.proofs.Parse.{length-bytes}
+use Rattle.key_write.proofs.Sets.{sets-append, two-long}
 use Rattle.network.specs.Network.{switches}
 use Rattle.network_key.specs.Files.{fourBytes}
 use Rattle.network_file.proofs.Digits.{switches-small}

@@ -12,10 +12,9 @@ use Rattle.key.specs.Kept.{keep}
 use Rattle.key.specs.declared.shape.Sizes.{Sizes}
 use Rattle.key.specs.declared.shape.ShapeAnswer.the-variants as answers
 use Rattle.key.specs.declared.kept.Key as kept
-use Rattle.key.proofs.Parse.{accepted-key}
+use Rattle.key.proofs.Parse.{accepted-key, length-bytes}
 use Rattle.key_file.specs.Files.{fileShape, stored}
 use Rattle.key_file.proofs.Files.{head-accepted, stored-key}
-use Rattle.key_write.proofs.Sets.{length-bytes}
 use Rattle.network.specs.Network.{switches, controlBits}
 use Rattle.network_key.specs.Files.{fourBytes, permutation, networkOf, toNetwork}
 use Rattle.network_key.proofs.Widths.{width-least}
