@@ -1,6 +1,6 @@
 -- Under an accepted key a word has at most one reading: two patterns for it would differ by a code word with at most 2t ones.
 -- Assumes nothing.
-use mathlib.Core.Path.{_≡_, refl, sym, ap, _∙_}
+use mathlib.Core.Path.{_≡_, refl, sym, ap, ap₂, _∙_}
 use mathlib.Core.Bool.{true}
 use mathlib.Core.List.{List, map}
 use Prim.Native.Nat.{ℕ, _+_, _≤_, _<_}
@@ -49,6 +49,14 @@ module _ (k : Key) (A : Accepted k) {e d : List ℕ} (a : Row (k .n) e) (b : Row
   sums-equal h =
       code-equal (sums-code k (xorRow e d) (λ s l.
       dot-xorRow a b (map (entry k s) (k .support)) ∙ ap (λ (x : ℕ). x ⊕ dot d (map (entry k s) (k .support))) (h s l) ∙ xor-self _))
+
+-- two code words that differ in at most 2t places are equal
+pub code-words-equal : (k : Key) → Accepted k → {c d : List ℕ} → Row (k .n) c → Row (k .n) d → inCode k c ≡ true → inCode k d ≡ true
+    → ones (xorRow c d) ≤ k .t + k .t → d ≡ c
+code-words-equal k A {c} {d} a b p q few = no-ones-equal a b (distance k A (row-xorRow a b) (sums-code k (xorRow c d) sum) few)
+  where
+    sum : (s : ℕ) → s < k .t → dot (xorRow c d) (map (entry k s) (k .support)) ≡ 0
+    sum s l = dot-xorRow a b (map (entry k s) (k .support)) ∙ ap₂ _⊕_ (code-sums k c p s l) (code-sums k d q s l) ∙ xor-self 0
 
 -- a word has at most one reading
 pub one-reading : (k : Key) → Accepted k → (w e d : List ℕ) → Row (k .n) w → Corrects k w e → Corrects k w d → d ≡ e

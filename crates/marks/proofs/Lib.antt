@@ -1,0 +1,6 @@
+pub mod Added
+pub mod Unmarked
+pub mod Sound
+pub mod Twice
+pub mod Plain
+pub mod Examples
