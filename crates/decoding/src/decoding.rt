@@ -20,8 +20,8 @@ ghost use Rattle.key.specs.Kept.{kept, parts};
 ghost use Rattle.decoder.specs.Decoding.{explained};
 ghost use Rattle.decoding.specs.Parts.{decodedDivisors, decodedNumber, decoded, nothingOf, foundOf, candidateOf, settledOf, pointsOf};
 
-// A packed pattern of n bits with zeros behind it, and its number of ones; zeros only where none is found, and where a divisor
-// was 0: the verdict is then the refusal, 32.
+// A packed pattern of n bits with zeros behind it, and how many of its ones count; zeros only where none is found, and where a
+// divisor was 0: the verdict is then the refusal, 32.
 pub struct Found {
     pub verdict: Verdict,
     pub found: bool,

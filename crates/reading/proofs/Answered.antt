@@ -1,7 +1,7 @@
 -- What read and open answer and write, from what is found. Assumes nothing.
 use mathlib.Core.Path.{_≡_, refl, sym, ap, ap₂, _∙_}
 use mathlib.Core.Bool.{Bool, true, cond}
-use mathlib.Core.List.{List, _∷_, _++_, map}
+use mathlib.Core.List.{List, [], _∷_, _++_, map}
 use mathlib.Core.Option.{Option, none, some}
 use Prim.Native.Nat.{ℕ, zero, suc, _+_, _-_, _*_, _≤_}
 use native.Mathlib.Nat.{suc-ne-zero}
@@ -32,12 +32,12 @@ use Rattle.reading.specs.Answers.{answerOf, readOf, openOf, readChecks, 
 use Rattle.reading.specs.declared.calls.Answer.the-variants.{Refused}
 use Rattle.reading.proofs.Refusals.{read-clear, read-refused, read-number, open-clear, open-refused, open-number}
 
--- the answer and the output for a refusal with a number
-refusal : (q : ℕ) (o : Option (List ℕ)) (out : List ℕ) (x : ℕ) → x ≡ q → (x ≡ 0 → ⊥) → (Refused x ≡ answerOf q (ones (found o))) × (out ≡ patternOutput q o out)
+-- the answer and the output for a refusal with a number, whatever the count
+pub refusal : (q count : ℕ) (o : Option (List ℕ)) (out : List ℕ) (x : ℕ) → x ≡ q → (x ≡ 0 → ⊥) → (Refused x ≡ answerOf q count) × (out ≡ patternOutput q o out)
 unfolding answerOf patternOutput
-refusal q o out zero e h = absurd (h refl)
-refusal q o out (suc x) e h = (
-  ap (λ (y : ℕ). answerOf y (ones (found o))) e,
+refusal q count o out zero e h = absurd (h refl)
+refusal q count o out (suc x) e h = (
+  ap (λ (y : ℕ). answerOf y count) e,
   sym (ap (λ (b : Bool). cond b (over (pack (found o)) out) out) (ne-eqb q 0 (λ z. h (e ∙ z)))),
 )
 
@@ -46,7 +46,7 @@ module _ (x n : ℕ) (out : List ℕ) (h : x ≡ 0 → ⊥) (b : bytesFor n ≤ 
   given-pattern : (o : Option (List ℕ)) → ((e : List ℕ) → o ≡ some e → Row n e) → (q : ℕ) → q ≡ cond (isNone o) x 0
       → (countedOf x (foundOf 0 o) ≡ answerOf q (ones (found o))) × (givenOf n (foundOf 0 o) out ≡ patternOutput q o out)
   unfolding answerOf patternOutput found unpack countedOf answerBy givenOf writtenBy foundOf nothingOf isNone
-  given-pattern none row q e = refusal q none out x (sym e) h
+  given-pattern none row q e = refusal q (ones []) none out x (sym e) h
   given-pattern (some p) row q e =
       rw e (refl, written-row (packed p) 0 n out b ∙ ap (λ (e : List ℕ). over (pack e) out) (unpack-packed (row p refl)))
 
@@ -58,7 +58,7 @@ module _ (x n : ℕ) (out : List ℕ) (h : x ≡ 0 → ⊥) (b : bytesFor n ≤ 
 
 -- read
 module _ (k : Key) (word : List ℕ) where
-  found-reading : keyNumber (kept k) ≡ 0 → {f : Found} → f ≡ foundOf (decodedNumber (kept k) (unpack (k .n) word)) (decoded (kept k) (unpack (k .n) word))
+  pub found-reading : keyNumber (kept k) ≡ 0 → {f : Found} → f ≡ foundOf (decodedNumber (kept k) (unpack (k .n) word)) (decoded (kept k) (unpack (k .n) word))
       → f ≡ foundOf 0 (reading (kept k) (unpack (k .n) word))
   found-reading z e = e ∙ ap₂ foundOf (decoded-divides k word z) (decoded-reading k word z)
 
@@ -70,7 +70,7 @@ module _ (k : Key) (word out : List ℕ) where
   pub read-refusal : {x : ℕ} → x ≡ firstOf (readChecks (kept k) word (length out)) → (x ≡ 0 → ⊥)
       → (Refused x ≡ readOf (kept k) word out) × (out ≡ readOutput (kept k) word out)
   unfolding readOf readOutput
-  read-refusal e h = refusal _ _ out _ (read-refused (kept k) word out e h) h
+  read-refusal e h = refusal _ _ _ out _ (read-refused (kept k) word out e h) h
 
   module _ (z : firstOf (readChecks (kept k) word (length out)) ≡ 0) where
     number : readNumber (kept k) word out ≡ cond (isNone (reading (kept k) (unpack (k .n) word))) 14 0
@@ -150,7 +150,7 @@ module _ (unpublished : Bool) (k : Key) (capsule out : List ℕ) where
   pub open-refusal : {x : ℕ} → x ≡ firstOf (openChecks unpublished (kept k) capsule (length out)) → (x ≡ 0 → ⊥)
       → (Refused x ≡ openOf unpublished (kept k) capsule out) × (out ≡ openOutput unpublished (kept k) capsule out)
   unfolding openOf openOutput
-  open-refusal e h = refusal _ _ out _ (open-refused unpublished (kept k) capsule out e h) h
+  open-refusal e h = refusal _ _ _ out _ (open-refused unpublished (kept k) capsule out e h) h
 
   module _ (z : firstOf (openChecks unpublished (kept k) capsule (length out)) ≡ 0) where
     number-opening : openNumber unpublished (kept k) capsule out ≡ cond (isNone (opening (kept k) (unpack (capsuleBits (kept k)) capsule))) 13 0

@@ -34,7 +34,7 @@ module _ (k : ℕ) (row : List ℕ) where
     row-right h = rw (eq-eqb _ _ a, h)
 
   -- where neither holds the number is that of the conditions behind them
-  row-first : (cs : List (Bool × ℕ)) → firstOf (rowChecks k row ++ cs) ≡ 0 → (wellFormed k row ≡ true) × (firstOf cs ≡ 0)
+  pub row-first : (cs : List (Bool × ℕ)) → firstOf (rowChecks k row ++ cs) ≡ 0 → (wellFormed k row ≡ true) × (firstOf cs ≡ 0)
   unfolding rowChecks
   row-first cs e =
       let c8 = first-clear (not (eqb (length row) (bytesFor k))) 7 _ e in

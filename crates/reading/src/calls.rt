@@ -18,7 +18,7 @@ ghost use Rattle.decoder.specs.Calls.{openOutput, readOutput};
 ghost use Rattle.decoding.specs.Parts.{decodedNumber, decoded, foundOf};
 ghost use Rattle.reading.specs.Answers.{keyChecks, rowChecks, bufferChecks, openChecks, readChecks, countedOf, givenOf, openOf, readOf};
 
-// The number of ones of the pattern that is written, or the number of a refusal.
+// How many ones of the pattern that is written count, all but in a marked reading, or the number of a refusal.
 pub enum Answer {
     Ones(u16),
     Refused(u8),
@@ -125,7 +125,7 @@ fn check_capsule<'a>(
     check_buffers(capsule_bits(m, t), n as usize, capsule, len)
 }
 
-// The number of ones of the pattern found, whose n bits are written from the output's start where it has room; or a refusal and
+// How many ones of the pattern found count; its n bits are written from the output's start where it has room. Or a refusal and
 // nothing written: the verdict's, or with the number where there is no pattern.
 pub fn given(e: Found, number: u8, n: u16, out: &mut [u8]) -> Answer
     ensures answer { λ r. ⌜ r ≡ countedOf number e ⌝ }

@@ -1,0 +1,4 @@
+pub mod Cleared
+pub mod Readings
+pub mod Refusals
+pub mod Answered
