@@ -6,27 +6,22 @@ use mathlib.Core.List.{List}
 use mathlib.Core.Option.{some}
 use lib.ListN.{length}
 use Rattle.bits.specs.Bits.{Row, bytesFor, unpack, ones, wellFormed, xorRow}
-use Rattle.bits.proofs.Pack.{row-length, row-unpack, unpack-over}
-use Rattle.bits.proofs.Rows.{xorRow-comm, xorRow-twice, row-xorRow}
+use Rattle.bits.proofs.Pack.{row-unpack}
+use Rattle.bits.proofs.Rows.{row-xorRow}
 use Rattle.key.specs.Keys.{Key, keyNumber}
 use Rattle.code.specs.Code.{inCode}
+use Rattle.marks.proofs.Added.{added-front}
 use Rattle.ledger.specs.Slot.{Slot}
 use Rattle.ledger.specs.Questions.{read-word}
 use Rattle.ledger.specs.Calls.{ask, step}
 use Rattle.ledger.specs.Systems.{System}
 use Rattle.ledger.specs.Demands.{at, keyHeld, Differs, Decides}
 use Rattle.ledger.specs.OwnWords.{Near, ReadsCodeWords}
+use Rattle.ledger.proofs.ByCodeWords.{accepts-code-word, refuses-code-words}
 use Rattle.ledger.proofs.Demand2.{at-held}
 use Rattle.ledger.proofs.Demand3.{read-decides}
 use Rattle.ledger.proofs.Found.{Reads, read-found}
 use Rattle.ledger.proofs.Simulation.{Simulates, same-number, decides}
-
--- adding a row twice to another gives that other back
-pub added-twice : {n : ℕ} {w e : List ℕ} → Row n w → Row n e → xorRow w (xorRow w e) ≡ e
-added-twice {w = w} {e = e} p q =
-    xorRow-comm w (xorRow w e) (row-length p ∙ sym (row-length (row-xorRow p q)))
-    ∙ ap (λ (x : List ℕ). xorRow x w) (xorRow-comm w e (row-length p ∙ sym (row-length q)))
-    ∙ xorRow-twice e w
 
 module _ (k : Key) (word : List ℕ) where
   r : Row (k .n) (unpack (k .n) word)
@@ -38,7 +33,7 @@ module _ (k : Key) (word : List ℕ) where
       record {
         row = row-xorRow r (d .row);
         code = d .code;
-        few = subst (λ (x : List ℕ). ones x ≤ k .t) (sym (added-twice r (d .row))) (d .weight);
+        few = subst (λ (x : List ℕ). ones x ≤ k .t) (sym (added-front r (d .row))) (d .weight);
       }
 
   differs : (c : List ℕ) → Near k word c → Differs k word (xorRow (unpack (k .n) word) c)
@@ -46,32 +41,17 @@ module _ (k : Key) (word : List ℕ) where
       record {
         row = row-xorRow r (d .row);
         weight = d .few;
-        code = ap (inCode k) (added-twice r (d .row)) ∙ d .code;
+        code = ap (inCode k) (added-front r (d .row)) ∙ d .code;
       }
 
 module _ (sys : System) (sim : Simulates sys) where
   pub reads : (k : Key) (s : sys .Stations) (word out : List ℕ) → keyHeld (sys .view s) ≡ some k → keyNumber k ≡ 0
-      → wellFormed (k .n) word ≡ true → bytesFor (k .n) ≤ length out → Decides (Differs k word) 14 out (sys .call s (ask (read-word word out)))
+      → wellFormed (k .n) word ≡ true → bytesFor (k .n) ≤ length out → Decides (Differs k word) ones 14 out (sys .call s (ask (read-word word out)))
   unfolding at
   reads k s word out h good formed long =
-      decides sys sim s (ask (read-word word out)) (Differs k word) 14 out
-      (at-held (λ (x : Slot). Decides (Differs k word) 14 out (step x (ask (read-word word out)))) (sys .view s) k h
+      decides sys sim s (ask (read-word word out)) (Differs k word) ones 14 out
+      (at-held (λ (x : Slot). Decides (Differs k word) ones 14 out (step x (ask (read-word word out)))) (sys .view s) k h
       (λ state e. read-decides k good state e word out formed long))
-
-  accepts : (k : Key) (s : sys .Stations) (word out : List ℕ) → Decides (Differs k word) 14 out (sys .call s (ask (read-word word out)))
-      → sys .call s (ask (read-word word out)) .number ≡ 0
-      → (let c = xorRow (unpack (k .n) word) (unpack (k .n) (sys .call s (ask (read-word word out)) .output)) in
-      Near k word c × (sys .call s (ask (read-word word out)) .count ≡ ones (xorRow (unpack (k .n) word) c)) × ((d : List ℕ) → Near k word d → d ≡ c))
-  accepts k s word out d z =
-      let p = d .writes z in
-      let f : Differs k word (p .0) = p .1 in
-      let r = row-unpack (k .n) word in
-      let q : unpack (k .n) (sys .call s (ask (read-word word out)) .output) ≡ p .0 = ap (unpack (k .n)) (p .2) ∙ unpack-over (f .row) out in
-      rw q (
-        near k word (p .0) f,
-        p .3 ∙ ap ones (sym (added-twice r (f .row))),
-        λ c n. sym (added-twice r (n .row)) ∙ ap (xorRow (unpack (k .n) word)) (p .4 (xorRow (unpack (k .n) word) c) (differs k word c n)),
-      )
 
   pub reads-code-words : ReadsCodeWords sys
   reads-code-words s word out =
@@ -79,8 +59,8 @@ module _ (sys : System) (sim : Simulates sys) where
       record {
         accepts = λ z.
             let f : Reads (sys .view s) word out = read-found (sys .view s) word out (sym (same-number sys sim s (ask (read-word word out))) ∙ z) in
-            accepts k s word out (reads k s word out (f .held) (f .good) (f .formed) (f .long)) z;
+            accepts-code-word (r k word) (λ e d. d .row) (λ c d. d .row) (near k word) (differs k word) _
+            (reads k s word out (f .held) (f .good) (f .formed) (f .long)) z;
         refuses = λ h good formed long.
-            let d = reads k s word out h good formed long .refuses in
-            (λ z c n. d .0 z _ (differs k word c n), λ none. d .1 (λ e p. none _ (near k word e p)));
+            refuses-code-words (r k word) (λ e d. d .row) (λ c d. d .row) (near k word) (differs k word) _ (reads k s word out h good formed long);
       }

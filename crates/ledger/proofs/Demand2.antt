@@ -114,7 +114,7 @@ module _ (k : Key) (rows : Matrix) (good : keyNumber k ≡ 0) (public : publicKe
 -- where it is irreducible too, publish accepts and open decides
 module _ (k : Key) (rows : Matrix) (good : keyNumber k ≡ 0) (irreducible : reducible k ≡ false) (public : publicKey k ≡ some rows) where
   opens : (capsule out : List ℕ) → wellFormed (capsuleBits k) capsule ≡ true → bytesFor (k .n) ≤ length out
-      → Decides (Locks k rows capsule) 13 out (step (at published k) (ask (open-capsule capsule out)))
+      → Decides (Locks k rows capsule) ones 13 out (step (at published k) (ask (open-capsule capsule out)))
   unfolding at
   opens = open-decides k good irreducible rows public
 

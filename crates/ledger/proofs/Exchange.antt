@@ -18,13 +18,14 @@ use Rattle.code.specs.PublicKey.{dependent}
 use Rattle.code.specs.Publish.{capsuleBits, publicBytes, workBytes, publishChecks, publishConditions}
 use Rattle.code.proofs.Exchange.{exchangeable, exchange-refused}
 use Rattle.decoder.specs.Calls.{openConditions, readConditions}
+use Rattle.marks.specs.Marked.{markedConditions}
 use Rattle.records.specs.Records.{reportConditions}
 use Rattle.records.proofs.Values.{bits-some, bytes-some}
 use Rattle.session.specs.Session.{sessionConditions}
 use Rattle.ledger.specs.Slot.{State, empty, loaded, published, Slot, Held, isEmpty, heldBy}
 use Rattle.ledger.specs.Loading.{key-file, network-file, loadingConditions, loadedKey}
 use Rattle.ledger.specs.Publishing.{systematic, publicBuffer, publishingConditions}
-use Rattle.ledger.specs.Questions.{open-capsule, read-word, report, session-key, questionConditions}
+use Rattle.ledger.specs.Questions.{open-capsule, read-word, read-marked, report, session-key, questionConditions}
 use Rattle.ledger.specs.Calls.{Call, load, publish, ask, drop-key, conditionsOf, outputOf, noAnswer, step}
 use Rattle.ledger.specs.Ledger.{Ledger, blank}
 use Rattle.ledger.specs.Systems.{System, definitions}
@@ -50,18 +51,20 @@ exchange-begins h (load f) e = absurd (false≢true e)
 exchange-begins h (publish (systematic out work)) e = record { others = _; begins = refl; once = refl }
 exchange-begins h (ask (open-capsule capsule out)) e = record { others = _; begins = refl; once = refl }
 exchange-begins h (ask (read-word word out)) e = absurd (false≢true e)
+exchange-begins h (ask (read-marked word marks out)) e = absurd (false≢true e)
 exchange-begins h (ask (report capsules records)) e = record { others = _; begins = refl; once = refl }
 exchange-begins h (ask (session-key capsule secret)) e = record { others = _; begins = refl; once = refl }
 exchange-begins h drop-key e = absurd (false≢true e)
 
 -- the others have no 34
 others-without : (h : Held) (c : Call) → exchanges c ≡ false → without 34 (conditionsOf h c) ≡ true
-unfolding exchanges opens conditionsOf loadingConditions fileConditions networkConditions conditions questionConditions readConditions without
+unfolding exchanges opens conditionsOf loadingConditions fileConditions networkConditions conditions questionConditions readConditions markedConditions without
 others-without h (load (key-file file)) e = refl
 others-without h (load (network-file file)) e = refl
 others-without h (publish p) e = absurd (true≢false e)
 others-without h (ask (open-capsule capsule out)) e = absurd (true≢false e)
 others-without h (ask (read-word word out)) e = refl
+others-without h (ask (read-marked word marks out)) e = refl
 others-without h (ask (report capsules records)) e = absurd (true≢false e)
 others-without h (ask (session-key capsule secret)) e = absurd (true≢false e)
 others-without h drop-key e = refl

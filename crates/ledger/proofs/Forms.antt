@@ -18,12 +18,13 @@ use Rattle.code.specs.PublicKey.{Matrix, publicKey, dependent}
 use Rattle.code.specs.Publish.{workBytes, publishChecks, publishConditions, freeBytes}
 use Rattle.code.proofs.Exchange.{exchangeable}
 use Rattle.decoder.specs.Calls.{openConditions, readConditions}
+use Rattle.marks.specs.Marked.{markedConditions}
 use Rattle.records.specs.Records.{reportConditions}
 use Rattle.session.specs.Session.{sessionConditions}
 use Rattle.ledger.specs.Slot.{Held}
 use Rattle.ledger.specs.Loading.{Loading, key-file, network-file, loadingConditions, loadedKey}
 use Rattle.ledger.specs.Publishing.{Publishing, systematic, publishingConditions, freedBytes}
-use Rattle.ledger.specs.Questions.{Question, open-capsule, read-word, report, session-key, questionConditions}
+use Rattle.ledger.specs.Questions.{Question, open-capsule, read-word, read-marked, report, session-key, questionConditions}
 
 -- load
 pub loading-numbered : (f : Loading) → numbered (loadingConditions f) ≡ true
@@ -65,9 +66,10 @@ publishing-public h (systematic out work) e =
 
 -- questions
 pub question-numbered : (h : Held) (q : Question) → numbered (questionConditions h q) ≡ true
-unfolding numbered questionConditions openConditions readConditions reportConditions sessionConditions
+unfolding numbered questionConditions openConditions readConditions markedConditions reportConditions sessionConditions
 question-numbered h (open-capsule capsule out) = refl
 question-numbered h (read-word word out) = refl
+question-numbered h (read-marked word marks out) = refl
 question-numbered h (report capsules records) = refl
 question-numbered h (session-key capsule secret) = refl
 

@@ -12,9 +12,10 @@ use Rattle.field.proofs.Numbers.{first-clear}
 use Rattle.key.specs.Keys.{Key, keyNumber, unsound, reducible}
 use Rattle.code.specs.PublicKey.{Matrix, publicKey}
 use Rattle.decoder.specs.Calls.{readConditions}
+use Rattle.marks.specs.Marked.{markedConditions}
 use Rattle.ledger.specs.Slot.{State, empty, loaded, published, Slot, isEmpty, heldBy}
 use Rattle.ledger.specs.Publishing.{Publishing}
-use Rattle.ledger.specs.Questions.{read-word, questionConditions}
+use Rattle.ledger.specs.Questions.{read-word, read-marked, questionConditions}
 use Rattle.ledger.specs.Calls.{publish, ask, conditionsOf, step}
 use Rattle.ledger.specs.Demands.{at, keyHeld}
 use Rattle.ledger.proofs.Forms.{publishing-public}
@@ -65,5 +66,30 @@ read-found s word out e =
       held = holds-key s (c21 .0);
       good = eqb-true _ _ (not-false _ (c25 .0));
       formed = well-formed (s .key .n) word (eqb-true _ _ (not-false _ (c8 .0))) (not-false _ (c9 .0));
+      long = ltb-false _ _ (c10 .0);
+    }
+
+-- marked reading
+pub record ReadsMarked (s : Slot) (word marks out : List ℕ) : Type 0 where
+  pub held : keyHeld s ≡ some (s .key)
+  pub good : keyNumber (s .key) ≡ 0
+  pub formed : wellFormed (s .key .n) word ≡ true
+  pub marked : wellFormed (s .key .n) marks ≡ true
+  pub long : bytesFor (s .key .n) ≤ length out
+
+pub marked-found : (s : Slot) (word marks out : List ℕ) → step s (ask (read-marked word marks out)) .number ≡ 0 → ReadsMarked s word marks out
+unfolding heldBy conditionsOf questionConditions markedConditions unsound
+marked-found s word marks out e =
+    let c21 = first-clear _ 20 _ (sym (step-number s (ask (read-marked word marks out))) ∙ e) in
+    let c25 = first-clear _ 24 _ (c21 .1) in
+    let c8 = first-clear _ 7 _ (c25 .1) in
+    let c9 = first-clear _ 8 _ (c8 .1) in
+    let c37 = first-clear _ 36 _ (c9 .1) in
+    let c10 = first-clear _ 9 _ (c37 .1) in
+    record {
+      held = holds-key s (c21 .0);
+      good = eqb-true _ _ (not-false _ (c25 .0));
+      formed = well-formed (s .key .n) word (eqb-true _ _ (not-false _ (c8 .0))) (not-false _ (c9 .0));
+      marked = not-false _ (c37 .0);
       long = ltb-false _ _ (c10 .0);
     }

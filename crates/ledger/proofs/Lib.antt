@@ -1,5 +1,3 @@
-pub mod Table
-pub mod TableOf
 pub mod Forms
 pub mod Numbers
 pub mod StepLaws
@@ -12,9 +10,11 @@ pub mod Demand2
 pub mod Simulation
 pub mod Found
 pub mod LocksOpens
+pub mod ByCodeWords
 pub mod CodeWords
 pub mod Loads
 pub mod OwnWords
 pub mod Reports
 pub mod Sessions
+pub mod Marks
 pub mod Exchange

@@ -12,12 +12,13 @@ use Rattle.key.specs.Keys.{conditions, fileConditions}
 use Rattle.network_key.specs.Files.{networkConditions}
 use Rattle.code.specs.Publish.{publishChecks, publishConditions}
 use Rattle.decoder.specs.Calls.{openConditions, readConditions}
+use Rattle.marks.specs.Marked.{markedConditions}
 use Rattle.records.specs.Records.{reportConditions}
 use Rattle.session.specs.Session.{sessionConditions}
 use Rattle.ledger.specs.Slot.{Held}
 use Rattle.ledger.specs.Loading.{key-file, network-file, loadingConditions}
 use Rattle.ledger.specs.Publishing.{systematic, publishingConditions}
-use Rattle.ledger.specs.Questions.{open-capsule, read-word, report, session-key, questionConditions}
+use Rattle.ledger.specs.Questions.{open-capsule, read-word, read-marked, report, session-key, questionConditions}
 use Rattle.ledger.specs.Calls.{Call, load, publish, ask, drop-key, conditionsOf}
 
 -- no condition of the list has the number n, so that it is not the first that holds
@@ -37,12 +38,13 @@ without-first n (c ∷ cs) w e =
 
 -- no call of a slot has 35, which says that a recipient's name is unknown
 pub calls-without-35 : (h : Held) (c : Call) → without 35 (conditionsOf h c) ≡ true
-unfolding without conditionsOf loadingConditions fileConditions networkConditions conditions publishingConditions publishConditions publishChecks questionConditions openConditions readConditions reportConditions sessionConditions
+unfolding without conditionsOf loadingConditions fileConditions networkConditions conditions publishingConditions publishConditions publishChecks questionConditions openConditions readConditions markedConditions reportConditions sessionConditions
 calls-without-35 h (load (key-file file)) = refl
 calls-without-35 h (load (network-file file)) = refl
 calls-without-35 h (publish (systematic out work)) = refl
 calls-without-35 h (ask (open-capsule capsule out)) = refl
 calls-without-35 h (ask (read-word word out)) = refl
+calls-without-35 h (ask (read-marked word marks out)) = refl
 calls-without-35 h (ask (report capsules records)) = refl
 calls-without-35 h (ask (session-key capsule secret)) = refl
 calls-without-35 h drop-key = refl

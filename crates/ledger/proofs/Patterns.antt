@@ -15,7 +15,11 @@ use Rattle.decoder.proofs.Openings as openings
 use Rattle.decoder.proofs.Sanity as decoder
 use Rattle.decoder.proofs.Uniqueness as unique
 use Rattle.code.specs.Publish.{capsuleBits}
-use Rattle.ledger.specs.Demands.{Locks, Differs}
+use Rattle.marks.specs.Marked.{markedReading}
+use Rattle.marks.proofs.Sound.{CorrectsMarked}
+use Rattle.marks.proofs.Sound as sound
+use Rattle.marks.proofs.Twice as twice
+use Rattle.ledger.specs.Demands.{Locks, Differs, DiffersMarked}
 
 -- the demands' patterns are those of the decoder
 pub corrects : (k : Key) (word e : List ℕ) → Differs k word e → Corrects k (unpack (k .n) word) e
@@ -33,6 +37,19 @@ module _ (k : Key) (word : List ℕ) where
 
   pub reading-complete : reading k (unpack (k .n) word) ≡ none → (e : List ℕ) → Differs k word e → ⊥
   reading-complete h e d = decoder.reading-complete k (unpack (k .n) word) h e (corrects k word e d)
+
+-- and so does marked reading, with 2d + s ≤ 2t
+corrects-marked : (k : Key) (word marks e : List ℕ) → DiffersMarked k word marks e → CorrectsMarked k (unpack (k .n) word) (unpack (k .n) marks) e
+corrects-marked k word marks e d = record { bits = d .row; few = d .few; code = d .code }
+
+module _ (k : Key) (word marks : List ℕ) where
+  pub marked-sound : (e : List ℕ) → markedReading k (unpack (k .n) word) (unpack (k .n) marks) ≡ some e → DiffersMarked k word marks e
+  marked-sound e h =
+      let c : CorrectsMarked k (unpack (k .n) word) (unpack (k .n) marks) e = sound.marked-sound k (unpack (k .n) word) (unpack (k .n) marks) e h in
+      record { row = c .bits; few = c .few; code = c .code }
+
+  pub marked-complete : markedReading k (unpack (k .n) word) (unpack (k .n) marks) ≡ none → (e : List ℕ) → DiffersMarked k word marks e → ⊥
+  marked-complete h e d = sound.marked-complete k (unpack (k .n) word) (unpack (k .n) marks) h e (corrects-marked k word marks e d)
 
 -- under a key that load accepts, opening finds a pattern that locks to the capsule, and at most one fits a word or a capsule
 module _ (k : Key) (good : keyNumber k ≡ 0) where
@@ -56,3 +73,7 @@ module _ (k : Key) (good : keyNumber k ≡ 0) where
   pub one-reading : (word e d : List ℕ) → Differs k word e → Differs k word d → d ≡ e
   one-reading word e d p q =
       unique.one-reading k (accepted k good) (unpack (k .n) word) e d (row-unpack (k .n) word) (corrects k word e p) (corrects k word d q)
+
+  pub one-marked : (word marks e d : List ℕ) → DiffersMarked k word marks e → DiffersMarked k word marks d → d ≡ e
+  one-marked word marks e d p q =
+      twice.one-marked k (accepted k good) (row-unpack (k .n) word) (row-unpack (k .n) marks) e d (corrects-marked k word marks e p) (corrects-marked k word marks d q)

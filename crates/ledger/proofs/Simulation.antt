@@ -9,7 +9,7 @@ use Rattle.code.specs.Publish.{publicBytes}
 use Rattle.ledger.specs.Slot.{published, Slot, Outcome, Result}
 use Rattle.ledger.specs.Slot as Definition
 use Rattle.ledger.specs.Publishing.{Publishing, systematic}
-use Rattle.ledger.specs.Questions.{Question, open-capsule, read-word}
+use Rattle.ledger.specs.Questions.{Question, open-capsule, read-word, read-marked}
 use Rattle.ledger.specs.Calls.{Call, publish, ask, step, run, answered}
 use Rattle.ledger.specs.Ledger.{blank, ledgerAfter}
 use Rattle.ledger.specs.Systems.{System, definitions}
@@ -83,10 +83,11 @@ module _ (sys : System) (sim : Simulates sys) where
         (same-answer ∙ ap (λ (x : Result). x .answer) e)
         (same-free ∙ ap (λ (x : Result). x .free) e)
 
-    pub decides : (P : List ℕ → Type 0) (refusal : ℕ) (out : List ℕ) → Decides P refusal out (step (sys .view s) c) → Decides P refusal out (sys .call s c)
+    pub decides : (P : List ℕ → Type 0) (counted : List ℕ → ℕ) (refusal : ℕ) (out : List ℕ)
+        → Decides P counted refusal out (step (sys .view s) c) → Decides P counted refusal out (sys .call s c)
     unfolding seen
-    decides P refusal out d =
-        let e : Decides P refusal out (seen sys (sys .call s c)) = rw (sim .steps s c) d in
+    decides P counted refusal out d =
+        let e : Decides P counted refusal out (seen sys (sys .call s c)) = rw (sim .steps s c) d in
         record { refuses = e .refuses; only = e .only; writes = e .writes }
 
   -- every list of calls
@@ -151,8 +152,10 @@ module _ (sys : System) (sim : Simulates sys) where
       record {
         key = a .key;
         numbers = same-answered (sys .fresh) calls ∙ ap (λ (t : Slot). answered step t calls) (sim .fresh) ∙ a .numbers;
-        opening = λ k e m. let o = a .opening k e m in (o .0, o .1, o .2, λ capsule out w long. decides s (ask (open-capsule capsule out)) _ _ out (o .3 capsule out w long));
-        reading = λ k word out e w long. decides s (ask (read-word word out)) _ _ out (a .reading k word out e w long);
+        opening = λ k e m. let o = a .opening k e m in (o .0, o .1, o .2, λ capsule out w long. decides s (ask (open-capsule capsule out)) _ _ _ out (o .3 capsule out w long));
+        reading = λ k word out e w long. decides s (ask (read-word word out)) _ _ _ out (a .reading k word out e w long);
+        marked-reading = λ k word marks out e w z long.
+            decides s (ask (read-marked word marks out)) _ _ _ out (a .marked-reading k word marks out e w z long);
       }
 
   after-every-list : AfterEveryList sys

@@ -1,6 +1,6 @@
 -- The three demands, as statements about a system of calls: for every station, call, pattern, code word and list of calls. The
 -- definitions are such a system, a slot's calls are, and the station's that name one recipient. Assumes nothing.
-use Prim.Native.Nat.{ℕ, suc, _≤_}
+use Prim.Native.Nat.{ℕ, suc, _+_, _*_, _≤_}
 use mathlib.Core.Path.{_≡_}
 use mathlib.Core.Logic.{_↔_, _⊎_}
 use mathlib.Core.Bool.{true, false}
@@ -14,9 +14,10 @@ use Rattle.code.specs.Code.{inCode}
 use Rattle.code.specs.PublicKey.{Matrix, publicKey}
 use Rattle.code.specs.Lock.{locked, lockNumber, lock}
 use Rattle.code.specs.Publish.{capsuleBits, publicBytes, workBytes}
+use Rattle.marks.specs.Marked.{differences}
 use Rattle.ledger.specs.Slot.{State, empty, loaded, published, Slot, heldBy, Outcome}
 use Rattle.ledger.specs.Publishing.{systematic}
-use Rattle.ledger.specs.Questions.{open-capsule, read-word}
+use Rattle.ledger.specs.Questions.{open-capsule, read-word, read-marked}
 use Rattle.ledger.specs.Calls.{Call, publish, ask, conditionsOf, outputOf, noAnswer, run, answered}
 use Rattle.ledger.specs.Ledger.{Ledger, blank, ledgerAfter, expected}
 use Rattle.ledger.specs.Systems.{System}
@@ -48,11 +49,17 @@ pub record Differs (k : Key) (word e : List ℕ) : Type 0 where
   pub weight : ones e ≤ k .t
   pub code : inCode k (xorRow (unpack (k .n) word) e) ≡ true
 
--- refused with this number exactly when no pattern is P; else the only such pattern is written, and its ones are counted
-pub record Decides {S : Type 0} (P : List ℕ → Type 0) (refusal : ℕ) (out : List ℕ) (r : Outcome S) : Type 0 where
+-- the word and a code word differ exactly in the places of e: with s places marked and d of e's unmarked, 2d + s ≤ 2t
+pub record DiffersMarked (k : Key) (word marks e : List ℕ) : Type 0 where
+  pub row : Row (k .n) e
+  pub few : 2 * differences (unpack (k .n) marks) e + ones (unpack (k .n) marks) ≤ 2 * k .t
+  pub code : inCode k (xorRow (unpack (k .n) word) e) ≡ true
+
+-- refused with this number exactly when no pattern is P; else the only such pattern is written, and its ones that count are given
+pub record Decides {S : Type 0} (P : List ℕ → Type 0) (counted : List ℕ → ℕ) (refusal : ℕ) (out : List ℕ) (r : Outcome S) : Type 0 where
   pub refuses : (r .number ≡ refusal) ↔ ((e : List ℕ) → P e → ⊥)
   pub only : (r .number ≡ refusal → ⊥) → r .number ≡ 0
-  pub writes : r .number ≡ 0 → (e : List ℕ) × P e × (r .output ≡ over (pack e) out) × (r .count ≡ ones e) × ((d : List ℕ) → P d → d ≡ e)
+  pub writes : r .number ≡ 0 → (e : List ℕ) × P e × (r .output ≡ over (pack e) out) × (r .count ≡ counted e) × ((d : List ℕ) → P d → d ≡ e)
 
 module _ (sys : System) where
   -- Demand 1: a number only where its condition is the first that holds, and then nothing changes, the workspace under 23
@@ -102,17 +109,20 @@ module _ (sys : System) where
   abbrev pub Demand2 : Type 0
   Demand2 = (k : Key) (rows : Matrix) → keyNumber k ≡ 0 → reducible k ≡ false → publicKey k ≡ some rows → RoundTrips k rows
 
-  -- Demand 3, after one list of calls: the key, each call's number, and any open or read made next. A published key's g has no
-  -- proper factor.
+  -- Demand 3, after one list of calls: the key, each call's number, and any open, read or marked reading made next. A published
+  -- key's g has no proper factor.
   pub record After (calls : List Call) (s : sys .Stations) (l : Ledger) : Type 0 where
     pub key : keyHeld (sys .view s) ≡ l .key
     pub numbers : answered (sys .call) (sys .fresh) calls ≡ expected blank calls
     pub opening : (k : Key) → l .key ≡ some k → l .mark ≡ true → (reducible k ≡ false) × (rows : Matrix) × (publicKey k ≡ some rows) × ((capsule out : List ℕ)
         → wellFormed (capsuleBits k) capsule ≡ true → bytesFor (k .n) ≤ length out
-        → Decides (Locks k rows capsule) 13 out (sys .call s (ask (open-capsule capsule out))))
+        → Decides (Locks k rows capsule) ones 13 out (sys .call s (ask (open-capsule capsule out))))
     pub reading : (k : Key) (word out : List ℕ) → l .key ≡ some k
         → wellFormed (k .n) word ≡ true → bytesFor (k .n) ≤ length out
-        → Decides (Differs k word) 14 out (sys .call s (ask (read-word word out)))
+        → Decides (Differs k word) ones 14 out (sys .call s (ask (read-word word out)))
+    pub marked-reading : (k : Key) (word marks out : List ℕ) → l .key ≡ some k
+        → wellFormed (k .n) word ≡ true → wellFormed (k .n) marks ≡ true → bytesFor (k .n) ≤ length out
+        → Decides (DiffersMarked k word marks) (differences (unpack (k .n) marks)) 14 out (sys .call s (ask (read-marked word marks out)))
 
   -- Demand 3: one claim about every list of calls from a fresh station.
   abbrev pub AfterEveryList : Type 0

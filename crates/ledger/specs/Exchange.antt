@@ -6,21 +6,22 @@ use mathlib.Core.Bool.{Bool, true, false, cond}
 use mathlib.Core.List.{List, []}
 use mathlib.Core.Option.{none, some}
 use lib.ListN.{length}
-use Rattle.bits.specs.Bits.{bytesFor, wellFormed}
+use Rattle.bits.specs.Bits.{bytesFor, ones, wellFormed}
 use Rattle.key.specs.Keys.{Key, fileOf, keyNumber, reducible}
 use Rattle.ledger.specs.Slot.{loaded}
 use Rattle.ledger.specs.Loading.{key-file}
 use Rattle.ledger.specs.Publishing.{systematic}
-use Rattle.ledger.specs.Questions.{Question, open-capsule, read-word, report, session-key}
+use Rattle.ledger.specs.Questions.{Question, open-capsule, read-word, read-marked, report, session-key}
 use Rattle.ledger.specs.Calls.{Call, load, publish, ask, drop-key, run}
 use Rattle.ledger.specs.Ledger.{blank, ledgerAfter}
 use Rattle.ledger.specs.Systems.{System}
 use Rattle.ledger.specs.Demands.{at, keyHeld, Differs, Decides}
 
--- the questions that open: all but reading a word
+-- the questions that open: all but reading a word, with marks or without
 unfoldable pub opens : Question → Bool
 opens (open-capsule capsule out) = true
 opens (read-word word out) = false
+opens (read-marked word marks out) = false
 opens (report capsules records) = true
 opens (session-key capsule secret) = true
 
@@ -45,7 +46,7 @@ module _ (sys : System) where
         → (let r = sys .call s (load (key-file (fileOf k))) in (r .number ≡ 0) × (sys .view (r .station) ≡ at loaded k))
     pub reads : (s : sys .Stations) (k : Key) (word out : List ℕ) → keyHeld (sys .view s) ≡ some k → keyNumber k ≡ 0
         → wellFormed (k .n) word ≡ true → bytesFor (k .n) ≤ length out
-        → Decides (Differs k word) 14 out (sys .call s (ask (read-word word out)))
+        → Decides (Differs k word) ones 14 out (sys .call s (ask (read-word word out)))
     -- after every list of calls: a reducible key that the ledger has is held, and is not published
     pub kept : (calls : List Call) (k : Key) → ledgerAfter blank calls .key ≡ some k → reducible k ≡ true
         → (ledgerAfter blank calls .mark ≡ false) × (sys .view (run (sys .call) (sys .fresh) calls) ≡ at loaded k)

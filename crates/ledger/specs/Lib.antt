@@ -9,4 +9,5 @@ pub mod Demands
 pub mod OwnWords
 pub mod Reports
 pub mod Sessions
+pub mod Marks
 pub mod Exchange

@@ -47,8 +47,9 @@ heldBy s =
     let bad : Bool = unsound (s .key) in
     record { missing = isEmpty (s .state); unsound = bad; unpublished = isUnpublished (s .state); key = s .key }
 
--- What a call hands back: the new station, its number (0: accepted), the output buffer, the number of ones written, what the call's
--- form answers besides, and how many of the first bytes of publish's workspace have free contents; all behind them are unchanged.
+-- What a call hands back: the new station, its number (0: accepted), the output buffer, the number of ones written, of a marked reading
+-- those at unmarked places, what the call's form answers besides, and how many of the first bytes of publish's workspace have free
+-- contents; all behind them are unchanged.
 pub record Outcome (S : Type 0) : Type 0 where
   pub station : S
   pub number : ℕ

@@ -23,6 +23,7 @@ use Rattle.ledger.proofs.Simulation.{Simulates, definitions-simulate, same-numb
 use Rattle.ledger.proofs.OwnWords.{own-words}
 use Rattle.ledger.proofs.Reports.{import-report}
 use Rattle.ledger.proofs.Sessions.{session-keys}
+use Rattle.ledger.proofs.Marks.{marked-reading}
 use Rattle.ledger.proofs.Exchange.{exchange-keys}
 use Rattle.recipients.specs.Names.{Name, nameOf, NamedCall, naming, callsOf}
 use Rattle.recipients.specs.Recipients.{unknown, Recipients, recipient, definitions}
@@ -126,6 +127,7 @@ module _ (r : Recipients) (p : Slotted r) (sim : Simulates (r .slots)) where
         reads-code-words = λ x. own-words (recipient r x) (sims x) .reads-code-words;
         import-report = λ x. import-report (recipient r x) (sims x);
         session-keys = λ x. session-keys (recipient r x) (sims x);
+        marked-reading = λ x. marked-reading (recipient r x) (sims x);
         exchange-keys = λ x. exchange-keys (recipient r x) (sims x);
         apart = apart r p;
       }

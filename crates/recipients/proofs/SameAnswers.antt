@@ -4,7 +4,7 @@ use mathlib.Core.List.{List, [], _∷_, map}
 use Rattle.ledger.specs.Slot.{Slot, Outcome, Result}
 use Rattle.ledger.specs.Calls.{Call, step}
 use Rattle.ledger.proofs.Simulation.{Simulates, seen, same-station}
-use Rattle.ledger.proofs.Table as Rows
+use Rattle.ledger_tables.proofs.Table as Rows
 use Rattle.recipients.specs.Names.{Name, NamedCall, naming, names}
 use Rattle.recipients.specs.Recipients.{unknown, Recipients, Both, of, definitions}
 use Rattle.recipients.specs.Apart.{Answer, answerOf, transcript}

@@ -21,15 +21,16 @@ use Rattle.decoder.specs.Search.{orElse, firstRow}
 use Rattle.decoder.specs.Reading.{corrects, reading, filled, exactly, opening}
 use Rattle.code.specs.Publish.{capsuleBits, publishChecks, publishConditions, freeBytes}
 use Rattle.decoder.specs.Calls.{found, isNone, openConditions, readConditions}
+use Rattle.marks.specs.Marked.{steady, unmarked, differences, correctsMarked, markedReading, markedConditions}
 use Rattle.records.specs.Records.{cut, capsulesOf, capsuleConditions, recordOf, recordsOf, occurrences, countsOf, reportConditions}
 use Rattle.session.specs.Session.{sessionConditions}
 use Rattle.ledger.specs.Slot.{emptyKey, fresh, isEmpty, isUnpublished, heldBy}
 use Rattle.ledger.specs.Loading.{key-file, network-file, loadingConditions, loadedKey}
 use Rattle.ledger.specs.Publishing.{systematic, publicBuffer, publishingConditions, publication, freedBytes}
-use Rattle.ledger.specs.Questions.{open-capsule, read-word, report, session-key, answerBuffer, questionConditions, gives, given, answerSize}
+use Rattle.ledger.specs.Questions.{open-capsule, read-word, read-marked, report, session-key, answerBuffer, questionConditions, gives, given, answerSize}
 use Rattle.ledger.specs.Calls.{Call, load, publish, ask, drop-key, conditionsOf, outputOf, noAnswer, made, unless, step, run}
 use Rattle.ledger.specs.Ledger.{blank, heldIn, ledgerNumber, entered, fed}
-use Rattle.ledger.proofs.Table.{Answer, accepted, refused, answerBy, answerOf, answers, zeros}
+use Rattle.ledger_tables.proofs.Table.{Answer, accepted, refused, answerBy, answerOf, answers, zeros}
 use Rattle.recipients.specs.Names.{A, B, byteOf, nameOf, NamedCall, named, naming}
 use Rattle.recipients.specs.Recipients.{namedConditions, unknown, within, called, of, put, definitions}
 use Rattle.recipients.specs.Ledgers.{blanks, namedNumber, fedNamed, ledgersAfter, expectedNamed}
@@ -50,6 +51,7 @@ rows =
     (naming B (load (key-file K2)), accepted [] 0) ∷
     (naming B (ask (open-capsule (0x03 ∷ []) (zeros 1))), refused 24) ∷
     (naming B (ask (read-word (0x03 ∷ 0x00 ∷ []) (zeros 2))), accepted (0x03 ∷ 0x00 ∷ []) 2) ∷
+    (naming B (ask (read-marked (0x03 ∷ 0x00 ∷ []) (0x01 ∷ 0x00 ∷ []) (zeros 2))), accepted (0x03 ∷ 0x00 ∷ []) 1) ∷
     (naming A (ask (read-word (0x03 ∷ 0x00 ∷ []) (zeros 2))), refused 8) ∷
     (naming A drop-key, accepted [] 0) ∷
     (naming A (ask (open-capsule (0x03 ∷ []) (zeros 1))), refused 21) ∷
@@ -69,6 +71,8 @@ kinds =
     ask (open-capsule [] []) ∷
     ask (read-word (0x24 ∷ []) (zeros 1)) ∷
     ask (read-word [] []) ∷
+    ask (read-marked (0x24 ∷ []) (0x00 ∷ []) (zeros 1)) ∷
+    ask (read-marked [] [] []) ∷
     ask (report (0x03 ∷ []) (zeros 1)) ∷
     ask (session-key [] []) ∷
     drop-key ∷ []
@@ -88,9 +92,9 @@ abbrev pub Story : Type 0
 Story =
     (answers (definitions .call) (definitions .fresh) calls ≡ map (λ r. r .1) story) ×
     (expectedNamed blanks calls
-    ≡ map (λ r. 35) nameless ++ ((0 ∷ 21 ∷ 21 ∷ 22 ∷ 0 ∷ 0 ∷ 23 ∷ 0 ∷ 24 ∷ 0 ∷ 0 ∷ 24 ∷ 0 ∷ 8 ∷ 0 ∷ 21 ∷ 0 ∷ 0 ∷ 24 ∷ []) ++ map (λ r. 35) nameless)) ×
+    ≡ map (λ r. 35) nameless ++ ((0 ∷ 21 ∷ 21 ∷ 22 ∷ 0 ∷ 0 ∷ 23 ∷ 0 ∷ 24 ∷ 0 ∷ 0 ∷ 24 ∷ 0 ∷ 0 ∷ 8 ∷ 0 ∷ 21 ∷ 0 ∷ 0 ∷ 24 ∷ []) ++ map (λ r. 35) nameless)) ×
     (ledgersAfter blanks calls ≡ record { a = record { key = some (parse K1); mark = false }; b = record { key = some (parse K2); mark = false } })
 
 pub story-holds : Story
-unfolding _⊕_ from every bytesFor bitAt unpack number pack ones weight fillerClear wellFormed eachWith xorRow dot firstOf isWidth isElement modulusOf polyMul reduced mulMod mul power lastBelow inv value sum same monic product someBelow someList hasSquare hasFactor inLimits pair elements parse twoBytes fileOf distinct goppaAt conditions fileConditions keyNumber reducible K1 K2 K1-with K3 entry inCode parityRow parityRows withRow findPivot clear withPivot columns echelon publicKey dependent written orElse firstRow corrects reading filled exactly opening unsound emptyKey fresh isEmpty isUnpublished heldBy capsuleBits found isNone publishChecks publishConditions freeBytes openConditions readConditions cut capsulesOf capsuleConditions recordOf recordsOf occurrences countsOf reportConditions sessionConditions loadingConditions loadedKey publicBuffer publishingConditions publication freedBytes answerBuffer questionConditions gives given answerSize over conditionsOf outputOf noAnswer made unless step run blank heldIn ledgerNumber entered fed answerBy answerOf answers zeros byteOf nameOf namedConditions unknown within called of put namedNumber fedNamed ledgersAfter expectedNamed rows kinds nameless story calls flatMap zipWith
+unfolding _⊕_ from every bytesFor bitAt unpack number pack ones weight fillerClear wellFormed eachWith xorRow dot firstOf isWidth isElement modulusOf polyMul reduced mulMod mul power lastBelow inv value sum same monic product someBelow someList hasSquare hasFactor inLimits pair elements parse twoBytes fileOf distinct goppaAt conditions fileConditions keyNumber reducible K1 K2 K1-with K3 entry inCode parityRow parityRows withRow findPivot clear withPivot columns echelon publicKey dependent written orElse firstRow corrects reading filled exactly opening unsound emptyKey fresh isEmpty isUnpublished heldBy capsuleBits found isNone publishChecks publishConditions freeBytes openConditions readConditions steady unmarked differences correctsMarked markedReading markedConditions cut capsulesOf capsuleConditions recordOf recordsOf occurrences countsOf reportConditions sessionConditions loadingConditions loadedKey publicBuffer publishingConditions publication freedBytes answerBuffer questionConditions gives given answerSize over conditionsOf outputOf noAnswer made unless step run blank heldIn ledgerNumber entered fed answerBy answerOf answers zeros byteOf nameOf namedConditions unknown within called of put namedNumber fedNamed ledgersAfter expectedNamed rows kinds nameless story calls flatMap zipWith
 story-holds = (refl, refl, refl)

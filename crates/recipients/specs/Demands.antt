@@ -16,6 +16,7 @@ use Rattle.ledger.specs.Demands.{keyHeld, at, After, Demand2}
 use Rattle.ledger.specs.OwnWords.{Loaded, SomePublish, LocksAndOpens, ReadsCodeWords}
 use Rattle.ledger.specs.Reports.{ImportReport}
 use Rattle.ledger.specs.Sessions.{SessionKeys}
+use Rattle.ledger.specs.Marks.{MarkedReading}
 use Rattle.ledger.specs.Exchange.{ExchangeKeys}
 use Rattle.recipients.specs.Names.{Name, nameOf, NamedCall, callsOf}
 use Rattle.recipients.specs.Recipients.{namedConditions, unknown, Recipients, recipient}
@@ -39,7 +40,7 @@ module _ (r : Recipients) where
     pub known-name : r .call s c .number ≡ 35 → nameOf (c .name) ≡ none
 
   -- Demand 3, after one list of calls over both: each call's number, and for each recipient its key, by the calls that name it, and
-  -- any open or read that names it next
+  -- any open, read or marked reading that names it next
   pub record AfterNamed (calls : List NamedCall) (s : r .Stations) : Type 0 where
     pub numbers : answered (r .call) (r .fresh) calls ≡ expectedNamed blanks calls
     pub named : (x : Name) → After (recipient r x) (callsOf x calls) s (ledgerAfter blank (callsOf x calls))
@@ -68,5 +69,6 @@ module _ (r : Recipients) where
     pub reads-code-words : (x : Name) → ReadsCodeWords (recipient r x)
     pub import-report : (x : Name) → ImportReport (recipient r x)
     pub session-keys : (x : Name) → SessionKeys (recipient r x)
+    pub marked-reading : (x : Name) → MarkedReading (recipient r x)
     pub exchange-keys : (x : Name) → ExchangeKeys (recipient r x)
     pub apart : Apart r

@@ -8,12 +8,12 @@ use Rattle.bits.specs.Bits.{from}
 use Rattle.bits.proofs.Lists.{and-left, and-right}
 use Rattle.key.specs.Keys.{pair, elements, parse, twoBytes, fileOf}
 use Rattle.key.specs.Bench.{K1, K1-with}
 use Rattle.ledger.specs.Slot.{Slot, Result}
 use Rattle.ledger.specs.Calls.{step, run}
 use Rattle.ledger.specs.Systems.{System}
 use Rattle.ledger.proofs.Simulation.{Simulates, seen, run-fresh}
-use Rattle.ledger.proofs.Table.{Asked, after, on, frees, counts, lock-shape, locks, times, Answer, free, answerOf, countsIn, rows, running, orders, bad, file, factored-file, factored, bad-factored, published-1, two-bytes, reports}
-use Rattle.ledger.proofs.Table as Definitions
+use Rattle.ledger_tables.proofs.Table.{Asked, after, on, frees, counts, lock-shape, locks, times, Answer, free, answerOf, countsIn, rows, running, orders, bad, file, factored-file, factored, bad-factored, published-1, two-bytes, reports}
+use Rattle.ledger_tables.proofs.Table as Definitions
 
 -- the key's lists have the lengths n and t, so that it can be kept
 unfoldable pub sized : Slot → Bool

@@ -26,14 +26,15 @@ use Rattle.decoder.specs.Search.{orElse, firstRow}
 use Rattle.decoder.specs.Reading.{corrects, reading, filled, exactly, opening}
 use Rattle.code.specs.Publish.{capsuleBits, publishChecks, publishConditions, freeBytes}
 use Rattle.decoder.specs.Calls.{found, isNone, openConditions, readConditions}
+use Rattle.marks.specs.Marked.{steady, unmarked, differences, correctsMarked, markedReading, markedConditions}
 use Rattle.records.specs.Records.{cut, capsulesOf, capsuleConditions, recordOf, recordsOf, occurrences, countsOf, reportConditions}
 use Rattle.session.specs.Session.{sessionConditions}
 use Rattle.ledger.specs.Slot.{State, empty, loaded, published, Slot, emptyKey, fresh, isEmpty, isUnpublished, heldBy, Outcome}
 use Rattle.ledger.specs.Loading.{key-file, network-file, loadingConditions, loadedKey}
 use Rattle.ledger.specs.Publishing.{systematic, publicBuffer, publishingConditions, publication, freedBytes}
-use Rattle.ledger.specs.Questions.{open-capsule, read-word, report, session-key, answerBuffer, questionConditions, gives, given, answerSize}
+use Rattle.ledger.specs.Questions.{open-capsule, read-word, read-marked, report, session-key, answerBuffer, questionConditions, gives, given, answerSize}
 use Rattle.ledger.specs.Calls.{Call, load, publish, ask, drop-key, conditionsOf, outputOf, noAnswer, made, unless, step, run}
 use Rattle.ledger.specs.Ledger.{blank, heldIn, ledgerNumber, entered, fed, ledgerAfter, expected}
 
 -- what a row asks: a call after a list of calls, or on a slot; how many bytes of the workspace that call frees; the counts that
 -- it answers; a lock under a shape and a public key, or under the public key of a key file; a product
@@ -207,6 +208,21 @@ orders =
     (after (load (key-file K1) ∷ []) (ask (read-word (0xFF ∷ 0x00 ∷ []) [])), refused 8) ∷
     (after (load (key-file K1) ∷ []) (ask (read-word (0xFF ∷ []) [])), refused 9) ∷
     (after (load (key-file K1) ∷ []) (ask (read-word (0x06 ∷ []) [])), refused 10) ∷
+    -- marked reading 21, 25, 8, 9, 37, 10, 14
+    (after [] (ask (read-marked [] (0xFF ∷ []) [])), refused 21) ∷
+    (on (bad loaded) (ask (read-marked (0xFF ∷ []) (0xFF ∷ []) [])), refused 25) ∷
+    (on (bad-factored loaded) (ask (read-marked [] [] [])), refused 25) ∷
+    (after (load (key-file factored-file) ∷ []) (ask (read-marked [] [] [])), refused 8) ∷
+    (after (load (key-file K1) ∷ []) (ask (read-marked (0xFF ∷ 0x00 ∷ []) [] [])), refused 8) ∷
+    (after (load (key-file K1) ∷ []) (ask (read-marked (0xFF ∷ []) [] [])), refused 9) ∷
+    (after (load (key-file K1) ∷ []) (ask (read-marked (0x06 ∷ []) [] [])), refused 37) ∷
+    (after (load (key-file K1) ∷ []) (ask (read-marked (0x06 ∷ []) (zeros 2) [])), refused 37) ∷
+    (after (load (key-file K1) ∷ []) (ask (read-marked (0x06 ∷ []) (0x40 ∷ []) [])), refused 37) ∷
+    (after (load (key-file K1) ∷ []) (ask (read-marked (0x06 ∷ []) (0x3F ∷ []) [])), refused 10) ∷
+    (after (load (key-file K1) ∷ []) (ask (read-marked (0x06 ∷ []) (0x3F ∷ []) (zeros 1))), refused 14) ∷
+    (after (load (key-file K1) ∷ []) (ask (read-marked (0x20 ∷ []) (0x00 ∷ []) (zeros 1))), accepted (0x20 ∷ []) 1) ∷
+    (after (load (key-file K1) ∷ []) (ask (read-marked (0x03 ∷ []) (0x11 ∷ []) (9 ∷ 9 ∷ []))), accepted (0x10 ∷ 9 ∷ []) 0) ∷
+    (on (factored published) (ask (read-marked (0x81 ∷ 0x00 ∷ []) (0x01 ∷ 0x00 ∷ []) (zeros 2))), accepted (0x81 ∷ 0x00 ∷ []) 1) ∷
     -- report 21, 25, 34, 24, 31
     (after [] (ask (report (0x03 ∷ []) [])), refused 21) ∷
     (on (bad loaded) (ask (report (0x03 ∷ []) [])), refused 25) ∷
@@ -311,6 +327,7 @@ story =
     (ask (read-word (0x1D ∷ []) (zeros 1)), refused 14) ∷
     (ask (read-word (0x06 ∷ []) (zeros 1)), accepted (0x10 ∷ []) 1) ∷
     (ask (open-capsule (0x0A ∷ []) (zeros 1)), refused 13) ∷
+    (ask (read-marked (0x06 ∷ []) (0x10 ∷ []) (zeros 1)), accepted (0x10 ∷ []) 0) ∷
     (ask (report (0x04 ∷ 0x0A ∷ 0x44 ∷ []) (zeros 2)), refused 31) ∷
     (ask (report (0x04 ∷ 0x0A ∷ 0x44 ∷ []) (7 ∷ 7 ∷ 7 ∷ 7 ∷ [])), accepted (0 ∷ 13 ∷ 9 ∷ 7 ∷ []) 0) ∷
     (ask (session-key (0x0A ∷ []) []), refused 33) ∷
@@ -329,12 +346,12 @@ calls = map (λ r. r .0) story
 abbrev pub Story : Type 0
 Story =
     (answers step fresh calls ≡ map (λ r. r .1) story) ×
-    (expected blank calls ≡ 21 ∷ 21 ∷ 21 ∷ 21 ∷ 0 ∷ 34 ∷ 34 ∷ 0 ∷ 34 ∷ 34 ∷ 0 ∷ 0 ∷ 10 ∷ 11 ∷ 0 ∷ 0 ∷ 10 ∷ 0 ∷ 14 ∷ 0 ∷ 13 ∷ 31 ∷ 0 ∷ 33 ∷ 0 ∷ 0 ∷ 0 ∷ 24 ∷ 24 ∷ 24 ∷ 0 ∷ []) ×
+    (expected blank calls ≡ 21 ∷ 21 ∷ 21 ∷ 21 ∷ 0 ∷ 34 ∷ 34 ∷ 0 ∷ 34 ∷ 34 ∷ 0 ∷ 0 ∷ 10 ∷ 11 ∷ 0 ∷ 0 ∷ 10 ∷ 0 ∷ 14 ∷ 0 ∷ 13 ∷ 0 ∷ 31 ∷ 0 ∷ 33 ∷ 0 ∷ 0 ∷ 0 ∷ 24 ∷ 24 ∷ 24 ∷ 0 ∷ []) ×
     (ledgerAfter blank calls ≡ record { key = some (parse K1); mark = true })
 
 -- one computation for all tables
 tables-hold : Holds rows × Holds running × Holds orders × Holds remains × Holds reports × Story
-unfolding _⊕_ from every bytesFor bitAt unpack number pack ones weight fillerClear wellFormed eachWith xorRow dot firstOf isWidth isElement modulusOf polyMul reduced mulMod mul power lastBelow inv value sum same monic product someBelow someList hasSquare hasFactor inLimits pair elements parse twoBytes fourBytes fileOf distinct goppaAt conditions fileConditions exchange sent Network.network reversed switches supportOf four parseNetwork networkConditions keyNumber reducible K1 K2 K1-with K3 entry inCode parityRow parityRows withRow findPivot clear withPivot columns echelon publicKey dependent written locked rowOf rowsOf lockNumber lock orElse firstRow corrects reading filled exactly opening unsound emptyKey fresh isEmpty isUnpublished heldBy capsuleBits found isNone publishChecks publishConditions freeBytes openConditions readConditions cut capsulesOf capsuleConditions recordOf recordsOf occurrences countsOf reportConditions sessionConditions loadingConditions loadedKey publicBuffer publishingConditions publication freedBytes answerBuffer questionConditions gives given answerSize over conditionsOf outputOf noAnswer made unless step run blank heldIn ledgerNumber entered fed ledgerAfter expected answerBy answerOf lockAnswer countsIn answer zeros file network N1 published-K1 published-1 rows running factored-file factored bad-factored bad orders remains two-bytes reports answers story calls flatMap zipWith
+unfolding _⊕_ from every bytesFor bitAt unpack number pack ones weight fillerClear wellFormed eachWith xorRow dot firstOf isWidth isElement modulusOf polyMul reduced mulMod mul power lastBelow inv value sum same monic product someBelow someList hasSquare hasFactor inLimits pair elements parse twoBytes fourBytes fileOf distinct goppaAt conditions fileConditions exchange sent Network.network reversed switches supportOf four parseNetwork networkConditions keyNumber reducible K1 K2 K1-with K3 entry inCode parityRow parityRows withRow findPivot clear withPivot columns echelon publicKey dependent written locked rowOf rowsOf lockNumber lock orElse firstRow corrects reading filled exactly opening unsound emptyKey fresh isEmpty isUnpublished heldBy capsuleBits found isNone publishChecks publishConditions freeBytes openConditions readConditions steady unmarked differences correctsMarked markedReading markedConditions cut capsulesOf capsuleConditions recordOf recordsOf occurrences countsOf reportConditions sessionConditions loadingConditions loadedKey publicBuffer publishingConditions publication freedBytes answerBuffer questionConditions gives given answerSize over conditionsOf outputOf noAnswer made unless step run blank heldIn ledgerNumber entered fed ledgerAfter expected answerBy answerOf lockAnswer countsIn answer zeros file network N1 published-K1 published-1 rows running factored-file factored bad-factored bad orders remains two-bytes reports answers story calls flatMap zipWith
 tables-hold = (refl, refl, refl, refl, refl, (refl, refl, refl))
 
 pub rows-hold : Holds rows
