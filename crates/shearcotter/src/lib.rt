@@ -21,7 +21,7 @@ ghost use Rattle.network_key.specs.Converting.{to-network, from-network, conver
 ghost use Rattle.converting.specs.Answers.{convertedOf};
 ghost use Rattle.ledger.specs.Loading.{key-file, network-file};
 ghost use Rattle.ledger.specs.Publishing.{systematic};
-ghost use Rattle.ledger.specs.Questions.{open-capsule, read-word, report, session-key};
+ghost use Rattle.ledger.specs.Questions.{open-capsule, read-word, read-marked, report, session-key};
 ghost use Rattle.ledger.specs.Calls.{load, publish, ask, drop-key};
 ghost use Rattle.recipients.specs.Names.{named};
 ghost use Rattle.station.specs.Replies.{freshStation, handed, replyOf, reportedOf, derivedOf};
@@ -188,6 +188,27 @@ pub extern "C" fn shearcotter_read(own: Station, name: u8, word: &[u8], out: &mu
         station: own,
         refused: found.refused,
         ones: found.ones,
+    }
+}
+
+// The differences of a marked word are written from the output's start, and those at unmarked places are counted; 35, 21, 25, 8, 9,
+// 37, 10 or 14 on refusal.
+#[no_mangle]
+pub extern "C" fn shearcotter_read_marked(
+    own: Station,
+    name: u8,
+    word: &[u8],
+    marks: &[u8],
+    out: &mut [u8],
+) -> Reply
+    ensures reply { λ r. ⌜ r ≡ replyOf (handed own (named name (ask (read-marked (now (word .entry)) (now (marks .entry)) (now (out .entry)))))) ⌝ }
+    ensures output { λ _. ⌜ now (out .exit) ≡ handed own (named name (ask (read-marked (now (word .entry)) (now (marks .entry)) (now (out .entry))))) .output ⌝ }
+{
+    let corrected = own.read_marked(name, word, marks, out);
+    Reply {
+        station: own,
+        refused: corrected.refused,
+        ones: corrected.ones,
     }
 }
 

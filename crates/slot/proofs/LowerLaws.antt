@@ -11,11 +11,13 @@ use Rattle.key.specs.Answers.{shapeAnswer}
 use Rattle.code.specs.Publish.{freeBytes, publishNumber, publishOutput}
 use Rattle.decoder.specs.Calls.{openNumber, readNumber, openOutput, readOutput, patternOutput}
 use Rattle.reading.specs.Answers.{answerOf, openOf, readOf}
+use Rattle.marks.specs.Marked.{markedNumber, markedOutput}
+use Rattle.marked_reading.specs.Answers.{markedOf}
 use Rattle.ledger.specs.Slot.{isEmpty, isUnpublished, heldBy}
 use Rattle.ledger.specs.Loading.{Loading, loadingConditions, loadedKey}
 use Rattle.loading.specs.Forms.{loadedShape}
 use Rattle.ledger.specs.Publishing.{systematic, publicBuffer, publishingConditions, publication, freedBytes}
-use Rattle.ledger.specs.Questions.{open-capsule, read-word, answerBuffer, questionConditions, gives, given}
+use Rattle.ledger.specs.Questions.{open-capsule, read-word, read-marked, answerBuffer, questionConditions, gives, given}
 use Rattle.ledger.specs.Calls.{Call, load, publish, ask, outputOf, made}
 use Rattle.ledger.proofs.StepLaws.{step-free}
 use Rattle.slot.specs.Replies.{stateOf, view, Reply, refusal, acceptance, moved, handed}
@@ -108,3 +110,16 @@ module _ (s : Slot) (word out : List ℕ) (keyed : isEmpty (stateOf (s .state)) 
   pub read-output : readOutput (kept (s .key)) word out ≡ handed s (ask (read-word word out)) .output
   unfolding readOutput readNumber patternOutput lower questionConditions heldBy made given gives view outputOf answerBuffer
   read-output = lower-output s (ask (read-word word out)) read-passes
+
+module _ (s : Slot) (word marks out : List ℕ) (keyed : isEmpty (stateOf (s .state)) ≡ false) where
+  marked-passes : stop s (ask (read-marked word marks out)) .0 ≡ false
+  unfolding stop
+  marked-passes = keyed
+
+  pub marked-answer : markedOf (kept (s .key)) word marks out ≡ answeredOf (handed s (ask (read-marked word marks out)))
+  unfolding lower questionConditions heldBy markedNumber made given gives view markedOf
+  marked-answer = answer-lower s (ask (read-marked word marks out)) marked-passes
+
+  pub marked-output : markedOutput (kept (s .key)) word marks out ≡ handed s (ask (read-marked word marks out)) .output
+  unfolding markedOutput markedNumber patternOutput lower questionConditions heldBy made given gives view outputOf answerBuffer
+  marked-output = lower-output s (ask (read-marked word marks out)) marked-passes

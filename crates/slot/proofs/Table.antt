@@ -10,7 +10,7 @@ use Rattle.key.specs.Kept.{keep}
 use Rattle.key.proofs.Filled.{kept-keep}
 use Rattle.ledger.specs.Slot.{empty, loaded, published}
 use Rattle.ledger.specs.Slot as Definition
-use Rattle.ledger.proofs.TableOf.{sized, Tables, tables-hold}
+use Rattle.ledger_tables.proofs.TableOf.{sized, Tables, tables-hold}
 use Rattle.slot.specs.Replies.{stateOf, byteOf, view, code}
 use Rattle.slot.specs.declared.Slot.{Slot}
 use Rattle.slot.proofs.StepView.{code-simulates}

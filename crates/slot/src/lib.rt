@@ -13,7 +13,7 @@ ghost use lib.ListN.{drop};
 ghost use Rattle.field.specs.Verdicts.{verdictOf};
 ghost use Rattle.ledger.specs.Slot.{isEmpty, isUnpublished};
 ghost use Rattle.ledger.specs.Publishing.{systematic};
-ghost use Rattle.ledger.specs.Questions.{open-capsule, read-word, report, session-key};
+ghost use Rattle.ledger.specs.Questions.{open-capsule, read-word, read-marked, report, session-key};
 ghost use Rattle.ledger.specs.Calls.{load, publish, ask, drop-key};
 ghost use Rattle.loading.specs.Forms.{loadingOf};
 ghost use Rattle.slot.specs.Replies.{stateOf, answerNumber, freshSlot, handed};
@@ -147,6 +147,28 @@ pub fn read<'a>(
         return Answer::Refused(21);
     }
     reading::read(m, n, t, support, g, word, out)
+}
+
+// The differences of a marked word are written from the output's start, and those at unmarked places are counted; 21, 25, 8, 9, 37,
+// 10 or 14 on refusal.
+pub fn read_marked<'a>(
+    state: u8,
+    m: u8,
+    n: u16,
+    t: u16,
+    support: &'a [u16; Key::MOST_PLACES],
+    g: &'a [u16; Key::MOST_ERRORS],
+    word: &[u8],
+    marks: &[u8],
+    out: &mut [u8],
+) -> Answer
+    ensures answer { λ r. ⌜ r ≡ answeredOf (handed (slotIn state m n t (now (support .entry)) (now (g .entry))) (ask (read-marked (now (word .entry)) (now (marks .entry)) (now (out .entry))))) ⌝ }
+    ensures output { λ _. ⌜ now (out .exit) ≡ handed (slotIn state m n t (now (support .entry)) (now (g .entry))) (ask (read-marked (now (word .entry)) (now (marks .entry)) (now (out .entry)))) .output ⌝ }
+{
+    if is_empty(state) {
+        return Answer::Refused(21);
+    }
+    marked_reading::read_marked(m, n, t, support, g, word, marks, out)
 }
 
 // The record of each capsule is written from the record buffer's start: 0 where it is opened, else its refusal's number, and

@@ -30,10 +30,11 @@ use Rattle.slot.specs.Parts.{keyless, loadedOf, answeredOf}
 use Rattle.slot.specs.declared.Slot.{Slot}
 use Rattle.slot.proofs.StepView.{refused-reply, accepted-reply, state-number, publish-key, question-left}
 use Rattle.slot.proofs.Taken.{loaded-number, loaded-refused, loaded-accepted, loaded-slot, answered-number, answered-refused, answered-ones}
+use Rattle.naming.specs.Picks.{known, pick}
 use Rattle.recipients.specs.Names.{Name, A, B, nameOf, named}
 use Rattle.recipients.specs.Recipients.{unknown, within, called}
 use Rattle.station.specs.Replies.{slotOf, put, handed, replyOf, reportedOf, derivedOf}
-use Rattle.station.specs.Chosen.{known, pick, chosen, refusal, placed, marked}
+use Rattle.station.specs.Chosen.{chosen, refusal, placed, marked}
 use Rattle.station.specs.declared.Station.{Station}
 
 -- the slot that is there, put back

@@ -7,30 +7,15 @@ use lib.Dec.{eqb}
 use borrow.Author.Tests.{eq-eqb, ne-eqb}
 use Rattle.slot.specs.Parts.{slotIn}
 use Rattle.slot.specs.declared.Slot.{Slot}
+use Rattle.naming.specs.Picks.{pick}
 use Rattle.recipients.specs.Names.{A, B}
 use Rattle.station.specs.Replies.{slotOf, put}
-use Rattle.station.specs.Chosen.{known, pick, chosen, refusal, placed}
+use Rattle.station.specs.Chosen.{chosen, refusal, placed}
 use Rattle.station.specs.declared.Station.{Station}
 use Rattle.station.specs.declared.Reply.{Reply}
 
 -- the byte is 1, or not
 module _ (b : ℕ) where
-  pub known-first : b ≡ 1 → eqb b 1 ≡ known b
-  unfolding known
-  known-first e = rw e refl
-
-  pub known-second : (b ≡ 1 → ⊥) → eqb b 2 ≡ known b
-  unfolding known
-  known-second e = rw (ne-eqb b 1 e) refl
-
-  pub pick-first : {X : Type 0} (x y : X) → b ≡ 1 → x ≡ pick b x y
-  unfolding pick
-  pick-first x y e = rw (eq-eqb b 1 e) refl
-
-  pub pick-second : {X : Type 0} (x y : X) → (b ≡ 1 → ⊥) → y ≡ pick b x y
-  unfolding pick
-  pick-second x y e = rw (ne-eqb b 1 e) refl
-
   -- a slot put in the place of A's, or of B's
   pub put-first : (t : Slot) (s : Station) → b ≡ 1 → record { a = t; b = s .b } ≡ put (chosen b) t s
   unfolding put pick

@@ -2,8 +2,8 @@
 -- list of calls over both has its answers. Assumes nothing.
 use mathlib.Core.Path.{_≡_, sym, ap, _∙_}
 use mathlib.Core.List.{List, map}
-use Rattle.ledger.proofs.Table.{answers}
-use Rattle.ledger.proofs.TableOf.{Tables, tables-hold}
+use Rattle.ledger_tables.proofs.Table.{answers}
+use Rattle.ledger_tables.proofs.TableOf.{Tables, tables-hold}
 use Rattle.slot.proofs.StepView.{code-simulates}
 use Rattle.slot.proofs.Table.{stored, view-stored}
 use Rattle.recipients.specs.Names.{Name, NamedCall}

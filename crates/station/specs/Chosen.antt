@@ -1,24 +1,15 @@
 -- Terms of the contracts of private functions: the name that a byte chooses, and replies with it. Assumes nothing.
 use Prim.Native.Nat.{ℕ}
-use mathlib.Core.Bool.{Bool, cond, _||_}
-use lib.Dec.{eqb}
 use Rattle.ledger.specs.Slot.{published}
 use Rattle.slot.specs.Replies.{byteOf}
 use Rattle.slot.specs.declared.Slot.{Slot}
+use Rattle.naming.specs.Picks.{pick}
 use Rattle.recipients.specs.Names.{Name, A, B}
 use Rattle.station.specs.Replies.{slotOf, put}
 use Rattle.station.specs.declared.Station.{Station}
 use Rattle.station.specs.declared.Reply.{Reply}
 
--- the byte is a name
-unfoldable pub known : ℕ → Bool
-known b = eqb b 1 || eqb b 2
-
--- of two parts, A's and B's: A's for 1, else B's
-unfoldable pub pick : {X : Type 0} → ℕ → X → X → X
-pick b x y = cond (eqb b 1) x y
-
--- the name likewise
+-- the name that a byte picks: A for 1, else B
 abbrev pub chosen : ℕ → Name
 chosen b = pick b A B
 

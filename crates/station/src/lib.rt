@@ -6,6 +6,11 @@ use key::shape::ShapeAnswer;
 use loading::Form;
 use loading::write_g;
 use loading::write_support;
+use naming::byte;
+use naming::coefficients;
+use naming::is_name;
+use naming::number;
+use naming::places;
 use reading::Answer;
 use slot::Slot;
 use slot::answer_number;
@@ -13,12 +18,12 @@ ghost use mathlib.Core.Path.{_≡_};
 ghost use lib.ListN.{drop, replicate};
 ghost use Rattle.ledger.specs.Loading.{key-file, network-file};
 ghost use Rattle.ledger.specs.Publishing.{systematic};
-ghost use Rattle.ledger.specs.Questions.{open-capsule, read-word, report, session-key};
+ghost use Rattle.ledger.specs.Questions.{open-capsule, read-word, read-marked, report, session-key};
 ghost use Rattle.ledger.specs.Calls.{load, publish, ask, drop-key};
 ghost use Rattle.slot.specs.Replies.{freshSlot};
 ghost use Rattle.recipients.specs.Names.{named};
 ghost use Rattle.station.specs.Replies.{put, freshStation, handed, replyOf, reportedOf, derivedOf};
-ghost use Rattle.station.specs.Chosen.{known, pick, chosen, refusal, marked};
+ghost use Rattle.station.specs.Chosen.{chosen, refusal, marked};
 
 // The slots of A and B.
 #[repr(C)]
@@ -27,7 +32,8 @@ pub struct Station {
     pub b: Slot,
 }
 
-// What a call hands back: the new station, the number of the refusal, 0 for none, and the number of ones written.
+// What a call hands back: the new station, the number of the refusal, 0 for none, and the number of ones written, of a marked reading
+// those at unmarked places.
 #[repr(C)]
 pub struct Reply {
     pub station: Station,
@@ -52,58 +58,6 @@ pub struct Derived {
     pub key: [u8; 32],
 }
 
-// The byte is a name.
-fn is_name(name: u8) -> bool
-    ensures { λ r. ⌜ r ≡ known name ⌝ }
-{
-    name == Station::A || name == Station::B
-}
-
-// Of two parts, one of A's slot and one of B's, that of the name: the first for 1, else the second.
-fn byte(name: u8, a: u8, b: u8) -> u8
-    ensures { λ r. ⌜ r ≡ pick name a b ⌝ }
-{
-    if name == Station::A {
-        return a;
-    }
-    b
-}
-
-fn number(name: u8, a: u16, b: u16) -> u16
-    ensures { λ r. ⌜ r ≡ pick name a b ⌝ }
-{
-    if name == Station::A {
-        return a;
-    }
-    b
-}
-
-fn places<'a>(
-    name: u8,
-    a: &'a [u16; Key::MOST_PLACES],
-    b: &'a [u16; Key::MOST_PLACES],
-) -> &'a [u16; Key::MOST_PLACES]
-    ensures { λ r. ⌜ now r ≡ pick name (now (a .entry)) (now (b .entry)) ⌝ }
-{
-    if name == Station::A {
-        return a;
-    }
-    b
-}
-
-fn coefficients<'a>(
-    name: u8,
-    a: &'a [u16; Key::MOST_ERRORS],
-    b: &'a [u16; Key::MOST_ERRORS],
-) -> &'a [u16; Key::MOST_ERRORS]
-    ensures { λ r. ⌜ now r ≡ pick name (now (a .entry)) (now (b .entry)) ⌝ }
-{
-    if name == Station::A {
-        return a;
-    }
-    b
-}
-
 // Zeros.
 fn clear_places(places: &mut [u16; Key::MOST_PLACES])
     ensures { λ _. ⌜ now (places .exit) ≡ replicate 8192 0 ⌝ }
@@ -119,9 +73,9 @@ fn clear_coefficients(coefficients: &mut [u16; Key::MOST_ERRORS])
 
 impl Station {
     // The names.
-    pub const A: u8 = 1;
+    pub const A: u8 = naming::A;
 
-    pub const B: u8 = 2;
+    pub const B: u8 = naming::B;
 
     // The limit on t, 128.
     pub const MOST_ERRORS: usize = Slot::MOST_ERRORS;
@@ -327,6 +281,36 @@ impl Station {
             places(name, &self.a.key.support, &self.b.key.support),
             coefficients(name, &self.a.key.g, &self.b.key.g),
             word,
+            out,
+        );
+        let Answer::Ones(ones) = answer else {
+            return self.refuse(answer_number(answer));
+        };
+        Reply {
+            station: self,
+            refused: 0,
+            ones,
+        }
+    }
+
+    // The differences of a marked word are written from the output's start, and those at unmarked places are counted; 35, 21, 25, 8,
+    // 9, 37, 10 or 14 on refusal.
+    pub fn read_marked(self, name: u8, word: &[u8], marks: &[u8], out: &mut [u8]) -> Reply
+        ensures reply { λ r. ⌜ r ≡ replyOf (handed self (named name (ask (read-marked (now (word .entry)) (now (marks .entry)) (now (out .entry)))))) ⌝ }
+        ensures output { λ _. ⌜ now (out .exit) ≡ handed self (named name (ask (read-marked (now (word .entry)) (now (marks .entry)) (now (out .entry))))) .output ⌝ }
+    {
+        if !is_name(name) {
+            return self.refuse(35);
+        }
+        let answer = slot::read_marked(
+            byte(name, self.a.state, self.b.state),
+            byte(name, self.a.key.m, self.b.key.m),
+            number(name, self.a.key.n, self.b.key.n),
+            number(name, self.a.key.t, self.b.key.t),
+            places(name, &self.a.key.support, &self.b.key.support),
+            coefficients(name, &self.a.key.g, &self.b.key.g),
+            word,
+            marks,
             out,
         );
         let Answer::Ones(ones) = answer else {

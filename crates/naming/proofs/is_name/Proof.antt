@@ -1,7 +1,7 @@
--- `station::is_name` meets its contract. Assumes nothing.
-use Rattle.station.proofs.Picked.{known-first, known-second}
-use Rattle.station.proofs.is_name.Statement.{statement}
-use Rattle.station.proofs.is_name.Tie as tie
+-- `naming::is_name` meets its contract. Assumes nothing.
+use Rattle.naming.proofs.Picks.{known-first, known-second}
+use Rattle.naming.proofs.is_name.Statement.{statement}
+use Rattle.naming.proofs.is_name.Tie as tie
 
 returns : tie.Need-returns
 returns c = known-first _ (c .if1 .taken)

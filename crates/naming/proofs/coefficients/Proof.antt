@@ -1,7 +1,7 @@
--- `station::coefficients` meets its contract. Assumes nothing.
-use Rattle.station.proofs.Picked.{pick-first, pick-second}
-use Rattle.station.proofs.coefficients.Statement.{statement}
-use Rattle.station.proofs.coefficients.Tie as tie
+-- `naming::coefficients` meets its contract. Assumes nothing.
+use Rattle.naming.proofs.Picks.{pick-first, pick-second}
+use Rattle.naming.proofs.coefficients.Statement.{statement}
+use Rattle.naming.proofs.coefficients.Tie as tie
 
 returns : tie.Need-returns
 returns c = pick-first _ _ _ (c .if1 .taken)
