@@ -1,10 +1,10 @@
-// Runs data/words.txt through load, publish, read, open, session, report and lock, and counts agreements and differences.
-// The keys are loaded for A and B by turns.
+// Runs data/words.txt through load, publish, read, read_marked, open, session, report and lock, and counts agreements and
+// differences. The keys are loaded for A and B by turns.
 // A line is `key FILE`; `public T`, what publish writes and what is locked with, or `public -` for none; or a case of the key
-// before it: `publish ok`, `read WORD ok PATTERN ONES`, `open CAPSULE ok PATTERN` as if published, `lock PATTERN ok CAPSULE`,
-// or one of the four with `refused NUMBER` from `ok` on; or `session CAPSULE SECRET KEY` as if published, or with
-// `refused NUMBER` for KEY. Bytes are in hexadecimal, and `-` is none. A capsule of `open` that is one or a short tail is
-// also reported on.
+// before it: `publish ok`, `read WORD ok PATTERN ONES`, `marked WORD MARKS ok DIFFERENCES D`, `open CAPSULE ok PATTERN` as if
+// published, `lock PATTERN ok CAPSULE`, or one of the five with `refused NUMBER` from `ok` on; or `session CAPSULE SECRET KEY` as if
+// published, or with `refused NUMBER` for KEY. Bytes are in hexadecimal, and `-` is none. A capsule of `open` that is one or a
+// short tail is also reported on.
 ghost use mathlib.Core.Path.{_≡_};
 ghost use lib.ListN.{length};
 use key::kept::Key;
@@ -28,7 +28,7 @@ use vectors::tally::agreements;
 use vectors::tally::differences;
 
 // The bytes of words.txt at most.
-const TEXT: usize = 750000;
+const TEXT: usize = 820000;
 
 // The kinds of lines that are counted.
 const KEY: usize = 0;
@@ -44,6 +44,8 @@ const LOCK: usize = 4;
 const REPORT: usize = 5;
 
 const SESSION: usize = 6;
+
+const MARKED: usize = 7;
 
 // The number of a key whose g has a proper factor, with which a report refuses as open does.
 const FACTOR: u8 = 34;
@@ -109,6 +111,30 @@ fn reads(key: Key, line: &[u8]) -> bool {
     r.refused as u16 == refused(line, 2)
         && r.ones == number_of(line, 4)
         && holds(&out, output(line, 2))
+}
+
+// Marked reading gives the number, the differences and how many of them are at unmarked places.
+fn reads_marked(key: Key, line: &[u8]) -> bool {
+    let mut out = [FILLER; 64];
+    let b = bytes_of(line, 1);
+    let word = b.bytes;
+    let n = size(&word, b.count);
+    let z = bytes_of(line, 2);
+    let marks = z.bytes;
+    let l = size(&marks, z.count);
+    let r = outcome_of(marked_reading::read_marked(
+        key.m,
+        key.n,
+        key.t,
+        &key.support,
+        &key.g,
+        &word[..n],
+        &marks[..l],
+        &mut out,
+    ));
+    r.refused as u16 == refused(line, 3)
+        && r.ones == number_of(line, 5)
+        && holds(&out, output(line, 3))
 }
 
 // Open gives the number and the pattern, with t ones.
@@ -247,6 +273,7 @@ fn step(mut s: State, line: &[u8]) -> State {
         b'k' => keyed(s, line),
         b'r' => counted(s, READ, reads(key, line)),
         b'o' => reported(counted(s, OPEN, opens(key, line)), line),
+        b'm' => counted(s, MARKED, reads_marked(key, line)),
         b's' => counted(s, SESSION, derives(key, line)),
         b'l' => counted(s, LOCK, locks(key, public, line)),
         _ => {
@@ -316,8 +343,8 @@ fn print(t: Tally, kind: usize, name: &[u8]) {
 }
 
 // Zeros for the text. The contract gives the length alone: the prover cannot compute a list as long as this.
-fn empty_text() -> [u8; 750000]
-    ensures { λ r. ⌜ 750000 ≡ length r ⌝ }
+fn empty_text() -> [u8; 820000]
+    ensures { λ r. ⌜ 820000 ≡ length r ⌝ }
 {
     [0; TEXT]
 }
@@ -337,6 +364,7 @@ fn main() {
     print(t, KEY, b"key: ");
     print(t, PUBLISH, b"publish: ");
     print(t, READ, b"read: ");
+    print(t, MARKED, b"marked: ");
     print(t, OPEN, b"open: ");
     print(t, SESSION, b"session: ");
     print(t, REPORT, b"report: ");

@@ -9,7 +9,7 @@ zeros : (n : ℕ) → n ≡ length {A = ℕ} (replicate n 0)
 zeros n = sym (length-replicate {A = ℕ} n 0)
 
 returns : tie.Need-returns
-returns c = zeros 750000
+returns c = zeros 820000
 
 pub empty-text-spec : {M : Type 1} → statement M
 empty-text-spec = tie.close (tie.spec returns)
