@@ -78,6 +78,7 @@ static void refused(uint8_t at, int number, size_t size)
     COUNT("publish, refused", shearcotter_publish(station, at, public_key, sizeof public_key, work, sizeof work), number);
     COUNT("open, refused", shearcotter_open(station, at, row, 1, out, sizeof out), number);
     COUNT("read, refused", shearcotter_read(station, at, row, 1, out, sizeof out), number);
+    COUNT("read_marked, refused", shearcotter_read_marked(station, at, row, 1, public_key, 1, out, sizeof out), number);
     COUNT_REPORT("report, refused", shearcotter_report(station, at, row, 1, out, sizeof out), number);
     COUNT_SESSION("session, refused", shearcotter_session(station, at, row, 1, out, 1), number);
     COUNT("drop, refused", shearcotter_drop(station, at), number);
@@ -100,6 +101,20 @@ static void published(size_t size)
     COUNT("publish", shearcotter_publish(station, name, public_key, sizeof public_key, work, sizeof work), 0);
 }
 
+/* The code word with a one behind T's first column, and 2t marks where that has ones: with zeros there no code word is near. */
+static void code_word(uint8_t *word, uint8_t *marks)
+{
+    int rows = 12 * 64, marked = 0;
+    memset(word, 0, PATTERN);
+    memset(marks, 0, PATTERN);
+    word[rows / 8] = 1;
+    for (int r = 0; r < rows; r++)
+        if (public_key[(size_t)r * SHEARCOTTER_PATTERN_BYTES(3488 - rows)] & 1) {
+            word[r / 8] |= (uint8_t)(1 << r % 8);
+            marks[r / 8] |= (uint8_t)((marked++ < 2 * 64) << r % 8);
+        }
+}
+
 /* The calls on the published key, with the capsule of a pattern of 64 ones, and with zeros, which do not open. */
 static void keyed(void)
 {
@@ -114,8 +129,14 @@ static void keyed(void)
     COUNT_SESSION("session by the secret", shearcotter_session(station, name, row, CAPSULE, pattern, PATTERN), 0);
     COUNT("read, refused", shearcotter_read(station, name, row, 1, out, sizeof out), 8);
     COUNT("read", shearcotter_read(station, name, row, PATTERN, out, sizeof out), 0);
+    COUNT("read_marked, refused", shearcotter_read_marked(station, name, row, PATTERN, pattern, 1, out, sizeof out), 37);
+    COUNT("read_marked", shearcotter_read_marked(station, name, row, PATTERN, pattern, PATTERN, out, sizeof out), 0);
+    uint8_t code[PATTERN], marks[PATTERN];
+    code_word(code, marks);
+    COUNT("read_marked by ones", shearcotter_read_marked(station, name, code, PATTERN, marks, PATTERN, out, sizeof out), 0);
     memset(row, 0x55, PATTERN);
     COUNT("read, refused", shearcotter_read(station, name, row, PATTERN, out, sizeof out), 14);
+    COUNT("read_marked, refused", shearcotter_read_marked(station, name, row, PATTERN, pattern, PATTERN, out, sizeof out), 14);
     memset(row, 0, PATTERN);
     plain = 1;
     COUNT("drop", shearcotter_drop(station, name), 0);

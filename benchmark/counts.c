@@ -1,5 +1,6 @@
-/* For each key file named: load, the question whether it is an exchange key, open, a session key, a report on three capsules and a
-   read of the word of ones under callgrind, which writes a profile of each call with the title 'CALL SHAPE', and of nothing else. */
+/* For each key file named: load, the question whether it is an exchange key, open, a session key, a report on three capsules,
+   a read of the word of ones, and one with t marks, under callgrind, which writes a profile of each call with the title
+   'CALL SHAPE', and of nothing else. */
 #include <stdio.h>
 #include <string.h>
 #include <valgrind/callgrind.h>
@@ -57,6 +58,8 @@ static int profile(size_t size)
     PROFILE("reject", derived, shearcotter_session(reply.station, SHEARCOTTER_A, capsule, capsule_bytes, pattern, word_bytes));
     opened = opened && !derived.refused;
     PROFILE("ones", reply, shearcotter_read(reply.station, SHEARCOTTER_A, ones, word_bytes, out, WORD));
+    opened = opened && reply.refused == SHEARCOTTER_NO_CODE_WORD;
+    PROFILE("marked", reply, shearcotter_read_marked(reply.station, SHEARCOTTER_A, ones, word_bytes, pattern, word_bytes, out, WORD));
     return opened && reply.refused == SHEARCOTTER_NO_CODE_WORD;
 }
 

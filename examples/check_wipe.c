@@ -1,5 +1,5 @@
-/* Whether wipe.h wipes: a key file is loaded, published, opened, reported and derived with, and then this program's own memory is
- * looked through for eight elements of the support in a row. Without wiping they are found; with it they must not be. Linux. */
+/* Whether wipe.h wipes: a key file is loaded, published, opened, reported, derived and read with, and then this program's own memory
+ * is looked through for eight elements of the support in a row. Without wiping they are found; with it they must not be. Linux. */
 #include <stdio.h>
 #include <stdlib.h>
 
@@ -11,8 +11,8 @@ enum { M = 12, N = 3488, T = 64, NONE = 0xFFFF, IN_A_ROW = 8 };
 static uint8_t file[SHEARCOTTER_FILE_BYTES(N, T)];
 static uint8_t public_key[SHEARCOTTER_PUBLIC_BYTES(M, N, T)];
 static uint8_t work[SHEARCOTTER_WORK_BYTES(M, N, T)];
-static uint8_t pattern[SHEARCOTTER_PATTERN_BYTES(N)];
-static uint8_t capsule[SHEARCOTTER_CAPSULE_BYTES(M, T)];
+static uint8_t pattern[SHEARCOTTER_PATTERN_BYTES(N)], pattern_read[SHEARCOTTER_PATTERN_BYTES(N)];
+static uint8_t capsule[SHEARCOTTER_CAPSULE_BYTES(M, T)], dense[SHEARCOTTER_PATTERN_BYTES(N)];
 
 static FILE *opened(const char *name)
 {
@@ -50,7 +50,7 @@ static WIPE_APART void hold_key(const char *name)
     wipe(copies, sizeof copies);
 }
 
-/* Loads, publishes, locks, opens, reports and derives; the stack is left as it is. */
+/* Loads, publishes, locks, opens, reports, derives and reads, a dense word last, which takes the most stack; this is left as it is. */
 static WIPE_APART void use_key(const char *name)
 {
     read_key(name, file);
@@ -68,6 +68,13 @@ static WIPE_APART void use_key(const char *name)
     expect(reported.counts[SHEARCOTTER_ACCEPTED] == 1, shearcotter_words(reported.refused));
     shearcotter_derived derived = shearcotter_session(reported.station, SHEARCOTTER_A, capsule, sizeof capsule, pattern, sizeof pattern);
     expect(derived.refused == SHEARCOTTER_ACCEPTED, shearcotter_words(derived.refused));
+    reply = shearcotter_read_marked(derived.station, SHEARCOTTER_A, pattern, sizeof pattern, pattern, sizeof pattern, pattern_read,
+                                    sizeof pattern_read);
+    expect(reply.refused == SHEARCOTTER_ACCEPTED && reply.ones == 0, shearcotter_words(reply.refused));
+    memset(dense, 0x55, sizeof dense);
+    reply = shearcotter_read_marked(reply.station, SHEARCOTTER_A, dense, sizeof dense, pattern, sizeof pattern, pattern_read,
+                                    sizeof pattern_read);
+    expect(reply.refused == SHEARCOTTER_NO_CODE_WORD, "a word that no code word is near is read");
 }
 
 /* The element that comes after each in the support; the support itself is not kept. */
@@ -144,6 +151,7 @@ static void wipe_buffers(void)
     wipe(file, sizeof file);
     wipe(work, sizeof work);
     wipe(pattern, sizeof pattern);
+    wipe(pattern_read, sizeof pattern_read);
 }
 
 int main(int count, char **words)

@@ -15,7 +15,7 @@ static inline void wipe(void *bytes, size_t length)
     __asm__ volatile("" : : "r"(bytes) : "memory");
 }
 
-/* 512 KiB: a call takes up to 280 (enum shearcotter_stack_kib), and the rest is for the function that makes it. */
+/* 512 KiB: a call takes up to 311 (enum shearcotter_stack_kib), and the rest is for the function that makes it. */
 enum { WIPE_STACK_PAGES = 128 };
 
 /* Overwrites the stack below the caller's frame: what functions that the caller called before have left there. Goes down page by

@@ -1,8 +1,9 @@
-/* Goppa code capsules: field, keys, public key, locking, reading, opening, reports, session keys, conversions of key files. Link
- * libshearcotter.a (x86-64).
+/* Goppa code capsules: field, keys, public key, locking, reading, also with marks, opening, reports, session keys, conversions of key
+ * files. Link libshearcotter.a (x86-64).
  *
  * Rules for every call:
- * - Pointers are not null, also with length 0, and the buffers of one call do not overlap.
+ * - Pointers are not null, also with length 0. A buffer that is written overlaps no other buffer of the call; buffers that are only
+ *   read may overlap.
  * - A call with output writes from its start; bytes beyond those written keep their contents.
  * - A refusal writes nothing (but publish's workspace under 23) and hands the caller's station back unchanged.
  * - A call on a station names one of its two recipients, and leaves the other's slot as it is: enum shearcotter_name.
@@ -11,8 +12,10 @@
  * - Stack: enum shearcotter_stack_kib.
  * - Secret are key files, stations, replies, patterns, session keys and the secrets lent for them, publish's workspace, and the
  *   stack that a call used. The calls wipe none of them: see 'Secrets' below.
+ * - Where a key is drawn from a chip, the word read, the differences written and the corrected word are secret too, and the
+ *   caller's to wipe.
  *
- * Key files, public keys, capsules, patterns, secrets and words, byte by byte: docs/FORMATS.md.
+ * Key files, public keys, capsules, patterns, secrets, words and marks, byte by byte: docs/FORMATS.md.
  */
 #ifndef SHEARCOTTER_H
 #define SHEARCOTTER_H
@@ -45,10 +48,11 @@ enum shearcotter_stack_kib {
     SHEARCOTTER_STACK_LOAD_NETWORK = 225,
     SHEARCOTTER_STACK_PUBLISH = 280,
     SHEARCOTTER_STACK_LOCK = 2,
-    SHEARCOTTER_STACK_OPEN = 273,
-    SHEARCOTTER_STACK_READ = 273,
-    SHEARCOTTER_STACK_REPORT = 278,
-    SHEARCOTTER_STACK_SESSION = 276,
+    SHEARCOTTER_STACK_OPEN = 304,
+    SHEARCOTTER_STACK_READ = 304,
+    SHEARCOTTER_STACK_READ_MARKED = 311,
+    SHEARCOTTER_STACK_REPORT = 308,
+    SHEARCOTTER_STACK_SESSION = 306,
     SHEARCOTTER_STACK_DROP = 98,
     SHEARCOTTER_STACK_REGISTER = 4,
     SHEARCOTTER_STACK_SHAKE = 2,
@@ -84,42 +88,44 @@ enum shearcotter_name {
 };
 
 /* The refusals: X(name, number, words) for each. */
-#define SHEARCOTTER_REFUSALS(X)                                                                        \
-    /* caused by the input */                                                                          \
-    X(SHEARCOTTER_BAD_WIDTH, 1, "width missing or not 4, 12, 13")                                      \
-    X(SHEARCOTTER_BAD_LENGTH, 2, "key file ends too early or too late; register list over 256")        \
-    X(SHEARCOTTER_BAD_SHAPE, 3, "shape out of limits; position not 1 to 5")                            \
-    X(SHEARCOTTER_BAD_ELEMENT, 4, "element 2^m or more")                                               \
-    X(SHEARCOTTER_ELEMENT_TWICE, 5, "support element twice")                                           \
-    X(SHEARCOTTER_SQUARE_FACTOR, 6, "a square divides g")                                              \
-    X(SHEARCOTTER_ROOT_IN_SUPPORT, 7, "some g(a_i) is 0")                                              \
-    X(SHEARCOTTER_BAD_BYTES, 8, "word, capsule, pattern or public key of wrong byte length")           \
-    /* an unused high bit of a last byte */                                                            \
-    X(SHEARCOTTER_FILLER_SET, 9, "filler bit set")                                                     \
-    X(SHEARCOTTER_SHORT_OUTPUT, 10, "output shorter than needed")                                      \
-    X(SHEARCOTTER_SHORT_WORKSPACE, 11, "workspace shorter than needed")                                \
-    X(SHEARCOTTER_NOT_T_ONES, 12, "pattern to lock has not t ones")                                    \
-    X(SHEARCOTTER_NO_PATTERN, 13, "no pattern for the capsule")                                        \
-    X(SHEARCOTTER_NO_CODE_WORD, 14, "no code word within t places")                                    \
-    /* caused by the named recipient's slot */                                                         \
-    X(SHEARCOTTER_NO_KEY, 21, "no key")                                                                \
-    X(SHEARCOTTER_KEY_HELD, 22, "a key is held already")                                               \
-    X(SHEARCOTTER_DEPENDENT_COLUMNS, 23, "the first m*t columns are dependent: no public key")         \
-    X(SHEARCOTTER_NOT_PUBLISHED, 24, "not published")                                                  \
-    /* a station not made by these calls */                                                            \
-    X(SHEARCOTTER_UNSOUND_KEY, 25, "the kept key is not one that load accepts")                        \
-    /* of a report */                                                                                  \
-    X(SHEARCOTTER_SHORT_RECORDS, 31, "record buffer shorter than the number of capsules")              \
-    /* of the field */                                                                                 \
-    X(SHEARCOTTER_INVERSE_OF_ZERO, 32, "inverse of 0")                                                 \
-    /* of a session key */                                                                             \
-    X(SHEARCOTTER_BAD_SECRET, 33, "secret of wrong length or with filler set")                         \
-    /* of a key that words are read with, and nothing else */                                          \
-    X(SHEARCOTTER_REDUCIBLE_KEY, 34, "g has a proper factor")                                          \
-    /* of every call on a station */                                                                   \
-    X(SHEARCOTTER_UNKNOWN_NAME, 35, "a name other than A and B")                                       \
-    /* of a network file */                                                                            \
-    X(SHEARCOTTER_BAD_BIT_COUNT, 36, "bit count other than (2m-1)*2^(m-1)")
+#define SHEARCOTTER_REFUSALS(X)                                                                         \
+    /* caused by the input */                                                                           \
+    X(SHEARCOTTER_BAD_WIDTH, 1, "width missing or not 4, 12, 13")                                       \
+    X(SHEARCOTTER_BAD_LENGTH, 2, "key file ends too early or too late; register list over 256")         \
+    X(SHEARCOTTER_BAD_SHAPE, 3, "shape out of limits; position not 1 to 5")                             \
+    X(SHEARCOTTER_BAD_ELEMENT, 4, "element 2^m or more")                                                \
+    X(SHEARCOTTER_ELEMENT_TWICE, 5, "support element twice")                                            \
+    X(SHEARCOTTER_SQUARE_FACTOR, 6, "a square divides g")                                               \
+    X(SHEARCOTTER_ROOT_IN_SUPPORT, 7, "some g(a_i) is 0")                                               \
+    X(SHEARCOTTER_BAD_BYTES, 8, "word, capsule, pattern or public key of wrong byte length")            \
+    /* an unused high bit of a last byte */                                                             \
+    X(SHEARCOTTER_FILLER_SET, 9, "filler bit set")                                                      \
+    X(SHEARCOTTER_SHORT_OUTPUT, 10, "output shorter than needed")                                       \
+    X(SHEARCOTTER_SHORT_WORKSPACE, 11, "workspace shorter than needed")                                 \
+    X(SHEARCOTTER_NOT_T_ONES, 12, "pattern to lock has not t ones")                                     \
+    X(SHEARCOTTER_NO_PATTERN, 13, "no pattern for the capsule")                                         \
+    X(SHEARCOTTER_NO_CODE_WORD, 14, "no code word within t places; with marks, none with 2d + s <= 2t") \
+    /* caused by the named recipient's slot */                                                          \
+    X(SHEARCOTTER_NO_KEY, 21, "no key")                                                                 \
+    X(SHEARCOTTER_KEY_HELD, 22, "a key is held already")                                                \
+    X(SHEARCOTTER_DEPENDENT_COLUMNS, 23, "the first m*t columns are dependent: no public key")          \
+    X(SHEARCOTTER_NOT_PUBLISHED, 24, "not published")                                                   \
+    /* a station not made by these calls */                                                             \
+    X(SHEARCOTTER_UNSOUND_KEY, 25, "the kept key is not one that load accepts")                         \
+    /* of a report */                                                                                   \
+    X(SHEARCOTTER_SHORT_RECORDS, 31, "record buffer shorter than the number of capsules")               \
+    /* of the field */                                                                                  \
+    X(SHEARCOTTER_INVERSE_OF_ZERO, 32, "inverse of 0")                                                  \
+    /* of a session key */                                                                              \
+    X(SHEARCOTTER_BAD_SECRET, 33, "secret of wrong length or with filler set")                          \
+    /* of a key that words are read with, and nothing else */                                           \
+    X(SHEARCOTTER_REDUCIBLE_KEY, 34, "g has a proper factor")                                           \
+    /* of every call on a station */                                                                    \
+    X(SHEARCOTTER_UNKNOWN_NAME, 35, "a name other than A and B")                                        \
+    /* of a network file */                                                                             \
+    X(SHEARCOTTER_BAD_BIT_COUNT, 36, "bit count other than (2m-1)*2^(m-1)")                             \
+    /* of a marked reading */                                                                           \
+    X(SHEARCOTTER_BAD_MARKS, 37, "marks of wrong length or with filler set")
 
 /* What `refused` says. */
 #define SHEARCOTTER_NUMBER(name, number, words) name = number,
@@ -163,7 +169,8 @@ typedef struct {
     shearcotter_slot b;
 } shearcotter_station;
 
-/* The new station, the number of the refusal, 0 for none, and the number of ones that open or read wrote. */
+/* The new station, the number of the refusal, 0 for none, and the number of ones that open or read wrote. Of read_marked `ones` is the
+ * number of differences at unmarked places, which may be less than the number of ones that it wrote. */
 typedef struct {
     shearcotter_station station;
     uint8_t refused;
@@ -365,6 +372,16 @@ shearcotter_derived shearcotter_session(shearcotter_station station, uint8_t nam
  * stays. Refused: 35, 21, 25, 8, 9, 10, 14. */
 shearcotter_reply shearcotter_read(shearcotter_station station, uint8_t name, const uint8_t *word, size_t word_length, uint8_t *out,
                                    size_t out_length);
+
+/* Reads a word some of whose places are unsteady: their bits are known only to be 0 or 1. The marks are a packed row of n bits like
+ * the word, SHEARCOTTER_PATTERN_BYTES, with a one at each such place; any number of them may be set. With s marked places and d
+ * differences at unmarked ones, there is at most one code word of the named key with 2d + s <= 2t. Writes the places where the given
+ * word differs from it, those at marked places included. `ones` in the reply is d, the differences at UNMARKED places alone: where
+ * marked bits differ too, more ones are written. Where all marks are 0 it answers as shearcotter_read does. The station stays.
+ * Refused: 35, 21, 25, 8, 9, 37, 10, 14. 37 is about the marks: their length or a filler bit set. 14: no code word has
+ * 2d + s <= 2t. */
+shearcotter_reply shearcotter_read_marked(shearcotter_station station, uint8_t name, const uint8_t *word, size_t word_length,
+                                          const uint8_t *marks, size_t marks_length, uint8_t *out, size_t out_length);
 
 /* Afterwards the named slot is that of a fresh station. Refused: 35, 21. */
 shearcotter_reply shearcotter_drop(shearcotter_station station, uint8_t name);

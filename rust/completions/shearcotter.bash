@@ -21,7 +21,7 @@ _shearcotter() {
             ended=1
         elif [[ -z $ended && $word == -?* ]]; then
             case $word in
-                --format | --second | --jobs | --records) option=$word ;;
+                --format | --second | --jobs | --records | --marks) option=$word ;;
             esac
         elif [[ -z $command ]]; then
             command=$word
@@ -38,6 +38,7 @@ _shearcotter() {
             session,--format) _shearcotter_words 'hex raw json' "$cur" ;;
             report,--second) _shearcotter_files "$cur" ;;
             report,--records) _shearcotter_files "$cur" ;;
+            read,--marks) _shearcotter_files "$cur" ;;
             read,--format) _shearcotter_words 'places hex raw json' "$cur" ;;
         esac
     elif [[ -z $command ]]; then
@@ -51,7 +52,7 @@ _shearcotter() {
             open) _shearcotter_words '--second --format --jobs --explain --quiet --help' "$cur" ;;
             session) _shearcotter_words '--format --jobs --explain --quiet --help' "$cur" ;;
             report) _shearcotter_words '--second --records --jobs --quiet --help' "$cur" ;;
-            read) _shearcotter_words '--format --jobs --explain --quiet --help' "$cur" ;;
+            read) _shearcotter_words '--marks --format --jobs --explain --quiet --help' "$cur" ;;
             shapes) _shearcotter_words '--quiet --help' "$cur" ;;
             help) _shearcotter_words '--quiet --help' "$cur" ;;
             man) _shearcotter_words '--quiet --help' "$cur" ;;

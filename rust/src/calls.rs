@@ -1,7 +1,7 @@
 //! The calls on slices: with `wiping`, the only unsafe code of the crate.
 //!
-//! Slices give pointers that are valid and not null, and `&mut` keeps the buffers of a call apart; that the stack is
-//! long enough is made sure of before. Calls on secrets run where the stack that they used is wiped after them.
+//! Slices give pointers that are valid and not null, and `&mut` keeps a buffer that is written apart from every other of the
+//! call, while those that are only read may overlap; that the stack is long enough is made sure of before. Calls on secrets run where the stack that they used is wiped after them.
 
 #![allow(unsafe_code)]
 
@@ -23,6 +23,7 @@ const _: () = {
         raw::STACK_LOCK,
         raw::STACK_OPEN,
         raw::STACK_READ,
+        raw::STACK_READ_MARKED,
         raw::STACK_REPORT,
         raw::STACK_SESSION,
         raw::STACK_DROP,
@@ -181,6 +182,24 @@ pub(crate) fn read(station: &raw::Station, name: Name, word: &[u8], out: &mut [u
     secretly::<{ raw::STACK_READ + COPIES }, _>(|| {
         let (row, length) = (word.as_ptr(), word.len());
         let reply = unsafe { raw::shearcotter_read(*station, name.byte(), row, length, out.as_mut_ptr(), out.len()) };
+        Refusal::check(reply.refused).map(|()| reply.ones)
+    })
+}
+
+/// The number of differences at unmarked places. The station that the call hands back is the caller's own.
+pub(crate) fn read_marked(
+    station: &raw::Station,
+    name: Name,
+    word: &[u8],
+    marks: &[u8],
+    out: &mut [u8],
+) -> Result<u16, Refusal> {
+    secretly::<{ raw::STACK_READ_MARKED + COPIES }, _>(|| {
+        let (row, length, room) = (word.as_ptr(), word.len(), out.len());
+        let (marks, marked) = (marks.as_ptr(), marks.len());
+        let reply = unsafe {
+            raw::shearcotter_read_marked(*station, name.byte(), row, length, marks, marked, out.as_mut_ptr(), room)
+        };
         Refusal::check(reply.refused).map(|()| reply.ones)
     })
 }

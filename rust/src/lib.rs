@@ -3,10 +3,11 @@
 //! A [`Station`] keeps a key for each of two recipients, [`Name::A`] and [`Name::B`], and each call names one:
 //! [`load`](Station::load) its key from a key file, or from a [network file](Station::load_network),
 //! [`publish`](Station::publish) its public key, [`open`](Station::open) capsules, derive their
-//! [`session`](Station::session) keys, [`report`](Station::report) on them and [`read`](Station::read) words. A
-//! [`Recipient`] is a handle for one of the two. [`lock`](lock()) makes a capsule from a public key, [`to_network`] and
-//! [`from_network`] turn the one form of key file into the other, and [`shake256`](shake256()) is the function that session
-//! keys are derived by. A call that is refused answers a [`Refusal`] and changes nothing.
+//! [`session`](Station::session) keys, [`report`](Station::report) on them and [`read`](Station::read) words, also
+//! [with marks](Station::read_marked) at unsteady places. A [`Recipient`] is a handle for one of the two. [`lock`](lock())
+//! makes a capsule from a public key, [`to_network`] and [`from_network`] turn the one form of key file into the other, and
+//! [`shake256`](shake256()) is the function that session keys are derived by. A call that is refused answers a [`Refusal`]
+//! and changes nothing.
 //! Words are read with every key; all else asks for an exchange key, one with an irreducible g:
 //! [`is_exchange_key`](Station::is_exchange_key).
 //!
@@ -28,7 +29,7 @@
 //!
 //! # Stack
 //!
-//! A call takes up to 280 KiB of stack, at most 352 without optimisation, since the station passes by value. Each call touches
+//! A call takes up to 311 KiB of stack, at most 383 without optimisation, since the station passes by value. Each call touches
 //! [`raw::STACK`] bytes of stack first, 512 KiB, and [`Station::fresh`] fewer, so that a thread with less ends at its guard
 //! page and nowhere else. Beyond these 512 KiB a thread needs what its own functions take.
 //!
@@ -45,6 +46,7 @@
 mod calls;
 pub mod field;
 mod locking;
+mod marked;
 mod name;
 mod network;
 mod pattern;
@@ -59,6 +61,7 @@ mod station;
 mod wiping;
 
 pub use locking::{lock, lock_into};
+pub use marked::MarkedReading;
 pub use name::Name;
 pub use network::{from_network, from_network_into, to_network, to_network_into};
 pub use pattern::Pattern;

@@ -5,6 +5,8 @@ use std::{fmt, mem};
 use crate::wipe;
 
 /// What open and read give: the pattern, and the number of ones in it. Its bytes are wiped when it is dropped.
+///
+/// Of a [marked reading](crate::MarkedReading) it is the differences, those at marked places included.
 #[derive(Clone, PartialEq, Eq)]
 pub struct Pattern {
     bytes: Vec<u8>,

@@ -1,8 +1,8 @@
 //! The C interface as it is: the declarations of `include/shearcotter.h`.
 //!
-//! The functions are unsafe: pointers must be valid for their lengths and not null even with length 0, the buffers of
-//! one call must not overlap, and the thread must have [`STACK`] bytes of stack left. They wipe nothing: stations, replies,
-//! and what a call leaves on the stack are the caller's.
+//! The functions are unsafe: pointers must be valid for their lengths and not null even with length 0, a buffer that is
+//! written must overlap no other buffer of the call, while buffers that are only read may overlap, and the thread must have
+//! [`STACK`] bytes of stack left. They wipe nothing: stations, replies, and what a call leaves on the stack are the caller's.
 
 /// The most places of a key, 2^13.
 pub const MOST_PLACES: usize = 8192;
@@ -29,13 +29,15 @@ pub const STACK_PUBLISH: usize = 280 * 1024;
 /// Bytes of stack that `shearcotter_lock` takes.
 pub const STACK_LOCK: usize = 2 * 1024;
 /// The same as [`STACK_LOAD`] for `shearcotter_open`.
-pub const STACK_OPEN: usize = 273 * 1024;
+pub const STACK_OPEN: usize = 304 * 1024;
 /// The same for `shearcotter_read`.
-pub const STACK_READ: usize = 273 * 1024;
+pub const STACK_READ: usize = 304 * 1024;
+/// The same for `shearcotter_read_marked`.
+pub const STACK_READ_MARKED: usize = 311 * 1024;
 /// The same for `shearcotter_report`.
-pub const STACK_REPORT: usize = 278 * 1024;
+pub const STACK_REPORT: usize = 308 * 1024;
 /// The same for `shearcotter_session`.
-pub const STACK_SESSION: usize = 276 * 1024;
+pub const STACK_SESSION: usize = 306 * 1024;
 /// The same for `shearcotter_drop`.
 pub const STACK_DROP: usize = 98 * 1024;
 /// Bytes of stack that `shearcotter_shake256` takes.
@@ -101,7 +103,7 @@ pub struct Reply {
     pub station: Station,
     /// 0, or the refusal's number.
     pub refused: u8,
-    /// The ones of the pattern that open or read has written.
+    /// The ones of the pattern that open or read has written; of a marked reading the differences at unmarked places alone.
     pub ones: u16,
 }
 
@@ -234,6 +236,17 @@ extern "C" {
         name: u8,
         word: *const u8,
         word_length: usize,
+        out: *mut u8,
+        out_length: usize,
+    ) -> Reply;
+    /// Writes the differences from the code word with 2d + s ≤ 2t, where s places are marked and d of the others differ.
+    pub fn shearcotter_read_marked(
+        station: Station,
+        name: u8,
+        word: *const u8,
+        word_length: usize,
+        marks: *const u8,
+        marks_length: usize,
         out: *mut u8,
         out_length: usize,
     ) -> Reply;

@@ -3,7 +3,7 @@
 use std::borrow::{Borrow, BorrowMut};
 use std::fmt;
 
-use crate::{raw, Counts, Name, Pattern, Refusal, Report, Shape, Station};
+use crate::{raw, Counts, MarkedReading, Name, Pattern, Refusal, Report, Shape, Station};
 
 /// One recipient of a borrowed [`Station`]: its calls, without the name. With `&Station` those that leave the station as it is,
 /// with `&mut Station` all of them.
@@ -90,6 +90,16 @@ impl<S: Borrow<Station>> Recipient<S> {
     /// [`Station::read_into`].
     pub fn read_into(&self, word: &[u8], out: &mut [u8]) -> Result<u16, Refusal> {
         self.station().read_into(self.name, word, out)
+    }
+
+    /// [`Station::read_marked`].
+    pub fn read_marked(&self, word: &[u8], marks: &[u8]) -> Result<MarkedReading, Refusal> {
+        self.station().read_marked(self.name, word, marks)
+    }
+
+    /// [`Station::read_marked_into`].
+    pub fn read_marked_into(&self, word: &[u8], marks: &[u8], out: &mut [u8]) -> Result<u16, Refusal> {
+        self.station().read_marked_into(self.name, word, marks, out)
     }
 }
 

@@ -59,7 +59,7 @@ refusals! {
     ShortWorkspace 11 "workspace shorter than needed",
     NotTOnes 12 "pattern to lock has not t ones",
     NoPattern 13 "no pattern for the capsule",
-    NoCodeWord 14 "no code word within t places",
+    NoCodeWord 14 "no code word within t places; with marks, none with 2d + s <= 2t",
     NoKey 21 "no key",
     KeyHeld 22 "a key is held already",
     DependentColumns 23 "the first m*t columns are dependent: no public key",
@@ -71,6 +71,7 @@ refusals! {
     ReducibleKey 34 "g has a proper factor",
     UnknownName 35 "a name other than A and B",
     BadBitCount 36 "bit count other than (2m-1)*2^(m-1)",
+    BadMarks 37 "marks of wrong length or with filler set",
 }
 
 impl Refusal {

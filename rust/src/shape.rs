@@ -93,7 +93,7 @@ impl Shape {
         (2 * usize::from(self.m) - 1) << (self.m - 1)
     }
 
-    /// Bytes of a pattern, word or secret.
+    /// Bytes of a pattern, word, secret or row of marks.
     pub fn pattern_length(self) -> usize {
         usize::from(self.n).div_ceil(8)
     }

@@ -2,7 +2,7 @@
 
 use std::fmt;
 
-use crate::{calls, raw, wipe, wiping, Counts, Name, Pattern, Recipient, Refusal, Report, Shape};
+use crate::{calls, raw, wipe, wiping, Counts, MarkedReading, Name, Pattern, Recipient, Refusal, Report, Shape};
 
 /// A station: two recipients, [`Name::A`] and [`Name::B`], each of them empty, loaded with a key, or published.
 ///
@@ -67,8 +67,8 @@ impl Station {
     /// Takes the key of a key file for the recipient: refused with the first that applies of 22, 1, 2, 3, 4, 5, 6, 7. The
     /// file's bytes are the caller's to [`wipe`].
     ///
-    /// A key whose g has a proper factor is taken, for [`read`](Station::read) alone: see
-    /// [`is_exchange_key`](Station::is_exchange_key).
+    /// A key whose g has a proper factor is taken, for [`read`](Station::read) and [`read_marked`](Station::read_marked) alone:
+    /// see [`is_exchange_key`](Station::is_exchange_key).
     pub fn load(&mut self, name: Name, file: &[u8]) -> Result<(), Refusal> {
         calls::load(&mut self.raw, name, file)
     }
@@ -98,8 +98,8 @@ impl Station {
     /// partners' programs work with it. Refused with 21.
     ///
     /// With any other key [`publish`](Station::publish), [`open`](Station::open), [`report`](Station::report) and
-    /// [`session`](Station::session) refuse with 34, and [`read`](Station::read) works. An exchange key may still have
-    /// no public key (23).
+    /// [`session`](Station::session) refuse with 34, and [`read`](Station::read) and [`read_marked`](Station::read_marked)
+    /// work. An exchange key may still have no public key (23).
     ///
     /// ```
     /// use shearcotter::{Name, Refusal, Station};
@@ -217,6 +217,42 @@ impl Station {
     /// of 21, 8, 9, 10, 14.
     pub fn read_into(&self, name: Name, word: &[u8], out: &mut [u8]) -> Result<u16, Refusal> {
         calls::read(&self.raw, name, word, out)
+    }
+
+    /// Reads a word some of whose places are unsteady: their bits are known only to be 0 or 1. The marks are packed bits like the
+    /// word's, with a one at each such place. Refused with the first that applies of 21, 8, 9, 37, 14.
+    ///
+    /// With s marked places and d differences at unmarked ones, there is at most one code word with 2d + s ≤ 2t. The answer has
+    /// the places where the given word differs from it, those at marked places included, and d, which counts the unmarked ones
+    /// alone; 14 says that there is no such code word. Any number of places may be marked, and without marks it answers as
+    /// [`read`](Station::read) does.
+    ///
+    /// ```
+    /// use shearcotter::{Name, Refusal, Station};
+    ///
+    /// let mut station = Station::fresh();
+    /// // t is 1: two marks, or one difference without marks.
+    /// station.load(Name::A, &[4, 6, 0, 1, 0, 9, 0, 13, 0, 15, 0, 14, 0, 11, 0, 1, 0, 0, 0])?;
+    /// // The code word 13 with its bits at the places 1 and 4 turned: two differences are too many, unless they are marked.
+    /// assert_eq!(station.read(Name::A, &[0x01])?.places().collect::<Vec<_>>(), [0]);
+    /// let reading = station.read_marked(Name::A, &[0x01], &[0x12])?;
+    /// assert_eq!(reading.differences().places().collect::<Vec<_>>(), [1, 4]);
+    /// assert_eq!((reading.differences().ones(), reading.unmarked()), (2, 0));
+    /// // Marks of the same length, without filler.
+    /// assert_eq!(station.read_marked(Name::A, &[0x01], &[]).err(), Some(Refusal::BadMarks));
+    /// assert_eq!(station.read_marked(Name::A, &[0x01], &[0x40]).err(), Some(Refusal::BadMarks));
+    /// # Ok::<(), Refusal>(())
+    /// ```
+    pub fn read_marked(&self, name: Name, word: &[u8], marks: &[u8]) -> Result<MarkedReading, Refusal> {
+        let mut out = self.pattern_buffer(name);
+        let unmarked = self.read_marked_into(name, word, marks, &mut out)?;
+        Ok(MarkedReading::new(out, unmarked))
+    }
+
+    /// Writes the differences from the start of `out`, those at marked places included, and gives how many are at unmarked
+    /// places, which may be fewer than the ones written: refused with the first that applies of 21, 8, 9, 37, 10, 14.
+    pub fn read_marked_into(&self, name: Name, word: &[u8], marks: &[u8], out: &mut [u8]) -> Result<u16, Refusal> {
+        calls::read_marked(&self.raw, name, word, marks, out)
     }
 
     /// Drops the recipient's key; afterwards it is as in a fresh station, and the other recipient as before. Refused with 21.

@@ -60,6 +60,7 @@ fn limits_states_names_and_stack() {
         ("STACK_LOCK", raw::STACK_LOCK / 1024),
         ("STACK_OPEN", raw::STACK_OPEN / 1024),
         ("STACK_READ", raw::STACK_READ / 1024),
+        ("STACK_READ_MARKED", raw::STACK_READ_MARKED / 1024),
         ("STACK_REPORT", raw::STACK_REPORT / 1024),
         ("STACK_SESSION", raw::STACK_SESSION / 1024),
         ("STACK_DROP", raw::STACK_DROP / 1024),

@@ -14,7 +14,7 @@ use crate::support::bytes;
 #[test]
 fn refusals_have_their_numbers_and_words() {
     let numbers: Vec<u8> = Refusal::ALL.iter().map(|refusal| refusal.number()).collect();
-    let expected: Vec<u8> = (1..=14).chain(21..=25).chain(31..=36).collect();
+    let expected: Vec<u8> = (1..=14).chain(21..=25).chain(31..=37).collect();
     assert_eq!(numbers, expected);
     for number in 0..=255 {
         let refusal = Refusal::from_number(number);
@@ -130,6 +130,13 @@ fn lent_buffers() {
     assert_eq!(pattern, [0x10, 7]);
     assert_eq!(station.read_into(Name::A, &[0x24], &mut pattern), Ok(1));
     assert_eq!(pattern, [0x01, 7]);
+    for (marks, room, refusal) in [(&[][..], 0, Refusal::BadMarks), (&[0x30], 0, Refusal::ShortOutput)] {
+        assert_eq!(station.read_marked_into(Name::A, &[0x06], marks, &mut pattern[..room]), Err(refusal));
+    }
+    assert_eq!(station.read_marked_into(Name::A, &[0x06], &[0x00], &mut pattern), Err(Refusal::NoCodeWord));
+    assert_eq!(pattern, [0x01, 7]);
+    assert_eq!(station.read_marked_into(Name::A, &[0x06], &[0x30], &mut pattern), Ok(0));
+    assert_eq!(pattern, [0x30, 7]);
     let mut records = [7; 4];
     assert_eq!(station.report_into(Name::A, &[3, 0, 0x13], &mut records[..2]), Err(Refusal::ShortRecords));
     assert_eq!(records, [7; 4]);
@@ -154,6 +161,7 @@ fn states() {
     assert_eq!(station.report(Name::A, &[]), Err(Refusal::NoKey));
     assert_eq!(station.session(Name::A, &[3], &[0]), Err(Refusal::NoKey));
     assert_eq!(station.read(Name::A, &[3]), Err(Refusal::NoKey));
+    assert_eq!(station.read_marked(Name::A, &[3], &[3]), Err(Refusal::NoKey));
     assert_eq!(station.drop_key(Name::A), Err(Refusal::NoKey));
     station.load(Name::A, &K1).expect("load accepts");
     assert_eq!(station.load(Name::A, &K1), Err(Refusal::KeyHeld));
@@ -230,11 +238,13 @@ fn handles() {
     assert_eq!((copied.shape(), copied.name()), (station.shape(Name::B), office.name()));
     assert_eq!(office.open(&[3]), station.open(Name::B, &[3]));
     assert_eq!(office.read(&[0x24]), station.read(Name::B, &[0x24]));
+    assert_eq!(office.read_marked(&[0x06], &[0x30]), station.read_marked(Name::B, &[0x06], &[0x30]));
     assert_eq!(office.report(&[3, 0]), station.report(Name::B, &[3, 0]));
     assert_eq!(office.session(&[3], &[0x15]), station.session(Name::B, &[3], &[0x15]));
     let (mut pattern, mut records) = ([7; 2], [7; 2]);
     assert_eq!((office.open_into(&[3], &mut pattern), pattern), (Ok(1), [0x10, 7]));
     assert_eq!((office.read_into(&[0x24], &mut pattern), pattern), (Ok(1), [0x01, 7]));
+    assert_eq!((office.read_marked_into(&[0x06], &[0x30], &mut pattern), pattern), (Ok(0), [0x30, 7]));
     assert_eq!(office.report_into(&[3], &mut records).map(|counts| counts.opened()), Ok(1));
     assert_eq!(records, [0, 7]);
     assert_eq!(station.recipient_mut(Name::A).drop_key(), Err(Refusal::NoKey));
@@ -267,6 +277,8 @@ fn a_key_that_only_reads() {
     }
     let read = station.read(Name::A, &[0x11, 0x00]).expect("it reads");
     assert_eq!((read.bytes(), read.ones()), (&[0x11, 0x00][..], 2));
+    let marked = station.read_marked(Name::A, &[0x11, 0x00], &[0x10, 0x00]).expect("it reads");
+    assert_eq!((marked.differences(), marked.unmarked()), (&read, 1));
     assert_eq!(station.drop_key(Name::A), Ok(()));
     assert_eq!(station.is_exchange_key(Name::A), Err(Refusal::NoKey));
     assert_eq!(Refusal::ReducibleKey.to_string(), "refused 34: g has a proper factor");

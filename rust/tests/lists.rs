@@ -15,7 +15,7 @@ use crate::support::named::{make, same};
 use crate::support::raw_calls::{empty, fresh, holding, placed, slot, with};
 
 /// All calls, and how often they are drawn.
-const CALLS: [&str; 18] = [
+const CALLS: [&str; 20] = [
     "load",
     "load",
     "load_network",
@@ -28,6 +28,8 @@ const CALLS: [&str; 18] = [
     "open",
     "read",
     "read",
+    "read_marked",
+    "read_marked",
     "report",
     "report",
     "session",
@@ -84,12 +86,13 @@ fn answers_and_stations_of_random_lists() {
             ("report", &[0, 21, 34, 24, 31]),
             ("session", &[0, 21, 34, 24, 8, 9, 33]),
             ("read", &[0, 21, 8, 9, 10, 14]),
+            ("read_marked", &[0, 21, 8, 9, 37, 10, 14]),
             ("drop", &[0, 21]),
         ],
     );
     let unknown = met.iter().filter(|((_, name, number), _)| *name == 0 || *number == 35);
     assert!(unknown.clone().all(|((_, name, number), _)| (*name, *number) == (0, 35)), "{met:?}");
-    assert_eq!(unknown.count(), 8, "{met:?}");
+    assert_eq!(unknown.count(), 9, "{met:?}");
 }
 
 /// The answers to the calls of a list, and the station behind each.
@@ -148,8 +151,10 @@ fn of_each_kind(random: &mut Random, held: &Held) -> Vec<Call> {
         Call::Publish { out: vec![], work: vec![] },
         Call::Open { capsule: capsule.clone(), out: row.clone() },
         Call::Open { capsule: vec![], out: vec![] },
-        Call::Read { word: word.clone(), out: row },
+        Call::Read { word: word.clone(), out: row.clone() },
         Call::Read { word: vec![], out: vec![] },
+        Call::ReadMarked { word: word.clone(), marks: word.clone(), out: row },
+        Call::ReadMarked { word: vec![], marks: vec![], out: vec![] },
         Call::Report { capsules: capsule.clone(), out: vec![7] },
         Call::Report { capsules: capsule.clone(), out: vec![] },
         Call::Session { capsule, secret: word },

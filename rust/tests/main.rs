@@ -8,6 +8,7 @@ mod header;
 mod independent;
 mod library;
 mod lists;
+mod marked;
 mod networks;
 mod reports;
 #[cfg(target_os = "linux")]

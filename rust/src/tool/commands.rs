@@ -11,6 +11,7 @@ pub const JOBS: &str = "--jobs";
 pub const EXPLAIN: &str = "--explain";
 pub const RECORDS: &str = "--records";
 pub const SECOND: &str = "--second";
+pub const MARKS: &str = "--marks";
 
 /// The most threads that may be asked for.
 pub const MOST_JOBS: usize = 1024;
@@ -244,7 +245,17 @@ A is refused 9 and not tried under B.
     Command {
         name: "read",
         operands: &[KEY, Operand::optional("FILE", Kind::Input, "words of n bits, back to back")],
-        options: &[format("places"), ON_THREADS, EXPLAINED],
+        options: &[
+            Choice {
+                name: MARKS,
+                short: None,
+                takes: Takes::Input { value: "MARKS" },
+                about: "a row of n bits for each word, back to back, with ones at its unsteady places",
+            },
+            format("places"),
+            ON_THREADS,
+            EXPLAINED,
+        ],
         about: "read words of n bits",
         details: "\
 Reads the words that stand back to back in FILE with the key file KEY: finds the
@@ -260,6 +271,21 @@ summary on standard error has the total, as in
     shearcotter: words: total 3 read 2 refused 1
 
 and what the numbers mean by which words were refused.
+
+With --marks some places of a word are unsteady: their bits are known only to be
+0 or 1. MARKS has a row of n bits for each word, in the words' order, with ones
+at these places, and so as many bytes as FILE. Where s places are marked and d
+others differ, the code word is the only one with 2d + s at most 2t; without one
+the word is refused 14. COUNT is d, and the unmarked places that differ follow.
+Where marked ones differ too, they stand behind these with a count of their own:
+
+    POSITION read COUNT PLACES... marked COUNT PLACES...
+
+In hex the bytes have all differences, and `marked COUNT` stands behind them. In
+json `unmarked` is d, `ones` and `places` are those of all differences, and
+`marked` lists the marked ones. A word is refused 37 where its marks are missing
+or have a filler bit set. Where MARKS and FILE are files of lengths that do not
+fit, or marks are left behind the last word, the status is 2.
 ",
         run: opening::read,
     },

@@ -1,6 +1,6 @@
 //! How rows and their patterns are printed.
 
-use shearcotter::{Name, Pattern};
+use shearcotter::{MarkedReading, Name, Pattern};
 
 use crate::explain::Explained;
 use crate::rows::Answer;
@@ -46,6 +46,8 @@ pub const OPEN: &str = "open";
 pub const READ: &str = "read";
 pub const SESSION: &str = "session";
 pub const REFUSED: &str = "refused";
+/// Stands before the differences at marked places.
+pub const MARKED: &str = "marked";
 
 /// How the rows of a file are answered.
 pub struct Form {
@@ -65,23 +67,56 @@ impl Form {
     pub fn accepted(&self, position: u64, name: Option<Name>, pattern: &Pattern) -> Answer {
         let text = match self.format {
             Format::Raw => pattern.bytes().to_vec(),
-            Format::Places => self.line(position, name, pattern, &separated(pattern, " ")),
-            Format::Hex => self.line(position, name, pattern, &hex(pattern.bytes())),
             Format::Json => {
-                let (ones, places) = (pattern.ones(), separated(pattern, ","));
-                let answer = json_answer(position, self.word, 0, "accepted");
                 let name = name.map_or(String::new(), |name| format!(",\"recipient\":\"{name}\""));
-                format!("{{{answer}{name},\"ones\":{ones},\"places\":[{places}]}}\n").into_bytes()
+                self.object(position, &name, pattern, "")
+            }
+            Format::Places | Format::Hex => {
+                let name = name.map_or(String::new(), |name| format!(" {name}"));
+                let count = if self.counted { format!(" {}", pattern.ones()) } else { String::new() };
+                self.line(position, &(name + &count), pattern, pattern.places(), "")
             }
         };
         Answer { text: text.into(), notes: String::new(), number: 0 }
     }
 
-    fn line(&self, position: u64, name: Option<Name>, pattern: &Pattern, written: &str) -> Vec<u8> {
-        let name = name.map_or(String::new(), |name| format!(" {name}"));
-        let count = if self.counted { format!(" {}", pattern.ones()) } else { String::new() };
+    /// A marked reading: d, and the differences, those at marked places apart; where there are none of these, as without marks.
+    pub fn marked(&self, position: u64, reading: &MarkedReading, marks: &[u8]) -> Answer {
+        let (pattern, unmarked) = (reading.differences(), reading.unmarked());
+        let is_marked = |place: &usize| marks[place / 8] >> (place % 8) & 1 == 1;
+        let (at_marks, others): (Vec<usize>, Vec<usize>) = pattern.places().partition(is_marked);
+        let behind = match (self.format, at_marks.len()) {
+            (Format::Json, _) => format!(",\"marked\":[{}]", joined(at_marks, ",")),
+            (_, 0) => String::new(),
+            (Format::Places, count) => format!(" {MARKED} {count} {}", joined(at_marks, " ")),
+            (_, count) => format!(" {MARKED} {count}"),
+        };
+        let text = match self.format {
+            Format::Raw => pattern.bytes().to_vec(),
+            Format::Json => self.object(position, &format!(",\"unmarked\":{unmarked}"), pattern, &behind),
+            Format::Places | Format::Hex => self.line(position, &format!(" {unmarked}"), pattern, others, &behind),
+        };
+        Answer { text: text.into(), notes: String::new(), number: 0 }
+    }
+
+    /// The places are those to be listed; the bytes are all of the pattern.
+    fn line(
+        &self,
+        position: u64,
+        before: &str,
+        pattern: &Pattern,
+        places: impl IntoIterator<Item = usize>,
+        behind: &str,
+    ) -> Vec<u8> {
+        let written = if self.format == Format::Hex { hex(pattern.bytes()) } else { joined(places, " ") };
         let blank = if written.is_empty() { "" } else { " " };
-        format!("{position} {}{name}{count}{blank}{written}\n", self.word).into_bytes()
+        format!("{position} {}{before}{blank}{written}{behind}\n", self.word).into_bytes()
+    }
+
+    fn object(&self, position: u64, before: &str, pattern: &Pattern, behind: &str) -> Vec<u8> {
+        let (answer, ones) = (json_answer(position, self.word, 0, "accepted"), pattern.ones());
+        let places = joined(pattern.places(), ",");
+        format!("{{{answer}{before},\"ones\":{ones},\"places\":[{places}]{behind}}}\n").into_bytes()
     }
 
     /// A session key, which is in the text and nowhere else.
@@ -130,8 +165,8 @@ fn json_answer(position: u64, word: &str, number: u8, words: &str) -> String {
     format!("\"position\":{position},\"answer\":\"{word}\",\"number\":{number},\"words\":{}", json::quoted(words))
 }
 
-fn separated(pattern: &Pattern, separator: &str) -> String {
-    pattern.places().map(|place| place.to_string()).collect::<Vec<_>>().join(separator)
+fn joined(places: impl IntoIterator<Item = usize>, separator: &str) -> String {
+    places.into_iter().map(|place| place.to_string()).collect::<Vec<_>>().join(separator)
 }
 
 fn hex(bytes: &[u8]) -> String {

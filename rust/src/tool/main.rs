@@ -17,6 +17,7 @@ mod json;
 mod keys;
 mod locking;
 mod manual;
+mod marking;
 mod names;
 mod opening;
 mod patterns;

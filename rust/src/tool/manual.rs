@@ -34,6 +34,10 @@ A report on a card, with a record for each of its capsules:
 
     shearcotter report --records card.records office.key card
 
+Words of chips with unsteady cells, read with a row of marks for each word:
+
+    shearcotter read --marks chips.marks office.key chips.words
+
 Patterns as they were printed, locked again:
 
     shearcotter open --format hex office.key capsules > patterns

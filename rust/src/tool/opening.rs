@@ -6,7 +6,7 @@ use std::thread;
 use shearcotter::{Refusal, Shape};
 
 use crate::arguments::Given;
-use crate::commands::{EXPLAIN, FORMAT, JOBS, MOST_JOBS};
+use crate::commands::{EXPLAIN, FORMAT, JOBS, MARKS, MOST_JOBS};
 use crate::explain::{self, Row};
 use crate::failure::{self, Failure};
 use crate::formats::{self, Form, Format};
@@ -14,7 +14,7 @@ use crate::recipients::{Recipients, Tally};
 use crate::rows::{self, Answer, Rows};
 use crate::status::Status;
 use crate::table::QUIET;
-use crate::{keys, names};
+use crate::{keys, marking, names};
 
 /// The command `open`.
 pub fn open(given: &Given) -> Result<Status, Failure> {
@@ -35,6 +35,9 @@ pub fn read(given: &Given) -> Result<Status, Failure> {
     let [key, file] = given.operands();
     let (station, _, shape) = keys::load(key)?;
     let form = form(given, file, formats::READ, true);
+    if let Some(marks) = given.file(MARKS) {
+        return marking::read(given, (&station, shape), file, marks, &form);
+    }
     let tally = answers(given, file, (Row::Word, shape), form, |form, position, word| {
         station.read(keys::ONLY, word).map(|pattern| form.accepted(position, None, &pattern))
     })?;
@@ -54,12 +57,17 @@ pub fn answers(
     form: Form,
     accepted: impl Fn(&Form, u64, &[u8]) -> Result<Answer, Refusal> + Sync,
 ) -> Result<Tally, Failure> {
-    let rows = Rows::new(file, kind.length(shape), kind.plural(), !given.has(QUIET))?;
-    let counts = rows::each(rows, jobs(given), |position, row| {
+    let rows = rows(given, file, kind, shape)?;
+    let counts = rows::each(rows, jobs(given), |position, row, _| {
         let refused = |refusal| form.refused(position, &explain::row(kind, shape, row, refusal));
         accepted(&form, position, row).unwrap_or_else(refused)
     })?;
     Ok(counts.into())
+}
+
+/// The rows of a file, of a kind.
+pub fn rows(given: &Given, file: &OsStr, kind: Row, shape: Shape) -> Result<Rows, Failure> {
+    Rows::new(file, kind.length(shape), kind.plural(), !given.has(QUIET))
 }
 
 /// Says at the end how many rows there were and by which numbers some were refused; where each row was explained, not the numbers.

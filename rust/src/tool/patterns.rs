@@ -133,7 +133,7 @@ fn no_pattern() -> String {
 }
 
 /// The words behind `POSITION open`, `POSITION open NAME` or `POSITION read COUNT`, with the count; all words where a line has
-/// none of these. No place and no hexadecimal word is a name.
+/// none of these. No place and no hexadecimal word is a name. Behind `read`, those of `marked COUNT` and its count are added.
 fn pattern_words(line: &str) -> Result<(Option<u64>, Vec<&str>), String> {
     let words: Vec<&str> = line.split_ascii_whitespace().collect();
     match words[..] {
@@ -143,13 +143,23 @@ fn pattern_words(line: &str) -> Result<(Option<u64>, Vec<&str>), String> {
             Ok((None, rest.to_vec()))
         }
         [position, formats::OPEN, ref rest @ ..] if decimal(position).is_some() => Ok((None, rest.to_vec())),
-        [position, formats::READ, count, ref rest @ ..] if decimal(position).is_some() => {
-            let count = decimal(count).ok_or_else(|| format!("{} is no count", names::shown(count)))?;
-            Ok((Some(count), rest.to_vec()))
+        [position, formats::READ, said, ref rest @ ..] if decimal(position).is_some() => {
+            match rest.iter().position(|word| *word == formats::MARKED) {
+                None => Ok((Some(count(said)?), rest.to_vec())),
+                Some(at) => {
+                    let marked = count(rest.get(at + 1).ok_or("no count behind marked")?)?;
+                    let words = rest[..at].iter().chain(rest.iter().skip(at + 2));
+                    Ok((Some(count(said)?.saturating_add(marked)), words.copied().collect()))
+                }
+            }
         }
         [position, formats::REFUSED, ..] if decimal(position).is_some() => Err(no_pattern()),
         _ => Ok((None, words)),
     }
+}
+
+fn count(word: &str) -> Result<u64, String> {
+    decimal(word).ok_or_else(|| format!("{} is no count", names::shown(word)))
 }
 
 /// The number of ones that a line says, if it does, is the pattern's.

@@ -1,26 +1,32 @@
-//! Rows of one length, back to back: answered on several threads, one by one or in blocks, written in their order.
+//! Rows of one length, back to back: answered on several threads, one by one or in blocks, written in their order. Each may have a
+//! row of marks, from a second input.
 //!
 //! A reader cuts the input into batches, workers answer them, and the calling thread, to which all report, hands the
 //! batches to the workers and writes what they answered. Batches are used again and there is a fixed number of them,
 //! so that an endless input takes bounded memory. When the calling thread stops, for whatever reason, the workers do,
 //! and what `answer` holds is dropped; the reader may still wait for input, and holds none of it.
 
+mod reader;
+
 use std::collections::BTreeMap;
 use std::ffi::OsStr;
-use std::io::{self, IsTerminal, Read, Write};
-use std::panic;
+use std::io::{self, IsTerminal, Write};
 use std::path::{Path, PathBuf};
 use std::sync::mpsc::{self, Receiver, Sender};
 use std::sync::Mutex;
 use std::thread::{self, Builder, Scope};
 use std::time::{Duration, Instant};
+use std::{iter, panic};
 
 use shearcotter::{raw, Counts};
 
 use crate::failure::Failure;
 use crate::files::{self, Input, Output, STANDARD};
 use crate::progress::Progress;
+use crate::status::Status;
 use crate::wiped::Wiped;
+use crate::{explain, names};
+use reader::{Reader, Source};
 
 /// A batch begins as one row, and has more while answering it takes less time than this, so that lines come soon.
 const SHORT: Duration = Duration::from_millis(1);
@@ -39,9 +45,12 @@ const STACK: usize = 8 * raw::STACK;
 
 /// Rows of one length, back to back.
 pub struct Rows {
-    name: PathBuf,
-    input: Box<dyn Read + Send>,
+    source: Source,
+    /// A row of marks for each, back to back too.
+    marks: Option<Source>,
     length: usize,
+    /// How many bytes there are; none where that is not known.
+    bytes: Option<u64>,
     progress: Progress,
     /// How long a batch may take before it grows no more.
     together: Duration,
@@ -52,9 +61,25 @@ impl Rows {
     pub fn new(name: &OsStr, length: usize, unit: &'static str, progress: bool) -> Result<Rows, Failure> {
         files::not_an_input(OsStr::new(STANDARD), &[name])?;
         let mut input = Input::open(name)?;
-        let total = input.left().map(|bytes| bytes.div_ceil(length as u64));
+        let bytes = input.left();
+        let total = bytes.map(|bytes| bytes.div_ceil(length as u64));
         let progress = Progress::new(total, unit, progress);
-        Ok(Rows { name: input.name, input: Box::new(input.file), length, progress, together: SHORT })
+        Ok(Rows { source: input.into(), marks: None, length, bytes, progress, together: SHORT })
+    }
+
+    /// With a row of marks for each, from a second input. Where both lengths are known, they fit before any row is answered.
+    pub fn with_marks(self, name: &OsStr) -> Result<Rows, Failure> {
+        files::not_an_input(OsStr::new(STANDARD), &[name])?;
+        let mut input = Input::open(name)?;
+        if let (Some(bytes), Some(found)) = (self.bytes, input.left()) {
+            let length = self.length as u64;
+            // A short last row is refused whatever its marks are.
+            if ![bytes, bytes.next_multiple_of(length)].contains(&found) {
+                let explained = explain::marks_file(self.length, bytes.div_ceil(length), Some(found));
+                return Err(Failure::Refused(names::input(name), explained, Status::Failed));
+            }
+        }
+        Ok(Rows { marks: Some(input.into()), ..self })
     }
 }
 
@@ -68,8 +93,9 @@ pub struct Answer {
     pub number: u8,
 }
 
-/// Writes the answer to each row, given its position from 1, in the rows' order; `jobs` of them at a time.
-pub fn each(rows: Rows, jobs: usize, answer: impl Fn(u64, &[u8]) -> Answer + Sync) -> Result<Counts, Failure> {
+/// Writes the answer to each row, given its position from 1 and its marks, in the rows' order; `jobs` of them at a time. Where marks
+/// are missing they are empty.
+pub fn each(rows: Rows, jobs: usize, answer: impl Fn(u64, &[u8], &[u8]) -> Answer + Sync) -> Result<Counts, Failure> {
     let mut out = files::standard_output()?;
     let on_terminal = out.is_terminal();
     each_to(Streams { out: &mut out, name: None, error: &mut io::stderr(), on_terminal }, rows, jobs, answer)
@@ -79,7 +105,7 @@ fn each_to(
     streams: Streams,
     rows: Rows,
     jobs: usize,
-    answer: impl Fn(u64, &[u8]) -> Answer + Sync,
+    answer: impl Fn(u64, &[u8], &[u8]) -> Answer + Sync,
 ) -> Result<Counts, Failure> {
     let length = rows.length;
     batches(streams, rows, jobs, |batch| {
@@ -126,15 +152,7 @@ fn batches(
     let (spare, empty) = mpsc::channel();
     let (work, queue) = mpsc::channel();
     let queue = Mutex::new(queue);
-    let reader = Reader {
-        input: rows.input,
-        length: rows.length,
-        together: rows.together,
-        rows: 1,
-        position: 1,
-        tail: vec![],
-        ended: false,
-    };
+    let reader = Reader::new(rows.source, rows.marks, rows.length, rows.together);
     let writer =
         Writer { streams, progress: rows.progress, events, work, spare, written: 0, answered: BTreeMap::new() };
     let failed = |error| Failure::file("a thread".as_ref(), error);
@@ -144,10 +162,7 @@ fn batches(
         start_reader(reader, empty, Report(report.clone())).map_err(failed)?;
         let start = || start_worker(scope, &queue, &answer, Report(report.clone()));
         let workers = as_many_as_start(jobs, start).map_err(failed)?;
-        writer.run(workers * FOR_EACH_WORKER).and_then(|(counts, end)| match end {
-            Ok(()) => Ok(counts),
-            Err(error) => Err(Failure::file(&rows.name, error)),
-        })
+        writer.run(workers * FOR_EACH_WORKER).and_then(|(counts, end)| end.map(|()| counts))
     })
 }
 
@@ -157,6 +172,8 @@ struct Batch {
     /// The position of the first row, from 1.
     first: u64,
     rows: Vec<u8>,
+    /// Their marks, as far as there are some.
+    marks: Vec<u8>,
     /// The answers' texts, one behind the other.
     text: Wiped,
     /// The answers' notes, each with the length of the text before it.
@@ -168,9 +185,10 @@ struct Batch {
 }
 
 impl Batch {
-    fn answer(&mut self, length: usize, answer: &impl Fn(u64, &[u8]) -> Answer) {
-        for (position, row) in (self.first..).zip(self.rows.chunks(length)) {
-            let answer = answer(position, row);
+    fn answer(&mut self, length: usize, answer: &impl Fn(u64, &[u8], &[u8]) -> Answer) {
+        let marks = self.marks.chunks(length).chain(iter::repeat(&[][..]));
+        for ((position, row), marks) in (self.first..).zip(self.rows.chunks(length)).zip(marks) {
+            let answer = answer(position, row, marks);
             self.text.extend(&answer.text);
             self.numbers.push(answer.number);
             if !answer.notes.is_empty() {
@@ -188,6 +206,7 @@ impl Batch {
 
     fn clear(&mut self) {
         self.rows.clear();
+        self.marks.clear();
         self.notes.clear();
         self.numbers.clear();
     }
@@ -202,7 +221,7 @@ enum Event {
     /// Rows could not be answered.
     Failed(Failure),
     /// No more rows are read.
-    End(io::Result<()>),
+    End(Result<(), Failure>),
     /// A thread has panicked.
     Lost,
 }
@@ -222,61 +241,6 @@ impl Drop for Report {
         if thread::panicking() {
             self.send(Event::Lost);
         }
-    }
-}
-
-/// Cuts the input into batches.
-struct Reader {
-    input: Box<dyn Read + Send>,
-    length: usize,
-    /// How long a batch may take before it grows no more.
-    together: Duration,
-    /// Rows of a full batch.
-    rows: usize,
-    /// The position of the next row.
-    position: u64,
-    /// The part of that row which has been read.
-    tail: Vec<u8>,
-    ended: bool,
-}
-
-impl Reader {
-    fn next(&mut self, mut batch: Batch) -> Event {
-        self.learn(&batch);
-        batch.clear();
-        match self.fill(&mut batch.rows) {
-            Err(error) => Event::End(Err(error)),
-            Ok(()) if batch.rows.is_empty() => Event::End(Ok(())),
-            Ok(()) => {
-                batch.first = self.position;
-                self.position += batch.rows.len().div_ceil(self.length) as u64;
-                Event::Read(batch)
-            }
-        }
-    }
-
-    /// Doubles the batches while a full one takes little time.
-    fn learn(&mut self, answered: &Batch) {
-        let full = answered.numbers.len() == self.rows;
-        if full && answered.took < self.together && self.rows * self.length < MANY {
-            self.rows *= 2;
-        }
-    }
-
-    /// Takes the whole rows that are there by now, and waits for one where there is none; the last may be shorter.
-    fn fill(&mut self, rows: &mut Vec<u8>) -> io::Result<()> {
-        if self.ended {
-            return Ok(());
-        }
-        rows.append(&mut self.tail);
-        let begun = rows.len();
-        rows.resize(self.rows * self.length, 0);
-        let filled = files::read_at_least(&mut self.input, rows, begun, self.length)?;
-        self.ended = filled < self.length;
-        let whole = if self.ended { filled } else { filled - filled % self.length };
-        self.tail.extend_from_slice(&rows[whole..filled]);
-        rows.truncate(whole);
-        Ok(())
     }
 }
 
@@ -340,7 +304,7 @@ struct Writer<'a> {
 
 impl Writer<'_> {
     /// Until everything that was read is written; then the counts, and how reading ended.
-    fn run(mut self, batches: usize) -> Result<(Counts, io::Result<()>), Failure> {
+    fn run(mut self, batches: usize) -> Result<(Counts, Result<(), Failure>), Failure> {
         for _ in 0..batches {
             let _ = self.spare.send(Batch::default());
         }

@@ -32,7 +32,7 @@ type Tally = BTreeMap<Met, u64>;
 const STREAMS: u64 = 2;
 
 /// Every call, and the numbers that it has in document 01 or in its request.
-const CALLS: [(&str, &[u8]); 17] = [
+const CALLS: [(&str, &[u8]); 18] = [
     ("add", &[0, 1, 4]),
     ("multiply", &[0, 1, 4]),
     ("invert", &[0, 1, 4, 32]),
@@ -48,6 +48,7 @@ const CALLS: [(&str, &[u8]); 17] = [
     ("report", &[0, 35, 21, 25, 34, 24, 31]),
     ("session", &[0, 35, 21, 25, 34, 24, 8, 9, 33]),
     ("read", &[0, 35, 21, 25, 8, 9, 10, 14]),
+    ("read_marked", &[0, 35, 21, 25, 8, 9, 37, 10, 14]),
     ("drop", &[0, 35, 21]),
     ("shake256", &[0]),
 ];
@@ -66,11 +67,12 @@ fn one_call(random: &mut Random, pool: &Pool) -> Met {
         31..=34 => unnamed(networks::convert(random, pool)),
         35..=39 => stations::load(random, pool),
         40..=43 => networks::load(random, pool),
-        44..=51 => stations::publish(random, pool),
-        52..=62 => stations::open(random, pool),
-        63..=72 => stations::report(random, pool),
-        73..=83 => stations::session(random, pool),
-        84..=95 => stations::read(random, pool),
+        44..=50 => stations::publish(random, pool),
+        51..=60 => stations::open(random, pool),
+        61..=68 => stations::report(random, pool),
+        69..=78 => stations::session(random, pool),
+        79..=87 => stations::read(random, pool),
+        88..=95 => stations::read_marked(random, pool),
         _ => stations::drop(random, pool),
     }
 }

@@ -6,7 +6,7 @@ use std::slice;
 
 use shearcotter::raw::{self, A, B};
 
-use crate::independent::drawn::{has_reading_keys, near_code_word};
+use crate::independent::drawn::{has_reading_keys, marked_word, near_code_word};
 use crate::independent::held::Held;
 use crate::independent::random::Random;
 use crate::independent::{calls, matrix, shake};
@@ -128,6 +128,24 @@ fn open_and_read(random: &mut Random, held: &Held, cut: usize) {
     written(&out, &expected);
 }
 
+/// Marks as long as the word or shorter, and room as needed, or one byte less or more.
+fn read_marked(random: &mut Random, held: &Held, cut: usize) {
+    let (key, [(_, station), _]) = (&held.key, placed(holding(1, &held.key)));
+    let [word, marks, _] = marked_word(random, held, key.t - 1, 2);
+    let word = Walled::new(&word[cut..]);
+    for (missing, more) in [(0, 1), (1, 1), (0, 0), (0, 2)] {
+        let marks = Walled::new(&marks[missing..]);
+        let out = Walled::new(&vec![0; key.n.div_ceil(8) + more - 1]);
+        let (row, marked) = ((word.start(), word.length), (marks.start(), marks.length));
+        let reply = unsafe {
+            raw::shearcotter_read_marked(station, A, row.0, row.1, marked.0, marked.1, out.start(), out.length)
+        };
+        let expected = calls::read_marked(1, held, word.bytes(), marks.bytes(), out.length);
+        assert_eq!((reply.refused, reply.ones), (expected.number, expected.ones));
+        written(&out, &expected);
+    }
+}
+
 /// Three capsules or two and a tail, with room for their records, or for one less.
 fn report(random: &mut Random, held: &Held, cut: usize) {
     let length = held.key.capsule_bits().div_ceil(8);
@@ -197,6 +215,7 @@ fn nothing_past_the_ends() {
             load_and_publish(&held, cut);
             networks(&mut random, &held, cut);
             open_and_read(&mut random, &held, cut);
+            read_marked(&mut random, &held, cut);
             report(&mut random, &held, cut);
             session(&mut random, &held, cut);
             lock(&mut random, &held, cut);
@@ -206,6 +225,7 @@ fn nothing_past_the_ends() {
             for cut in [0, 1] {
                 load_and_publish(&held, cut);
                 open_and_read(&mut random, &held, cut);
+                read_marked(&mut random, &held, cut);
                 report(&mut random, &held, cut);
             }
         }

@@ -3,7 +3,7 @@
 use std::sync::Arc;
 
 use crate::compare::small_shapes;
-use crate::independent::drawn::{has_reading_keys, near_code_word};
+use crate::independent::drawn::{has_reading_keys, marked_about, near_code_word};
 use crate::independent::held::Held;
 use crate::independent::matrix;
 use crate::independent::random::Random;
@@ -88,6 +88,19 @@ pub fn word(random: &mut Random, held: &Held) -> Vec<u8> {
         _ => {
             let errors = random.below(held.key.t + 2);
             near_code_word(random, held, errors)
+        }
+    }
+}
+
+/// A word and marks: about the bound, the marks mostly fitting, or a word as for read with random marks or filler in them.
+pub fn marked_word(random: &mut Random, held: &Held) -> [Vec<u8>; 2] {
+    let n = held.key.n;
+    match random.below(6) {
+        0 => [word(random, held), random.row(n)],
+        1 => [word(random, held), random.bytes(n.div_ceil(8))],
+        _ => {
+            let [word, marks, _] = marked_about(random, held);
+            [word, random.mostly_fitting(n, marks)]
         }
     }
 }

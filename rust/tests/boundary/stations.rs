@@ -5,7 +5,7 @@ use std::sync::Arc;
 use shearcotter::raw::{self, Reply, Slot, Station, A, B};
 
 use super::buffers::{awkward, cut, holding, noise};
-use super::pool::{capsule, word, Pool};
+use super::pool::{capsule, marked_word, word, Pool};
 use super::{Met, NONE};
 use crate::independent::calls::{self as expected, Outcome};
 use crate::independent::held::Held;
@@ -321,6 +321,32 @@ pub fn read(random: &mut Random, pool: &Pool) -> Met {
     out.written(&expected.written);
     word.same();
     case.met("read", reply.refused)
+}
+
+pub fn read_marked(random: &mut Random, pool: &Pool) -> Met {
+    let case = any(random, pool);
+    let held = fitting(random, pool, &case);
+    let [mut row, mut marked] = marked_word(random, &held);
+    if random.one_in(6) {
+        row = cut(random, row);
+    }
+    if random.one_in(6) {
+        marked = cut(random, marked);
+    }
+    let (word, marks) = (holding(random, &row), holding(random, &marked));
+    let length = awkward(random, held.key.n.div_ceil(8));
+    let mut out = noise(random, length);
+    let (row, marked) = ((word.as_ptr(), word.len()), (marks.as_ptr(), marks.len()));
+    let (lent, room) = (out.as_mut_ptr(), out.len());
+    let reply =
+        unsafe { raw::shearcotter_read_marked(case.station, case.name, row.0, row.1, marked.0, marked.1, lent, room) };
+    let expected =
+        case.expected(|state, held| expected::read_marked(state, held, word.content(), marks.content(), length));
+    case.same(&reply, &expected, case.slot);
+    out.written(&expected.written);
+    word.same();
+    marks.same();
+    case.met("read_marked", reply.refused)
 }
 
 pub fn drop(random: &mut Random, pool: &Pool) -> Met {

@@ -10,7 +10,8 @@ use super::matrix;
 use super::network_key;
 use super::shake::shake256;
 
-/// A number, or 0 with the bytes written from the output's start and the ones among them.
+/// A number, or 0 with the bytes written from the output's start and the ones among them; of a marked reading those at unmarked
+/// places.
 #[derive(Clone, PartialEq, Eq, Debug, Default)]
 pub struct Outcome {
     pub number: u8,
@@ -178,6 +179,27 @@ pub fn read(state: u8, held: &Held, word: &[u8], out: usize) -> Outcome {
         return refused(number);
     }
     pattern(held, held.read(word), 14)
+}
+
+/// As read, with 37 behind 9; the ones are the differences at unmarked places.
+pub fn read_marked(state: u8, held: &Held, word: &[u8], marks: &[u8], out: usize) -> Outcome {
+    let n = held.key.n;
+    let bad_marks = || marks.len() != n.div_ceil(8) || bits::filler_set(n, marks);
+    let number = match held_number(state, held) {
+        0 => match row_number(held, n, word, usize::MAX) {
+            0 => first(&[(bad_marks(), 37), (out < n.div_ceil(8), 10)]),
+            other => other,
+        },
+        other => other,
+    };
+    if number != 0 {
+        return refused(number);
+    }
+    held.read_marked(word, marks).map_or(refused(14), |(places, unmarked)| Outcome {
+        number: 0,
+        ones: unmarked as u16,
+        written: bits::pack(n, places),
+    })
 }
 
 pub fn lock(shape: (u8, u16, u16), public: &[u8], pattern: &[u8], out: usize) -> Outcome {

@@ -68,6 +68,32 @@ pub fn near_code_word(random: &mut Random, held: &Held, errors: usize) -> Vec<u8
     word.iter().zip(turned).map(|(byte, turn)| byte ^ turn).collect()
 }
 
+/// A code word with so many bits turned at unmarked places and so many marked bits drawn: the word, the marks, and all differences.
+pub fn marked_word(random: &mut Random, held: &Held, errors: usize, marked: usize) -> [Vec<u8>; 3] {
+    let n = held.key.n;
+    let mut places: Vec<usize> = (0..n).collect();
+    random.shuffle(&mut places, errors + marked);
+    let (turned, marked) = places[..errors + marked].split_at(errors);
+    let drawn: Vec<usize> = marked.iter().copied().filter(|_| random.one_in(2)).collect();
+    let differences = bits::pack(n, turned.iter().chain(&drawn).copied());
+    let code_word = near_code_word(random, held, 0);
+    let word = code_word.iter().zip(&differences).map(|(byte, turn)| byte ^ turn).collect();
+    [word, bits::pack(n, marked.iter().copied()), differences]
+}
+
+/// A marked word about where it begins to be refused: 2d + s from below 2t to above it, as far as there are places.
+pub fn marked_about(random: &mut Random, held: &Held) -> [Vec<u8>; 3] {
+    let (n, t) = (held.key.n, held.key.t);
+    let marked = random.below((2 * t + 3).min(n + 1));
+    let bound = (2 * t).saturating_sub(marked) / 2;
+    let errors = match random.below(4) {
+        0 => random.below(bound + 1),
+        1 => bound + 1,
+        _ => bound,
+    };
+    marked_word(random, held, errors.min(n - marked), marked)
+}
+
 fn field(m: u8) -> &'static Field {
     Field::of(m).expect("a width of document 01")
 }

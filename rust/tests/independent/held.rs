@@ -66,7 +66,22 @@ impl Held {
         }
     }
 
-    /// The same, accepted only with exactly t ones.
+    /// The places where a well-formed word differs from the only code word with 2d + s ≤ 2t, where s places are marked and d of
+    /// the others differ; and d.
+    pub fn read_marked(&self, word: &[u8], marks: &[u8]) -> Option<(Vec<usize>, usize)> {
+        let places = match self.reader() {
+            Reader::Search(reader) => {
+                let near = reader.near(word_of(word), word_of(marks), 2 * self.key.t as u32);
+                assert!(near.len() <= 1, "two code words have 2d + s ≤ 2t");
+                bits::places(self.key.n, &near.first()?.to_le_bytes())
+            }
+            Reader::Euclid(reader) => reader.read_marked(word, marks)?,
+        };
+        let unmarked = places.iter().filter(|i| !bits::bit(marks, **i)).count();
+        Some((places, unmarked))
+    }
+
+    /// The pattern of a capsule: a reading, accepted only with exactly t ones.
     pub fn open(&self, capsule: &[u8]) -> Option<Vec<usize>> {
         self.read(capsule).filter(|places| places.len() == self.key.t)
     }

@@ -2,7 +2,7 @@
 
 use std::sync::Arc;
 
-use super::drawn::near_code_word;
+use super::drawn::{marked_about, near_code_word};
 use super::drawn_networks::DAMAGES;
 use super::held::Held;
 use super::matrix;
@@ -92,6 +92,10 @@ impl Drawing<'_> {
             }
             "open" => Call::Open { capsule: self.capsule(held), out: self.buffer(key.n.div_ceil(8)) },
             "read" => Call::Read { word: self.word(held), out: self.buffer(key.n.div_ceil(8)) },
+            "read_marked" => {
+                let (word, marks) = self.marked(held);
+                Call::ReadMarked { word, marks, out: self.buffer(key.n.div_ceil(8)) }
+            }
             "report" => {
                 let count = self.random.below(5);
                 let mut capsules: Vec<u8> = (0..count).flat_map(|_| self.capsule(held)).collect();
@@ -173,6 +177,19 @@ impl Drawing<'_> {
         match locked.public() {
             Some(public) => matrix::lock(key.m, key.n, key.t, public, &pattern),
             None => self.random.row(key.capsule_bits()),
+        }
+    }
+
+    /// A word and marks about the bound, marks of another length or with filler, a word as for read with any marks, or none set.
+    fn marked(&mut self, held: &Held) -> (Vec<u8>, Vec<u8>) {
+        let n = held.key.n;
+        match self.random.below(6) {
+            0 => (self.word(held), self.random.row(n)),
+            1 => (self.word(held), vec![0; n.div_ceil(8)]),
+            _ => {
+                let [word, marks, _] = marked_about(self.random, held);
+                (word, self.random.mostly_fitting(n, marks))
+            }
         }
     }
 

@@ -64,13 +64,18 @@ impl Random {
 
     /// A secret for patterns of n bits: mostly as it has to be, else of another length or with a filler bit set, if it has any.
     pub fn secret(&mut self, n: usize) -> Vec<u8> {
-        let mut secret = self.row(n);
+        let secret = self.row(n);
+        self.mostly_fitting(n, secret)
+    }
+
+    /// The row of n bits mostly as it is, else of another length or with a filler bit set, if it has any.
+    pub fn mostly_fitting(&mut self, n: usize, mut row: Vec<u8>) -> Vec<u8> {
         match self.below(8) {
-            0 if n > 0 => secret = self.other_length(secret),
-            1 if n % 8 > 0 => bits::set(&mut secret, n + self.below(8 - n % 8)),
+            0 if n > 0 => row = self.other_length(row),
+            1 if n % 8 > 0 => bits::set(&mut row, n + self.below(8 - n % 8)),
             _ => {}
         }
-        secret
+        row
     }
 
     /// A packed pattern of n bits with the given number of ones.

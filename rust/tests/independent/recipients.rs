@@ -18,6 +18,7 @@ pub enum Call {
     Publish { out: Vec<u8>, work: Vec<u8> },
     Open { capsule: Vec<u8>, out: Vec<u8> },
     Read { word: Vec<u8>, out: Vec<u8> },
+    ReadMarked { word: Vec<u8>, marks: Vec<u8>, out: Vec<u8> },
     Report { capsules: Vec<u8>, out: Vec<u8> },
     Session { capsule: Vec<u8>, secret: Vec<u8> },
     Drop,
@@ -31,6 +32,7 @@ impl Call {
             Call::Publish { .. } => "publish",
             Call::Open { .. } => "open",
             Call::Read { .. } => "read",
+            Call::ReadMarked { .. } => "read_marked",
             Call::Report { .. } => "report",
             Call::Session { .. } => "session",
             Call::Drop => "drop",
@@ -40,9 +42,11 @@ impl Call {
     /// The output as it is lent.
     pub fn out(&self) -> &[u8] {
         match self {
-            Call::Publish { out, .. } | Call::Open { out, .. } | Call::Read { out, .. } | Call::Report { out, .. } => {
-                out
-            }
+            Call::Publish { out, .. }
+            | Call::Open { out, .. }
+            | Call::Read { out, .. }
+            | Call::ReadMarked { out, .. }
+            | Call::Report { out, .. } => out,
             Call::Load { .. } | Call::LoadNetwork { .. } | Call::Session { .. } | Call::Drop => &[],
         }
     }
@@ -113,6 +117,9 @@ impl Entry {
             Call::Publish { out, work } => Answer::written(&calls::publish(state, &held, out.len(), work.len()), call),
             Call::Open { capsule, out } => Answer::written(&calls::open(state, &held, capsule, out.len()), call),
             Call::Read { word, out } => Answer::written(&calls::read(state, &held, word, out.len()), call),
+            Call::ReadMarked { word, marks, out } => {
+                Answer::written(&calls::read_marked(state, &held, word, marks, out.len()), call)
+            }
             Call::Report { capsules, out } => {
                 let outcome = calls::report(state, &held, capsules, out.len());
                 Answer { counts: calls::counts(&outcome.written), ..Answer::written(&outcome, call) }

@@ -1,4 +1,4 @@
-//! Reading for m 4 by search: every pattern of at most t ones, by its defining sums.
+//! Reading for m 4 by search: every pattern of at most t ones, by its defining sums; with marks, every code word.
 
 use super::key::Key;
 use super::poly::value;
@@ -8,6 +8,8 @@ pub struct Reader {
     columns: Vec<u16>,
     /// For each value of the sums, the pattern that has them.
     patterns: Vec<Option<u16>>,
+    /// All words whose sums are 0.
+    code_words: Vec<u16>,
 }
 
 fn columns(key: &Key) -> Vec<u16> {
@@ -27,8 +29,10 @@ fn columns(key: &Key) -> Vec<u16> {
 impl Reader {
     /// Only for m 4; n is then at most 16 and t at most 3.
     pub fn new(key: &Key) -> Reader {
-        let mut reader = Reader { columns: columns(key), patterns: vec![None; 1 << (4 * key.t)] };
+        let mut reader = Reader { columns: columns(key), patterns: vec![None; 1 << (4 * key.t)], code_words: vec![] };
         reader.enter(0, 0, 0, key.t);
+        let words = 0..1_usize << key.n;
+        reader.code_words = words.map(|word| word as u16).filter(|word| reader.sums(*word) == 0).collect();
         reader
     }
 
@@ -45,9 +49,18 @@ impl Reader {
         }
     }
 
-    pub fn read(&self, word: u16) -> Option<u16> {
+    fn sums(&self, word: u16) -> u16 {
         let ones = self.columns.iter().enumerate();
-        let sums = ones.filter(|(i, _)| word >> i & 1 == 1).fold(0, |sum, (_, column)| sum ^ column);
-        self.patterns[usize::from(sums)]
+        ones.filter(|(i, _)| word >> i & 1 == 1).fold(0, |sum, (_, column)| sum ^ column)
+    }
+
+    pub fn read(&self, word: u16) -> Option<u16> {
+        self.patterns[usize::from(self.sums(word))]
+    }
+
+    /// The differences from each code word with 2d + s at most `most`, where s bits are marked and d of the others differ.
+    pub fn near(&self, word: u16, marks: u16, most: u32) -> Vec<u16> {
+        let differences = self.code_words.iter().map(|code_word| code_word ^ word);
+        differences.filter(|e| 2 * (e & !marks).count_ones() + marks.count_ones() <= most).collect()
     }
 }

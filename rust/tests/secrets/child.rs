@@ -10,6 +10,7 @@ use std::{env, iter};
 
 use shearcotter::{from_network, raw, to_network, wipe, Name, Refusal, Shape, Station};
 
+use crate::independent::bits::pack;
 use crate::support::{raw_calls, vectors};
 
 const VARIABLE: &str = "SHEARCOTTER_CHILD";
@@ -38,6 +39,7 @@ pub enum Point {
     SessionsWiped,
     SecretWiped,
     Read,
+    ReadMarked,
     SecondPublished,
     FirstDropped,
     StationDropped,
@@ -176,8 +178,13 @@ fn with_the_crate() {
     pause(Point::Reported);
     derive(&station, &capsule[..]);
     let word: Vec<u8> = capsule.iter().copied().chain(iter::repeat(0)).take(436).collect();
-    assert_eq!(station.read(Name::A, &word).expect("it reads").clone().ones(), 64);
+    let read = station.read(Name::A, &word).expect("it reads").clone();
+    assert_eq!(read.ones(), 64);
+    let marks = pack(3488, read.places().take(2));
+    drop(read);
     pause(Point::Read);
+    assert_eq!(station.read_marked(Name::A, &word, &marks).expect("it reads").clone().unmarked(), 62);
+    pause(Point::ReadMarked);
     hold_two(&mut station);
     drop(station);
     pause(Point::StationDropped);

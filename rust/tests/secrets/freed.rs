@@ -64,6 +64,8 @@ fn blocks_are_zeros_when_freed() {
     assert_eq!(freed(shape.pattern_length(), || drop(pattern)), (1, 0));
     let read = station.read(Name::A, &word).expect("it reads");
     assert_eq!(freed(shape.pattern_length(), || drop(read)), (1, 0));
+    let marked = station.read_marked(Name::A, &word, &vec![0; word.len()]).expect("it reads");
+    assert_eq!(freed(shape.pattern_length(), || drop(marked)), (1, 0));
     assert_eq!(freed(size_of::<raw::Station>(), || drop(station)), (1, 0));
     // What `into_bytes` hands over is the caller's, and shows that bytes other than 0 are seen.
     let (blocks, bytes) = freed(shape.pattern_length(), || drop(ones));

@@ -9,6 +9,7 @@ use shearcotter::{
     field, from_network, lock, lock_into, raw, register, shake256, to_network, Name, Recipient, Refusal, Shape, Station,
 };
 
+use crate::secrets::stack;
 use crate::support::vectors;
 
 const VARIABLE: &str = "SHEARCOTTER_LEAST";
@@ -68,8 +69,19 @@ fn own_buffers(mut office: Recipient<&mut Station>) {
     lock_into(13, 8192, 128, &public, &pattern, &mut row).expect("it locks");
     assert_eq!(office.open(&row).expect("it opens").bytes(), pattern);
     assert_eq!(office.report(&capsule.repeat(3)).expect("a report").records(), [0; 3]);
+    // Of all capsules and words the dense ones take the most stack.
+    let (dense, far) = (vec![0xFF; capsule.len()], vec![0x55; pattern.len()]);
+    assert_eq!(office.open(&dense).err(), Some(Refusal::NoPattern));
+    assert_eq!(office.report(&dense.repeat(3)).expect("a report").records(), [13; 3]);
+    assert_eq!(office.read(&far).err(), Some(Refusal::NoCodeWord));
+    assert_eq!(office.read_marked(&far, &pattern).err(), Some(Refusal::NoCodeWord));
+    let (code_word, marks) = stack::code_word(&public);
+    assert_eq!(office.read_marked(&code_word, &marks).expect("it reads").unmarked(), 0);
     assert_eq!(office.read(&pattern).expect("it reads").ones(), 128);
-    for capsule in [capsule, file("capsule_reject.bin")] {
+    for (marks, unmarked) in [(&vec![0; pattern.len()], 128), (&pattern, 0)] {
+        assert_eq!(office.read_marked(&pattern, marks).expect("it reads").unmarked(), unmarked);
+    }
+    for capsule in [capsule, file("capsule_reject.bin"), dense] {
         office.session(&capsule, &secret).expect("a session key");
     }
 }
@@ -82,6 +94,11 @@ fn lent_buffers(station: &mut Station, name: Name) {
     let mut out = vec![0; pattern.len()];
     assert_eq!(station.open_into(name, &capsule, &mut out), Ok(128));
     assert_eq!(station.read_into(name, &pattern, &mut out), Ok(128));
+    assert_eq!(station.read_marked_into(name, &pattern, &pattern, &mut out), Ok(0));
+    let far = vec![0x55; pattern.len()];
+    assert_eq!(station.open_into(name, &vec![0xFF; capsule.len()], &mut out), Err(Refusal::NoPattern));
+    assert_eq!(station.read_into(name, &far, &mut out), Err(Refusal::NoCodeWord));
+    assert_eq!(station.read_marked_into(name, &far, &pattern, &mut out), Err(Refusal::NoCodeWord));
     assert_eq!(station.report_into(name, &capsule, &mut out).expect("a report").opened(), 1);
     assert_eq!(station.load(name, &[]), Err(Refusal::KeyHeld));
 }

@@ -54,6 +54,7 @@ fn no_secret_outlives_its_owner() {
         (Point::SessionsWiped, &[KEY, G, SECRET]),
         (Point::SecretWiped, &[KEY, G]),
         (Point::Read, &[KEY, G]),
+        (Point::ReadMarked, &[KEY, G]),
         (Point::SecondPublished, &[KEY, G, SECOND_KEY, SECOND_G]),
         (Point::FirstDropped, &[SECOND_KEY, SECOND_G]),
         (Point::StationDropped, &[]),

@@ -5,7 +5,7 @@ use std::hint::black_box;
 use std::os::unix::fs::FileExt;
 use std::ptr;
 
-use shearcotter::{from_network_into, lock, raw, shake256, to_network_into, wipe, Name, Shape, Station};
+use shearcotter::{from_network_into, lock, raw, shake256, to_network_into, wipe, Name, Refusal, Shape, Station};
 
 use crate::support::{raw_calls, vectors};
 
@@ -15,6 +15,18 @@ const OWN: usize = 4096;
 
 fn file(name: &str) -> Vec<u8> {
     vectors::file(&format!("mceliece8192128/count0/{name}"))
+}
+
+/// The code word with ones at all places from m·t on, and marks at 2t of them: only the reading with ones there succeeds.
+pub fn code_word(public: &[u8]) -> (Vec<u8>, Vec<u8>) {
+    let (rows, length) = (13 * 128, 816);
+    let (mut word, mut marks) = (vec![0xFF; 1024], vec![0; 1024]);
+    word[..rows / 8].fill(0);
+    for (r, row) in public.chunks(length).enumerate() {
+        word[r / 8] |= ((row.iter().map(|byte| byte.count_ones()).sum::<u32>() % 2) as u8) << (r % 8);
+    }
+    marks[rows / 8..][..2 * 128 / 8].fill(0xFF);
+    (word, marks)
 }
 
 #[inline(never)]
@@ -44,14 +56,33 @@ fn calls_leave_zeros_on_the_stack() {
     assert_eq!(left_by(|| assert_eq!(station.is_exchange_key(Name::A), Ok(true))), 0, "is_exchange_key");
     assert_eq!(left_by(|| public = station.publish(Name::A).expect("publish accepts")), 0, "publish");
     assert_eq!(left_by(|| drop(station.open(Name::A, &capsule).expect("it opens"))), 0, "open");
-    let card = capsule.repeat(3);
-    assert_eq!(left_by(|| drop(station.report(Name::A, &card).expect("a report"))), 0, "report");
+    // Of all capsules and words the dense ones take the most stack.
+    let (dense, far) = (vec![0xFF; capsule.len()], vec![0x55; pattern.len()]);
+    assert_eq!(
+        left_by(|| assert_eq!(station.open(Name::A, &dense).err(), Some(Refusal::NoPattern))),
+        0,
+        "open, refused"
+    );
+    for card in [capsule.repeat(3), dense.repeat(3)] {
+        assert_eq!(left_by(|| drop(station.report(Name::A, &card).expect("a report"))), 0, "report");
+    }
     let (refused, secret) = (file("capsule_reject.bin"), file("secret.bin"));
-    for capsule in [&capsule, &refused] {
+    for capsule in [&capsule, &refused, &dense] {
         let session = || station.session(Name::A, capsule, &secret).iter_mut().for_each(|key| wipe(key));
         assert_eq!(left_by(session), 0, "session");
     }
     assert_eq!(left_by(|| drop(station.read(Name::A, &pattern).expect("it reads"))), 0, "read");
+    for marks in [&vec![0; pattern.len()], &pattern] {
+        let marked = || drop(station.read_marked(Name::A, &pattern, marks).expect("it reads"));
+        assert_eq!(left_by(marked), 0, "read_marked");
+    }
+    let no_code_word = Some(Refusal::NoCodeWord);
+    assert_eq!(left_by(|| assert_eq!(station.read(Name::A, &far).err(), no_code_word)), 0, "read, refused");
+    let refused = || assert_eq!(station.read_marked(Name::A, &far, &pattern).err(), no_code_word);
+    assert_eq!(left_by(refused), 0, "read_marked, refused");
+    let (code_word, marks) = code_word(&public);
+    let by_ones = || drop(station.read_marked(Name::A, &code_word, &marks).expect("it reads"));
+    assert_eq!(left_by(by_ones), 0, "read_marked by ones");
     assert_eq!(left_by(|| drop(lock(Shape::MCELIECE8192128, &public, &pattern).expect("it locks"))), 0, "lock");
     assert_eq!(left_by(|| station.load(Name::B, &key).expect("load accepts")), 0, "load beside another key");
     assert_eq!(left_by(|| drop(station.publish(Name::B).expect("publish accepts"))), 0, "publish beside another key");

@@ -49,6 +49,10 @@ pub fn make(station: Station, named: &Named) -> Made {
             let reply = raw_calls::read(station, name, word, &mut out);
             Made::reply(reply, call, out, work)
         }
+        Call::ReadMarked { word, marks, .. } => {
+            let reply = raw_calls::read_marked(station, name, word, marks, &mut out);
+            Made::reply(reply, call, out, work)
+        }
         Call::Report { capsules, .. } => {
             let reported = raw_calls::report(station, name, capsules, &mut out);
             Made::reported(&reported, call, out)

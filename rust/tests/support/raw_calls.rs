@@ -36,6 +36,12 @@ pub fn read(station: Station, name: u8, word: &[u8], out: &mut [u8]) -> Reply {
     unsafe { raw::shearcotter_read(station, name, word.as_ptr(), word.len(), out.as_mut_ptr(), out.len()) }
 }
 
+pub fn read_marked(station: Station, name: u8, word: &[u8], marks: &[u8], out: &mut [u8]) -> Reply {
+    let (row, length, room) = (word.as_ptr(), word.len(), out.len());
+    let (marks, marked) = (marks.as_ptr(), marks.len());
+    unsafe { raw::shearcotter_read_marked(station, name, row, length, marks, marked, out.as_mut_ptr(), room) }
+}
+
 pub fn report(station: Station, name: u8, capsules: &[u8], records: &mut [u8]) -> Reported {
     let (rows, length) = (capsules.as_ptr(), capsules.len());
     unsafe { raw::shearcotter_report(station, name, rows, length, records.as_mut_ptr(), records.len()) }

@@ -6,6 +6,7 @@ mod errors;
 mod exchange;
 mod explanations;
 mod formats;
+mod marks;
 mod names;
 mod outputs;
 mod patterns;

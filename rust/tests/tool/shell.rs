@@ -106,7 +106,9 @@ fn commands_and_options() {
     assert_eq!(completed(&["--v"]), ["--version"]);
     assert_eq!(completed(&["open", "--f"]), ["--format"]);
     let rows = ["--explain", "--format", "--help", "--jobs", "--quiet"];
-    assert_eq!(completed(&["read", "key", "-"]), rows);
+    let mut marked = rows.to_vec();
+    marked.insert(4, "--marks");
+    assert_eq!(completed(&["read", "key", "-"]), marked);
     assert_eq!(completed(&["open", "key", "-"]), [&rows[..], &["--second"]].concat());
     assert_eq!(completed(&["check", "-"]), ["--help", "--quiet"]);
     assert_eq!(completed(&["nothing", "-"]), [""; 0]);
@@ -153,6 +155,9 @@ fn files() {
         assert_eq!(files(&[command, "--second", "=", "ot"]), ["other"]);
         assert_eq!(files(&[command, "--second", "b", "key", "on"]), ["one key"]);
     }
+    assert_eq!(files(&["read", "--marks", "ot"]), ["other"]);
+    assert_eq!(files(&["read", "--marks", "=", "ot"]), ["other"]);
+    assert_eq!(files(&["read", "--marks", "m", "key", "on"]), ["one key"]);
     for operand in 0..3 {
         let words = [&["session", "a", "b"][..=operand], &["on"]].concat();
         assert_eq!(files(&words), ["one key"]);

@@ -56,6 +56,11 @@ fn options() {
     fails(&["report", "key.bin", "--records="], 2, "--records takes a file, not an empty word; see");
     fails(&["report", "key.bin", "--format", "hex"], 2, "report takes no option --format; see");
     fails(&["open", "key.bin", "--records", "x"], 2, "open takes no option --records; see");
+    fails(&["read", "key.bin", "--marks"], 2, "--marks needs a value: a file; see shearcotter help read");
+    fails(&["read", "key.bin", "--marks="], 2, "--marks takes a file, not an empty word; see");
+    for command in ["open", "session", "report", "lock"] {
+        fails(&[command, "key.bin", "--marks", "x"], 2, &format!("{command} takes no option --marks; see"));
+    }
 }
 
 #[test]

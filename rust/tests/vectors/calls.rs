@@ -22,6 +22,7 @@ fn call(case: &[String]) -> Call {
         "publish" => Call::Publish { out: buffer(1), work: buffer(2) },
         "open" => Call::Open { capsule: row(1), out: buffer(2) },
         "read" => Call::Read { word: row(1), out: buffer(2) },
+        "read_marked" => Call::ReadMarked { word: row(1), marks: row(2), out: buffer(3) },
         "report" => Call::Report { capsules: row(1), out: buffer(2) },
         "session" => Call::Session { capsule: row(1), secret: row(2) },
         "drop" => Call::Drop,

@@ -4,6 +4,7 @@ mod calls;
 mod fields;
 mod irreducible;
 mod keys;
+mod marked;
 mod named;
 mod networks;
 mod program;

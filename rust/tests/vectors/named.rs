@@ -65,6 +65,7 @@ fn lent(call: &Call) -> String {
         Call::Open { capsule: row, out } | Call::Read { word: row, out } | Call::Report { capsules: row, out } => {
             format!(" {} {}", hex(row), out.len())
         }
+        Call::ReadMarked { word, marks, out } => format!(" {} {} {}", hex(word), hex(marks), out.len()),
         Call::Session { capsule, secret } => format!(" {} {}", hex(capsule), hex(secret)),
         Call::Drop => String::new(),
     }
@@ -74,7 +75,7 @@ fn lent(call: &Call) -> String {
 fn said(call: &Call, answer: &Answer, key: Option<&Key>) -> String {
     match (answer.number, call, key) {
         (0, Call::Publish { .. }, Some(key)) => format!("ok {}", hex(&answer.out[..key.public_length()])),
-        (0, Call::Open { .. } | Call::Read { .. }, Some(key)) => {
+        (0, Call::Open { .. } | Call::Read { .. } | Call::ReadMarked { .. }, Some(key)) => {
             format!("ok {} {}", hex(&answer.out[..key.n.div_ceil(8)]), answer.ones)
         }
         (0, Call::Report { capsules, .. }, Some(key)) => {

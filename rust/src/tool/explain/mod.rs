@@ -3,6 +3,7 @@
 //! A function for each kind of input. The numbers are those of the calls; what is looked for here only names the place.
 
 mod key_file;
+mod marks;
 mod network;
 mod rows;
 mod shapes;
@@ -12,6 +13,7 @@ use std::fmt;
 use shearcotter::Refusal;
 
 pub use key_file::{key_file, publishing, reading_only};
+pub use marks::{marked_word, marks_file};
 pub use rows::{number, public_key, row, secret, Row};
 pub use shapes::{position, shape};
 

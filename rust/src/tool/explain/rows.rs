@@ -11,6 +11,8 @@ pub enum Row {
     /// A capsule whose session key is asked for.
     SessionCapsule,
     Word,
+    /// A word with marks.
+    MarkedWord,
     Pattern,
 }
 
@@ -18,7 +20,7 @@ impl Row {
     pub fn name(self) -> &'static str {
         match self {
             Row::Capsule | Row::SessionCapsule => "capsule",
-            Row::Word => "word",
+            Row::Word | Row::MarkedWord => "word",
             Row::Pattern => "pattern",
         }
     }
@@ -26,7 +28,7 @@ impl Row {
     pub fn plural(self) -> &'static str {
         match self {
             Row::Capsule | Row::SessionCapsule => "capsules",
-            Row::Word => "words",
+            Row::Word | Row::MarkedWord => "words",
             Row::Pattern => "patterns",
         }
     }
@@ -36,7 +38,7 @@ impl Row {
         match self {
             Row::Capsule => "opened",
             Row::SessionCapsule => "derived",
-            Row::Word => "read",
+            Row::Word | Row::MarkedWord => "read",
             Row::Pattern => "locked",
         }
     }
@@ -45,7 +47,7 @@ impl Row {
     pub fn bits(self, shape: Shape) -> usize {
         match self {
             Row::Capsule | Row::SessionCapsule => capsule_bits(shape),
-            Row::Word | Row::Pattern => usize::from(shape.n()),
+            Row::Word | Row::MarkedWord | Row::Pattern => usize::from(shape.n()),
         }
     }
 
@@ -65,8 +67,10 @@ fn wrong_length(name: &str) -> String {
 
 /// What a refusal says of a row.
 fn words(kind: Row, refusal: Refusal) -> String {
-    match refusal {
-        Refusal::BadBytes => wrong_length(kind.name()),
+    match (refusal, kind) {
+        (Refusal::BadBytes, _) => wrong_length(kind.name()),
+        (Refusal::NoCodeWord, Row::MarkedWord) => "no code word with 2d + s at most 2t".to_owned(),
+        (Refusal::NoCodeWord, _) => "no code word within t places".to_owned(),
         _ => refusal.condition().to_owned(),
     }
 }
@@ -138,7 +142,7 @@ fn most(bits: impl Into<usize>) -> u8 {
 }
 
 /// The last byte of a row that starts at a byte of its file, where it has a one past the row's bits.
-fn filler(bits: usize, row: &[u8], start: usize) -> Option<String> {
+pub(super) fn filler(bits: usize, row: &[u8], start: usize) -> Option<String> {
     let (last, most) = (row.last()?, most(bits));
     let at = start + row.len() - 1;
     (*last > most).then(|| format!("expected byte {at} up to {most:02x}, found {last:02x} (hexadecimal)"))

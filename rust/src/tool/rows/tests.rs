@@ -1,6 +1,6 @@
 //! The threads, on inputs, answers and outputs made for them.
 
-use std::io::{Cursor, ErrorKind};
+use std::io::{Cursor, ErrorKind, Read};
 use std::sync::atomic::{AtomicUsize, Ordering};
 use std::sync::mpsc::RecvTimeoutError;
 use std::sync::{Arc, Barrier};
@@ -20,7 +20,12 @@ fn ends<T: Send + 'static>(work: impl FnOnce() -> T + Send + 'static) -> Result<
 
 fn rows(input: impl Read + Send + 'static, length: usize) -> Rows {
     let progress = Progress::new(None, "rows", false);
-    Rows { name: "input".into(), input: Box::new(input), length, progress, together: SHORT }
+    let source = Source::new("input".into(), input);
+    Rows { source, marks: None, length, bytes: None, progress, together: SHORT }
+}
+
+fn with_marks(rows: Rows, marks: impl Read + Send + 'static) -> Rows {
+    Rows { marks: Some(Source::new("marks".into(), marks)), ..rows }
 }
 
 fn each_into(
@@ -28,6 +33,15 @@ fn each_into(
     rows: Rows,
     jobs: usize,
     answer: impl Fn(u64, &[u8]) -> Answer + Sync,
+) -> Result<Counts, Failure> {
+    marked_into(out, rows, jobs, |position, row, _| answer(position, row))
+}
+
+fn marked_into(
+    out: &mut dyn Write,
+    rows: Rows,
+    jobs: usize,
+    answer: impl Fn(u64, &[u8], &[u8]) -> Answer + Sync,
 ) -> Result<Counts, Failure> {
     each_to(Streams { out, name: None, error: &mut io::sink(), on_terminal: false }, rows, jobs, answer)
 }
@@ -115,6 +129,80 @@ fn lines_in_order_on_any_number_of_threads() {
     }
 }
 
+fn pair(position: u64, row: &[u8], marks: &[u8]) -> Answer {
+    Answer { text: format!("{position} {row:?} {marks:?}\n").into(), notes: String::new(), number: 0 }
+}
+
+/// Rows and marks in any pieces: each row has its own marks; missing ones are empty, and the last may be shorter.
+#[test]
+fn each_row_has_its_marks() {
+    let bytes: Vec<u8> = (0..5000_u32).map(|i| (i * i / 7) as u8).collect();
+    for (rows_given, marks_given) in [(5000, 5000), (5000, 5001), (4999, 4999), (5000, 4000), (5000, 7), (3, 0), (0, 0)]
+    {
+        let (words, marks) =
+            (&bytes[..rows_given], &bytes.iter().rev().chain(&[9]).copied().collect::<Vec<_>>()[..marks_given]);
+        let of_each = marks.chunks(3).chain(iter::repeat(&[][..]));
+        let expected =
+            (1..).zip(words.chunks(3)).zip(of_each).map(|((i, row), marks)| pair(i, row, marks).text.to_vec());
+        let expected: Vec<u8> = expected.flatten().collect();
+        for jobs in [1, 3] {
+            for whole in [false, true] {
+                let mut out = vec![];
+                let (input, marks) = (Pieces(words.to_vec()), Pieces(marks.to_vec()));
+                let rows = match whole {
+                    false => with_marks(rows(input, 3), marks),
+                    true => with_marks(rows(Cursor::new(input.0), 3), marks),
+                };
+                marked_into(&mut out, rows, jobs, pair).ok().expect("all is written");
+                assert!(out == expected, "{rows_given} {marks_given} {jobs} jobs");
+            }
+        }
+    }
+}
+
+#[test]
+fn marks_that_are_left_fail_behind_the_rows() {
+    for (rows_given, marks_given) in [(6, 7), (6, 9), (4, 7), (0, 1)] {
+        let mut out = vec![];
+        let rows = with_marks(rows(Pieces(vec![7; rows_given]), 3), Pieces(vec![1; marks_given]));
+        let failure = marked_into(&mut out, rows, 2, pair).expect_err("a failure");
+        let count = rows_given.div_ceil(3);
+        let expected = format!("expected {} bytes, a row of 3 bytes for each of {count} words, found more", 3 * count);
+        assert_eq!(failure.to_string(), format!("marks: refused 37: marks of wrong length: {expected}"));
+        assert_eq!((failure.status(), String::from_utf8(out).expect("text").lines().count()), (Status::Failed, count));
+    }
+}
+
+/// A row is answered once it and its marks are there, though no more of either comes.
+#[test]
+fn a_row_is_answered_before_the_next_marks_come() {
+    for (rows_given, marks_given) in [(50, 10), (10, 50), (10, 10)] {
+        let (answered, count) = mpsc::channel();
+        thread::spawn(move || {
+            let input = Cursor::new(vec![7; rows_given]).chain(Silent);
+            let rows = with_marks(rows(input, 1), Pieces(vec![1; marks_given]).chain(Silent));
+            marked_into(&mut io::sink(), rows, 2, |position, row, marks| {
+                assert_eq!(marks, [1]);
+                let _ = answered.send(position);
+                pair(position, row, marks)
+            })
+            .is_ok()
+        });
+        let mut positions: Vec<u64> = (0..10).map(|_| count.recv_timeout(ALL_TIME).expect("an answer")).collect();
+        positions.sort_unstable();
+        assert!(positions.into_iter().eq(1..=10), "{rows_given} {marks_given}");
+    }
+}
+
+#[test]
+fn failing_marks_have_their_name() {
+    let rows = with_marks(rows(io::repeat(7).take(100), 2), Pieces(vec![1; 7]).chain(Broken));
+    let mut out = vec![];
+    let failure = marked_into(&mut out, rows, 2, pair).expect_err("a failure").to_string();
+    assert!(failure.starts_with("marks: "), "{failure}");
+    assert_eq!(String::from_utf8(out).expect("text").lines().count(), 3);
+}
+
 #[test]
 fn as_many_rows_at_a_time_as_jobs() {
     let result = ends(|| {
@@ -172,7 +260,7 @@ fn notes_stand_behind_their_lines() {
     }
     let page = Page(Arc::default());
     let streams = Streams { out: &mut page.clone(), name: None, error: &mut page.clone(), on_terminal: false };
-    let answer = |position: u64, _: &[u8]| {
+    let answer = |position: u64, _: &[u8], _: &[u8]| {
         let notes = if position % 3 == 1 { format!("note on {position}\n") } else { String::new() };
         Answer { text: format!("{position}\n").into(), notes, number: 0 }
     };
@@ -239,7 +327,7 @@ fn a_failing_output_has_its_name() {
     for (name, said) in [(Some("records"), "records: "), (None, "standard output: ")] {
         let name = name.map(PathBuf::from);
         let streams = Streams { out: &mut Full, name, error: &mut io::sink(), on_terminal: false };
-        let result = each_to(streams, rows(io::repeat(7), 1), 2, line);
+        let result = each_to(streams, rows(io::repeat(7), 1), 2, |position, row, _| line(position, row));
         let failure = result.expect_err("a failure").to_string();
         assert!(failure.starts_with(said), "{failure}");
     }
