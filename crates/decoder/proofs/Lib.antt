@@ -1,4 +1,3 @@
-pub mod Examples
 pub mod Search
 pub mod Sanity
 pub mod Words

@@ -3,4 +3,3 @@ pub mod Unmarked
 pub mod Sound
 pub mod Twice
 pub mod Plain
-pub mod Examples
