@@ -98,7 +98,7 @@ fn at_the_bound(random: &mut Random, held: &Held, marked: impl Iterator<Item = u
     for marked in marked.filter(|marked| *marked <= n) {
         let room = n - marked;
         if let Some(left) = (2 * t).checked_sub(marked) {
-            for errors in [left / 2, left / 4, 0].map(|errors| errors.min(room)) {
+            for errors in [left / 2, random.below(left / 2 + 1)].map(|errors| errors.min(room)) {
                 let [word, marks, differences] = marked_word(random, held, errors, marked);
                 let outcome = same(&slot, held, &word, &marks);
                 assert_eq!(outcome, Outcome { number: 0, ones: errors as u16, written: differences });
@@ -131,17 +131,14 @@ fn the_bound_at_width_4() {
     assert!(2 * refused > above && refused < above, "{refused} of {above}");
 }
 
-/// At the smallest with every number of marks to 2t + 2, at the others with chosen ones.
+/// With every number of marks to 2t + 2.
 #[test]
 fn the_bound_at_the_standard_shapes() {
     let mut random = Random::new(84);
     for shape in STANDARD {
         let held = random.published(shape.0, shape.1, shape.2);
         let t = held.key.t;
-        let chosen = [0, 1, 2, 3, t / 2, t - 1, t, t + 1, 2 * t - 2, 2 * t - 1, 2 * t, 2 * t + 1, 2 * t + 2];
-        let marked = if shape == STANDARD[0] { (0..=2 * t + 2).collect() } else { chosen.to_vec() };
-        let number = marked.len();
-        assert_eq!(at_the_bound(&mut random, &held, marked.into_iter()), (number, number), "{shape:?}");
+        assert_eq!(at_the_bound(&mut random, &held, 0..=2 * t + 2), (2 * t + 3, 2 * t + 3), "{shape:?}");
         let key = random.reading_key(shape.0, shape.1, shape.2);
         at_the_bound(&mut random, &Held::new(key), [0, 1, t, 2 * t, 2 * t + 1].into_iter());
     }
