@@ -1,4 +1,6 @@
 // Parts of the calls under C names, for the benchmark; and reading, as it is and with slow sums.
+#![tactic(auto)]
+
 mod afresh;
 mod sums;
 

@@ -1,4 +1,6 @@
 // Bits of packed rows, read and written one by one (document 01, 'Bits').
+#![tactic(auto)]
+
 ghost use Rattle.std.specs.Prelude.{◌≡◌, min};
 ghost use Rattle.bits.specs.Bits.{bytes_for, bit_at, set_bit, weight as weightOf, filler_clear, well_formed};
 

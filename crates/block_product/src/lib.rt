@@ -1,5 +1,7 @@
 // The product of a square matrix with a block of columns, both in a workspace: the block's rows of w bits at the front of the workspace's
 // rows, those of the square matrix in their right halves.
+#![tactic(auto)]
+
 ghost use Rattle.std.specs.Prelude.{◌≡◌, ◌⊎◌, ℕ, ◌+◌, ◌-◌, ◌*◌, ◌%◌, ◌^◌, ◌≤◌, ◌<◌, length, get_or, drop, replicate};
 ghost use Rattle.bits.specs.Bits.{bytes_for, unpack, pack, xor_row};
 ghost use Rattle.small_key.specs.Sums.{table_row};

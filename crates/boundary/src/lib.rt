@@ -1,4 +1,6 @@
 // The answers of the crates below as structs of C callers.
+#![tactic(auto)]
+
 ghost use Rattle.std.specs.Prelude.{◌≡◌};
 ghost use Rattle.boundary.specs.Boundary.{as_element, as_shape};
 

@@ -5,6 +5,8 @@
 // `ok PATTERN ONES`, `ok RECORDS`, `ok KEY` or `refused NUMBER`. `end FILE PUBLISHED` says the file of A's key and 1 where it is
 // published, `- 0` that there is none; in named.txt B's follow, else B is as at the list's start. Bytes are in hexadecimal, and `-`
 // is none.
+#![tactic(auto)]
+
 use key::kept::Key;
 use libc::STDOUT_FILENO;
 use slot::Slot;

@@ -1,4 +1,6 @@
 // T, some columns after another, by way of a workspace whose right halves hold the inverse of H's left part.
+#![tactic(auto)]
+
 ghost use Rattle.std.specs.Prelude.{◌≡◌, true, ◌⊎◌, map, ℕ, ◌+◌, ◌*◌, ◌≤◌, ◌<◌, length, get_or, drop};
 ghost use Rattle.bits.specs.Bits.{every, bytes_for, pack};
 ghost use Rattle.field.specs.Field.{is_width};

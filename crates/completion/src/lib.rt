@@ -1,4 +1,6 @@
 // A permutation from its first values (document 02, L7).
+#![tactic(auto)]
+
 ghost use Rattle.std.specs.Prelude.{◌≡◌, ◌++◌, map, length, take, drop, replicate, ◌^◌, ◌≤◌, ◌<◌};
 ghost use Rattle.key.specs.Keys.{parse};
 ghost use Rattle.key.specs.declared.shape.ShapeAnswer.TheVariants as answers;

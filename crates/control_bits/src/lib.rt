@@ -1,4 +1,6 @@
 // The control bits of a permutation (document 02, L7), by the standard's routine.
+#![tactic(auto)]
+
 ghost use Rattle.std.specs.Prelude.{◌≡◌, ◌+◌, ◌-◌, ◌*◌, ◌^◌, ◌<◌, ◌≤◌, length, take};
 ghost use Rattle.bits.specs.Bits.{bytes_for, pack};
 ghost use Rattle.network.specs.Network.{val, seek, switches, control_bits};

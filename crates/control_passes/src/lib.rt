@@ -1,4 +1,6 @@
 // One step of the standard's control-bit routine (document 02, L7): the outer layers' bits and the halves of the middle.
+#![tactic(auto)]
+
 ghost use Rattle.std.specs.Prelude.{◌≡◌, ℕ, ◌+◌, ◌-◌, ◌*◌, ◌/◌, ◌%◌, ◌^◌, ◌<◌, ◌≤◌, min, length};
 ghost use Rattle.network.specs.Network.{turn, val, seek, low, cyc, pairs, first};
 ghost use Rattle.network.specs.Tables.{Each, Tab, at};

@@ -12,7 +12,7 @@ use lib.Seq.{take-append_seam}
 use Rattle.field.specs.Numbers.{first_of}
 use Rattle.key.specs.Keys.{file_conditions}
 use Rattle.network_key.specs.Files.{parse_network, network_conditions, to_network, from_network}
-use Rattle.network_key.specs.Converting.{Way, to_network_lem, from_network_lem, converted, way_conditions, convert_number, convert_length, convert_output}
+use Rattle.network_key.specs.Converting.{Way, into_network, out_of_network, converted, way_conditions, convert_number, convert_length, convert_output}
 use Rattle.network_key.proofs.Convert as Convert
 use Rattle.converting.specs.declared.Converted.{Converted}
 use Rattle.converting.specs.Answers.{converted_of}
@@ -44,23 +44,23 @@ module _ (w : Way) (file out : List ℕ) where
   room_enough z h = sym (ap (λ (c : Converted). c.refused) (convert_written w file out z refl h).0)
 
 -- Old to new and back gives the same bytes.
-pub there_and_back : (file out back : List ℕ) → Bytes file → convert_number to_network_lem file (length out) ≡ 0 → length file ≤ length back
-    → (convert_number from_network_lem (written to_network_lem file out) (length back) ≡ 0) × (written from_network_lem (written to_network_lem file out) back ≡ file)
+pub there_and_back : (file out back : List ℕ) → Bytes file → convert_number into_network file (length out) ≡ 0 → length file ≤ length back
+    → (convert_number out_of_network (written into_network file out) (length back) ≡ 0) × (written out_of_network (written into_network file out) back ≡ file)
 unfolding way_conditions converted
 there_and_back file out back bytes z h =
-    let e : first_of (file_conditions file) ≡ 0 = none to_network_lem file out z in
+    let e : first_of (file_conditions file) ≡ 0 = none into_network file out z in
     let same : from_network (to_network file) ≡ file = Convert.old_new_old file bytes e in
-    let n : convert_number from_network_lem (to_network file) (length back) ≡ 0 =
-    room_enough from_network_lem (to_network file) back (Convert.converted file e).0 (subst (λ (x : List ℕ). length x ≤ length back) (sym same) h) in
-    rw (written-whole to_network_lem file out z) (n, written-whole from_network_lem (to_network file) back n ∙ same)
+    let n : convert_number out_of_network (to_network file) (length back) ≡ 0 =
+    room_enough out_of_network (to_network file) back (Convert.converted file e).0 (subst (λ (x : List ℕ). length x ≤ length back) (sym same) h) in
+    rw (written-whole into_network file out z) (n, written-whole out_of_network (to_network file) back n ∙ same)
 
 -- New to old and forward again keeps the key: support and g.
-pub back_and_there : (file old out : List ℕ) → convert_number from_network_lem file (length old) ≡ 0 → length (to_network (from_network file)) ≤ length out
-    → (convert_number to_network_lem (written from_network_lem file old) (length out) ≡ 0)
-    × (parse_network (written to_network_lem (written from_network_lem file old) out) ≡ parse_network file)
+pub back_and_there : (file old out : List ℕ) → convert_number out_of_network file (length old) ≡ 0 → length (to_network (from_network file)) ≤ length out
+    → (convert_number into_network (written out_of_network file old) (length out) ≡ 0)
+    × (parse_network (written into_network (written out_of_network file old) out) ≡ parse_network file)
 unfolding way_conditions converted
 back_and_there file old out z h =
-    let e : first_of (network_conditions file) ≡ 0 = none from_network_lem file old z in
-    let n : convert_number to_network_lem (from_network file) (length out) ≡ 0 =
-    room_enough to_network_lem (from_network file) out (Convert.converted_back file e).0 h in
-    rw (written-whole from_network_lem file old z) (n, ap parse_network (written-whole to_network_lem (from_network file) out n) ∙ Convert.new_old_new file e)
+    let e : first_of (network_conditions file) ≡ 0 = none out_of_network file old z in
+    let n : convert_number into_network (from_network file) (length out) ≡ 0 =
+    room_enough into_network (from_network file) out (Convert.converted_back file e).0 h in
+    rw (written-whole out_of_network file old z) (n, ap parse_network (written-whole into_network (from_network file) out n) ∙ Convert.new_old_new file e)

@@ -14,7 +14,7 @@ use Rattle.field.specs.Numbers.{first_of}
 use Rattle.field.proofs.Numbers.{numbered, first-append}
 use Rattle.key.specs.Keys.{conditions, file_conditions}
 use Rattle.network_key.specs.Files.{network_conditions}
-use Rattle.network_key.specs.Converting.{Way, to_network_lem, from_network_lem, converted, way_conditions, convert_number, convert_length, convert_output}
+use Rattle.network_key.specs.Converting.{Way, into_network, out_of_network, converted, way_conditions, convert_number, convert_length, convert_output}
 use Rattle.converting.specs.declared.Converted.{Converted}
 use Rattle.converting.specs.Answers.{converted_of}
 
@@ -34,8 +34,8 @@ first_front (c ∷ cs) ds n = go c.0 c.1 (first_front cs ds) n
 
 way_numbered : (w : Way) (file : List ℕ) → numbered (way_conditions w file) ≡ true
 unfolding way_conditions file_conditions network_conditions conditions numbered
-way_numbered to_network_lem file = refl
-way_numbered from_network_lem file = refl
+way_numbered into_network file = refl
+way_numbered out_of_network file = refl
 
 module _ (w : Way) (file out : List ℕ) where
   -- by the number: a refusal, and none

@@ -1,9 +1,11 @@
 // Key files converted (document 02, L7).
+#![tactic(auto)]
+
 ghost use Rattle.std.specs.Prelude.{◌≡◌, length, ◌+◌, ◌*◌, ◌≤◌};
 ghost use Rattle.std.proofs.lemmas.List.Edits.{sets};
 ghost use Rattle.key.specs.Keys.{file_of};
 ghost use Rattle.key.specs.Kept.{parts, kept};
-ghost use Rattle.network_key.specs.Converting.{to_network_lem, from_network_lem, convert_output};
+ghost use Rattle.network_key.specs.Converting.{into_network, out_of_network, convert_output};
 ghost use Rattle.converting.specs.Answers.{converted_of};
 
 use key::kept::Key;
@@ -37,8 +39,8 @@ fn put<'a>(
 
 // The first form of a network file, written from the output's start; nothing on refusal, with 1, 2, 36, 3, 4, 5, 6, 7 or 10.
 pub fn from_network(file: &[u8], out: &mut [u8]) -> Converted
-    ensures answer { result ≡ converted_of from-network file.now (length out.old) }
-    ensures output { out.new ≡ convert_output from-network file.now out.old }
+    ensures answer { result ≡ converted_of out_of_network file.now (length out.old) }
+    ensures output { out.new ≡ convert_output out_of_network file.now out.old }
 {
     let mut support = [0u16; Key::MOST_PLACES];
     let mut g = [0u16; Key::MOST_ERRORS];
@@ -62,8 +64,8 @@ pub fn from_network(file: &[u8], out: &mut [u8]) -> Converted
 
 // The network file of a key file, written from the output's start; nothing on refusal, with 1, 2, 3, 4, 5, 6, 7 or 10.
 pub fn to_network(file: &[u8], out: &mut [u8]) -> Converted
-    ensures answer { result ≡ converted_of to-network file.now (length out.old) }
-    ensures output { out.new ≡ convert_output to-network file.now out.old }
+    ensures answer { result ≡ converted_of into_network file.now (length out.old) }
+    ensures output { out.new ≡ convert_output into_network file.now out.old }
 {
     let a = key_file::shape(file);
     let ShapeAnswer::Sizes(s) = a else {

@@ -1,4 +1,6 @@
 // Decoding on a kept key (document 01, 'Reading and opening', the usual way).
+#![tactic(auto)]
+
 mod decoding;
 mod places;
 mod points;

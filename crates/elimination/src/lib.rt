@@ -1,4 +1,6 @@
 // Gauss-Jordan elimination in a workspace of packed rows.
+#![tactic(auto)]
+
 ghost use Rattle.std.specs.Prelude.{◌≡◌, true, false, ◌++◌, map, ◌+◌, ◌*◌, ◌≤◌, ◌<◌, length, take, drop};
 ghost use Rattle.bits.specs.Bits.{from, bytes_for, unpack};
 ghost use Rattle.poly.specs.Polynomials.{same};

@@ -1,4 +1,6 @@
 // The derivative of a polynomial over GF(2^m), a greatest common divisor of two, and whether a square divides one.
+#![tactic(auto)]
+
 mod common;
 mod square;
 

@@ -1,5 +1,7 @@
 // Runs data/irreducible.txt through the test for a proper factor and counts agreements and differences.
 // A line is `m t : g_0 .. g_(t-1) : 1` where g is irreducible, and has 0 for 1 where g has a proper factor.
+#![tactic(auto)]
+
 use libc::STDOUT_FILENO;
 use vectors::line::{end, number_of};
 use vectors::tally::{Tally, agreements, counted, differences};

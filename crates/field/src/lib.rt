@@ -1,4 +1,6 @@
 // The fields GF(2^m) for m of 4, 12 and 13 (document 01, 'Field').
+#![tactic(auto)]
+
 ghost use Rattle.std.specs.Prelude.{◌≡◌, true, suc, ◌^◌, ◌<◌, ◌≤◌, ltb};
 ghost use Rattle.bits.specs.Bits.{every};
 ghost use Rattle.field.specs.Field.{is_width, is_element, modulus_of, mul_mod, product_by, mul, inv};

@@ -1,4 +1,6 @@
 // The field's public calls: elements are looked at, and what is wrong is refused with its number.
+#![tactic(auto)]
+
 ghost use Rattle.std.specs.Prelude.{◌≡◌, [], ◌∷◌};
 ghost use Rattle.field.specs.Verdicts.{verdict_of};
 ghost use Rattle.field_calls.specs.Answers.{elements_number, add_of, multiply_of, invert_of};

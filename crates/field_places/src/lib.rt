@@ -1,4 +1,6 @@
 // Products, squares and inverses in GF(2^m) at each place of a list. The loop over places vectorises.
+#![tactic(auto)]
+
 ghost use Rattle.std.specs.Prelude.{◌≡◌, true, map, ◌*◌, ◌%◌, ◌≤◌, ◌<◌, length, take};
 ghost use Rattle.bits.specs.Bits.{padded};
 ghost use Rattle.field.specs.Field.{is_width, inv};

@@ -1,5 +1,7 @@
 // Runs the vectors of data/field.txt through the field's public calls and counts agreements and differences.
 // A line is `mul m a b PRODUCT`, `inv m a INVERSE`, or the same with `refused NUMBER`; `#` starts a comment. Inverses of 0 are refused.
+#![tactic(auto)]
+
 use field::Answer;
 use libc::STDOUT_FILENO;
 

@@ -1,4 +1,6 @@
 // A square matrix of packed rows, inverted in a workspace.
+#![tactic(auto)]
+
 ghost use Rattle.std.specs.Prelude.{◌≡◌, true, ◌+◌, ◌*◌, ◌≤◌, ◌<◌, length, drop};
 ghost use Rattle.bits.specs.Bits.{from, bytes_for};
 ghost use Rattle.poly.specs.Polynomials.{same};

@@ -1,4 +1,6 @@
 // Whether a monic polynomial over GF(2^m) has a proper factor: Berlekamp's criterion.
+#![tactic(auto)]
+
 mod independence;
 mod residues;
 

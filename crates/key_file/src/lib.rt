@@ -1,4 +1,6 @@
 // Key files (document 01, 'Keys').
+#![tactic(auto)]
+
 ghost use Rattle.std.specs.Prelude.{◌≡◌, ◌++◌, length, take, drop, get_or, ◌+◌, ◌*◌, ◌^◌, ◌≤◌, ◌<◌};
 ghost use Rattle.field.specs.Numbers.{first_of};
 ghost use Rattle.field.specs.Verdicts.{verdict_of};

@@ -1,5 +1,7 @@
 // Runs data/keyfiles.txt and the five standard keys through load and counts agreements and differences.
 // A line is `NUMBER FILE`: load's number, 0 where it accepts, and the file in hexadecimal, `-` where it is empty.
+#![tactic(auto)]
+
 ghost use Rattle.std.specs.Prelude.{◌+◌, ◌*◌, ◌≤◌, ◌<◌, length};
 
 use key::shape::{ShapeAnswer, shape};

@@ -1,4 +1,6 @@
 // The check of a kept key without long arrays: g's values are looked at in blocks of 64 places.
+#![tactic(auto)]
+
 ghost use Rattle.std.specs.Prelude.{◌≡◌, true};
 ghost use Rattle.field.specs.Field.{is_width};
 ghost use Rattle.field.specs.Verdicts.{verdict_of};

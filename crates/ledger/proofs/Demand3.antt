@@ -149,5 +149,5 @@ after_every_list calls =
       numbers = agree_numbers nothing calls;
       opening = opening_after a;
       reading = reading_after a;
-      marked_reading_lem = marked_after a;
+      marked_readings = marked_after a;
     }

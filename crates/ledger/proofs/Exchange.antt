@@ -25,7 +25,7 @@ use Rattle.session.specs.Session.{session_conditions}
 use Rattle.ledger.specs.Slot.{State, empty, loaded, published, Slot, Held, is_empty, held_by}
 use Rattle.ledger.specs.Loading.{key_file, network_file, loading_conditions, loaded_key}
 use Rattle.ledger.specs.Publishing.{systematic, public_buffer, work_buffer, needed_bytes, publishing_conditions}
-use Rattle.ledger.specs.Questions.{open_capsule, read_word, read_marked, report, session_key_lem, question_conditions}
+use Rattle.ledger.specs.Questions.{open_capsule, read_word, read_marked, report, derive_session_key, question_conditions}
 use Rattle.ledger.specs.Calls.{Call, load, publish, ask, drop_key, conditions_of, output_of, no_answer, step}
 use Rattle.ledger.specs.Ledger.{Ledger, blank}
 use Rattle.ledger.specs.Systems.{System, definitions}
@@ -53,7 +53,7 @@ exchange_begins h (ask (open_capsule capsule out)) e = record { others = _; begi
 exchange_begins h (ask (read_word word out)) e = absurd (false≢true e)
 exchange_begins h (ask (read_marked word marks out)) e = absurd (false≢true e)
 exchange_begins h (ask (report capsules records)) e = record { others = _; begins = refl; once = refl }
-exchange_begins h (ask (session_key_lem capsule secret)) e = record { others = _; begins = refl; once = refl }
+exchange_begins h (ask (derive_session_key capsule secret)) e = record { others = _; begins = refl; once = refl }
 exchange_begins h drop_key e = absurd (false≢true e)
 
 -- the others have no 34
@@ -66,7 +66,7 @@ others_without h (ask (open_capsule capsule out)) e = absurd (true≢false e)
 others_without h (ask (read_word word out)) e = refl
 others_without h (ask (read_marked word marks out)) e = refl
 others_without h (ask (report capsules records)) e = absurd (true≢false e)
-others_without h (ask (session_key_lem capsule secret)) e = absurd (true≢false e)
+others_without h (ask (derive_session_key capsule secret)) e = absurd (true≢false e)
 others_without h drop_key e = refl
 
 -- the number 34 of such a list

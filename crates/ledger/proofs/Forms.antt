@@ -24,7 +24,7 @@ use Rattle.session.specs.Session.{session_conditions}
 use Rattle.ledger.specs.Slot.{Held}
 use Rattle.ledger.specs.Loading.{Loading, key_file, network_file, loading_conditions, loaded_key}
 use Rattle.ledger.specs.Publishing.{Publishing, public_buffer, work_buffer, needed_bytes, publishing_conditions, freed_bytes}
-use Rattle.ledger.specs.Questions.{Question, open_capsule, read_word, read_marked, report, session_key_lem, question_conditions}
+use Rattle.ledger.specs.Questions.{Question, open_capsule, read_word, read_marked, report, derive_session_key, question_conditions}
 
 -- load
 pub loading_numbered : (f : Loading) → numbered (loading_conditions f) ≡ true
@@ -71,7 +71,7 @@ question_numbered h (open_capsule capsule out) = refl
 question_numbered h (read_word word out) = refl
 question_numbered h (read_marked word marks out) = refl
 question_numbered h (report capsules records) = refl
-question_numbered h (session_key_lem capsule secret) = refl
+question_numbered h (derive_session_key capsule secret) = refl
 
 -- A refusal by another number than 23 leaves the workspace as it was.
 only_23 : (b : Bool) (n : ℕ) → first_of ((b, 23) ∷ []) ≡ suc n → suc n ≡ 23

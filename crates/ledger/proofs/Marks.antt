@@ -158,8 +158,8 @@ module _ (sys : System) (sim : Simulates sys) where
       (λ (x : Slot). Decides (DiffersMarked k word marks) (differences (unpack k.n marks)) 14 out (step x (ask (read_marked word marks out))))
       (sys.view s) k h (λ state e. marked_decides k good state e word marks out formed marked long))
 
-  corrects_marked_lem : (s : sys.Stations) (word marks out : List ℕ) → CorrectsWithMarks sys (sys.view s).key s word marks out
-  corrects_marked_lem s word marks out =
+  corrects_with_marks : (s : sys.Stations) (word marks out : List ℕ) → CorrectsWithMarks sys (sys.view s).key s word marks out
+  corrects_with_marks s word marks out =
       let k : Key = (sys.view s).key in
       record {
         accepts = λ z.
@@ -196,5 +196,5 @@ module _ (sys : System) (sim : Simulates sys) where
         right = λ w x y. m ∙ right_number v word marks out w (λ z. x (p ∙ z)) (λ z. y (p ∙ z)) ∙ sym p;
       }
 
-  pub marked_reading_lem : MarkedReading sys
-  marked_reading_lem = record { corrects_marked_lem = corrects_marked_lem; beside_read = beside_read }
+  pub marked_readings : MarkedReading sys
+  marked_readings = record { corrects_with_marks = corrects_with_marks; beside_read = beside_read }

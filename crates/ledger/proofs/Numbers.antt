@@ -18,7 +18,7 @@ use Rattle.session.specs.Session.{session_conditions}
 use Rattle.ledger.specs.Slot.{Held}
 use Rattle.ledger.specs.Loading.{key_file, network_file, loading_conditions}
 use Rattle.ledger.specs.Publishing.{publishing_conditions}
-use Rattle.ledger.specs.Questions.{open_capsule, read_word, read_marked, report, session_key_lem, question_conditions}
+use Rattle.ledger.specs.Questions.{open_capsule, read_word, read_marked, report, derive_session_key, question_conditions}
 use Rattle.ledger.specs.Calls.{Call, load, publish, ask, drop_key, conditions_of}
 
 -- no condition of the list has the number n, so that it is not the first that holds
@@ -46,5 +46,5 @@ calls_without_35 h (ask (open_capsule capsule out)) = refl
 calls_without_35 h (ask (read_word word out)) = refl
 calls_without_35 h (ask (read_marked word marks out)) = refl
 calls_without_35 h (ask (report capsules records)) = refl
-calls_without_35 h (ask (session_key_lem capsule secret)) = refl
+calls_without_35 h (ask (derive_session_key capsule secret)) = refl
 calls_without_35 h drop_key = refl

@@ -39,8 +39,8 @@ module _ (k : Key) (word : List ℕ) where
   reading_complete h e d = decoder.reading_complete k (unpack k.n word) h e (corrects k word e d)
 
 -- and so does marked reading, with 2d + s ≤ 2t
-corrects_marked_lem : (k : Key) (word marks e : List ℕ) → DiffersMarked k word marks e → CorrectsMarked k (unpack k.n word) (unpack k.n marks) e
-corrects_marked_lem k word marks e d = record { bits = d.row; few = d.few; code = d.code }
+corrects_with_marks : (k : Key) (word marks e : List ℕ) → DiffersMarked k word marks e → CorrectsMarked k (unpack k.n word) (unpack k.n marks) e
+corrects_with_marks k word marks e d = record { bits = d.row; few = d.few; code = d.code }
 
 module _ (k : Key) (word marks : List ℕ) where
   pub marked_sound : (e : List ℕ) → marked_reading k (unpack k.n word) (unpack k.n marks) ≡ some e → DiffersMarked k word marks e
@@ -49,7 +49,7 @@ module _ (k : Key) (word marks : List ℕ) where
       record { row = c.bits; few = c.few; code = c.code }
 
   pub marked_complete : marked_reading k (unpack k.n word) (unpack k.n marks) ≡ none → (e : List ℕ) → DiffersMarked k word marks e → ⊥
-  marked_complete h e d = sound.marked_complete k (unpack k.n word) (unpack k.n marks) h e (corrects_marked_lem k word marks e d)
+  marked_complete h e d = sound.marked_complete k (unpack k.n word) (unpack k.n marks) h e (corrects_with_marks k word marks e d)
 
 -- under a key that load accepts, opening finds a pattern that locks to the capsule, and at most one fits a word or a capsule
 module _ (k : Key) (good : key_number k ≡ 0) where
@@ -76,4 +76,4 @@ module _ (k : Key) (good : key_number k ≡ 0) where
 
   pub one_marked : (word marks e d : List ℕ) → DiffersMarked k word marks e → DiffersMarked k word marks d → d ≡ e
   one_marked word marks e d p q =
-      twice.one_marked k (accepted k good) (row_unpack k.n word) (row_unpack k.n marks) e d (corrects_marked_lem k word marks e p) (corrects_marked_lem k word marks d q)
+      twice.one_marked k (accepted k good) (row_unpack k.n word) (row_unpack k.n marks) e d (corrects_with_marks k word marks e p) (corrects_with_marks k word marks d q)

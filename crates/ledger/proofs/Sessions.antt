@@ -21,7 +21,7 @@ use Rattle.keccak.specs.Shake.{shake256}
 use Rattle.session.specs.Session.{session_key, session_conditions}
 use Rattle.session.proofs.Keys.{key_opened, key_rejected, opening_row}
 use Rattle.ledger.specs.Slot.{Slot, held_by, Result}
-use Rattle.ledger.specs.Questions.{open_capsule, session_key_lem, question_conditions, gives, given}
+use Rattle.ledger.specs.Questions.{open_capsule, derive_session_key, question_conditions, gives, given}
 use Rattle.ledger.specs.Calls.{ask, conditions_of, made, step}
 use Rattle.ledger.specs.Systems.{System}
 use Rattle.ledger.specs.Demands.{Locks}
@@ -62,21 +62,21 @@ clear false false false false false true f o w h z = absurd (omega arith)
 clear false false false false false false f o w h z = rw h refl
 
 -- an accepted call of the definitions: the key, and its sound slot
-module _ (s : Slot) (capsule secret : List ℕ) (z : (step s (ask (session_key_lem capsule secret))).number ≡ 0) where
-  answer_key : (step s (ask (session_key_lem capsule secret))).answer ≡ session_key s.key capsule secret
+module _ (s : Slot) (capsule secret : List ℕ) (z : (step s (ask (derive_session_key capsule secret))).number ≡ 0) where
+  answer_key : (step s (ask (derive_session_key capsule secret))).answer ≡ session_key s.key capsule secret
   unfolding made given
-  answer_key = ap (λ (r : Result). r.answer) (step-made s (ask (session_key_lem capsule secret)) z)
+  answer_key = ap (λ (r : Result). r.answer) (step-made s (ask (derive_session_key capsule secret)) z)
 
   sound : key_number s.key ≡ 0
   unfolding held_by conditions_of question_conditions session_conditions unsound
   sound =
-      let c21 = first-clear _ 20 _ (sym (step-number s (ask (session_key_lem capsule secret))) ∙ z) in
+      let c21 = first-clear _ 20 _ (sym (step-number s (ask (derive_session_key capsule secret))) ∙ z) in
       eqb-true _ _ (not-false _ (first-clear _ 24 _ c21.1).0)
 
   -- under a public key
   module _ (rows : Matrix) (public : public_key s.key ≡ some rows) where
     sender : (o : Option (List ℕ)) → opening s.key (unpack (capsule_bits s.key) capsule) ≡ o → (e : List ℕ) → Locks s.key rows capsule e
-        → (step s (ask (session_key_lem capsule secret))).answer ≡ shake256 32 (1 ∷ pack e ++ capsule)
+        → (step s (ask (derive_session_key capsule secret))).answer ≡ shake256 32 (1 ∷ pack e ++ capsule)
     sender none h e l = absurd (opening_complete s.key sound rows public capsule h e l)
     sender (some d) h e l =
         answer_key
@@ -85,7 +85,7 @@ module _ (s : Slot) (capsule secret : List ℕ) (z : (step s (ask (session_key_l
         (one_opening s.key sound rows public capsule e d l (opening_sound s.key sound rows public capsule d h))
 
     nobody : (o : Option (List ℕ)) → opening s.key (unpack (capsule_bits s.key) capsule) ≡ o → ((e : List ℕ) → Locks s.key rows capsule e → ⊥)
-        → (step s (ask (session_key_lem capsule secret))).answer ≡ shake256 32 (0 ∷ secret ++ capsule)
+        → (step s (ask (derive_session_key capsule secret))).answer ≡ shake256 32 (0 ∷ secret ++ capsule)
     nobody none h n = answer_key ∙ key_rejected s.key capsule secret h
     nobody (some d) h n = absurd (n d (opening_sound s.key sound rows public capsule d h))
 
@@ -94,21 +94,21 @@ module _ (s : Slot) (capsule secret out : List ℕ) (room : bytes_for s.key.n �
   long : ltb (length out) (bytes_for s.key.n) ≡ false
   long = le-ltb (length out) (bytes_for s.key.n) room
 
-  session_number_lem : (step s (ask (session_key_lem capsule secret))).number ≡ beside (well_formed s.key.n secret) (step s (ask (open_capsule capsule out))).number
+  session_number_lem : (step s (ask (derive_session_key capsule secret))).number ≡ beside (well_formed s.key.n secret) (step s (ask (open_capsule capsule out))).number
   unfolding held_by conditions_of question_conditions session_conditions open_conditions
   session_number_lem =
-      step-number s (ask (session_key_lem capsule secret))
+      step-number s (ask (derive_session_key capsule secret))
       ∙ listed _ _ _ _ _ _ _ (is_none (opening s.key (unpack (capsule_bits s.key) capsule))) (well_formed s.key.n secret) long
       ∙ ap (beside (well_formed s.key.n secret)) (sym (step-number s (ask (open_capsule capsule out))))
 
   -- by what opening gives
-  module _ (z : (step s (ask (session_key_lem capsule secret))).number ≡ 0) (o : Option (List ℕ)) (h : opening s.key (unpack (capsule_bits s.key) capsule) ≡ o) where
+  module _ (z : (step s (ask (derive_session_key capsule secret))).number ≡ 0) (o : Option (List ℕ)) (h : opening s.key (unpack (capsule_bits s.key) capsule) ≡ o) where
     open_number_lem : (step s (ask (open_capsule capsule out))).number ≡ cond (is_none o) 13 0
     unfolding held_by conditions_of question_conditions session_conditions open_conditions
     open_number_lem =
         step-number s (ask (open_capsule capsule out))
         ∙ clear _ _ _ _ _ _ _ (is_none (opening s.key (unpack (capsule_bits s.key) capsule))) (well_formed s.key.n secret) long
-        (sym (step-number s (ask (session_key_lem capsule secret))) ∙ z)
+        (sym (step-number s (ask (derive_session_key capsule secret))) ∙ z)
         ∙ ap (λ (p : Option (List ℕ)). cond (is_none p) 13 0) h
 
     written : (step s (ask (open_capsule capsule out))).number ≡ 0 → (step s (ask (open_capsule capsule out))).output ≡ over (pack (found o)) out
@@ -117,9 +117,9 @@ module _ (s : Slot) (capsule secret out : List ℕ) (room : bytes_for s.key.n �
         ap (λ (r : Result). r.output) (step-made s (ask (open_capsule capsule out)) e)
         ∙ ap (λ (p : Option (List ℕ)). over (pack (found p)) out) h
 
-  module _ (z : (step s (ask (session_key_lem capsule secret))).number ≡ 0) where
+  module _ (z : (step s (ask (derive_session_key capsule secret))).number ≡ 0) where
     opened : (o : Option (List ℕ)) → opening s.key (unpack (capsule_bits s.key) capsule) ≡ o → (step s (ask (open_capsule capsule out))).number ≡ 0
-        → (step s (ask (session_key_lem capsule secret))).answer ≡ shake256 32 (1 ∷ take (bytes_for s.key.n) (step s (ask (open_capsule capsule out))).output ++ capsule)
+        → (step s (ask (derive_session_key capsule secret))).answer ≡ shake256 32 (1 ∷ take (bytes_for s.key.n) (step s (ask (open_capsule capsule out))).output ++ capsule)
     unfolding is_none found
     opened none h e = absurd (omega (arith, open_number_lem z none h))
     opened (some p) h e =
@@ -129,7 +129,7 @@ module _ (s : Slot) (capsule secret out : List ℕ) (room : bytes_for s.key.n �
         (sym (ap (take (bytes_for s.key.n)) (written z (some p) h e) ∙ take-over (opening_row s.key _ p h) out))
 
     rejected : (o : Option (List ℕ)) → opening s.key (unpack (capsule_bits s.key) capsule) ≡ o → (step s (ask (open_capsule capsule out))).number ≡ 13
-        → (step s (ask (session_key_lem capsule secret))).answer ≡ shake256 32 (0 ∷ secret ++ capsule)
+        → (step s (ask (derive_session_key capsule secret))).answer ≡ shake256 32 (0 ∷ secret ++ capsule)
     unfolding is_none
     rejected none h e = answer_key s capsule secret z ∙ key_rejected s.key capsule secret h
     rejected (some p) h e = absurd (omega (arith, open_number_lem z (some p) h))
@@ -137,16 +137,16 @@ module _ (s : Slot) (capsule secret out : List ℕ) (room : bytes_for s.key.n �
 module _ (sys : System) (sim : Simulates sys) where
   -- the system's numbers, outputs and answers are the definitions'
   module _ (s : sys.Stations) (capsule secret : List ℕ) where
-    session_accepted : (sys.call s (ask (session_key_lem capsule secret))).number ≡ 0 → (step (sys.view s) (ask (session_key_lem capsule secret))).number ≡ 0
-    session_accepted z = sym (same_number sys sim s (ask (session_key_lem capsule secret))) ∙ z
+    session_accepted : (sys.call s (ask (derive_session_key capsule secret))).number ≡ 0 → (step (sys.view s) (ask (derive_session_key capsule secret))).number ≡ 0
+    session_accepted z = sym (same_number sys sim s (ask (derive_session_key capsule secret))) ∙ z
 
     derived : (out : List ℕ) → bytes_for (sys.view s).key.n ≤ length out → Derives sys s capsule secret out
     derived out room =
         let v : Slot = sys.view s in
         let q = same_number sys sim s (ask (open_capsule capsule out)) in
-        let a = same_answer sys sim s (ask (session_key_lem capsule secret)) in
+        let a = same_answer sys sim s (ask (derive_session_key capsule secret)) in
         record {
-          number = same_number sys sim s (ask (session_key_lem capsule secret)) ∙ session_number_lem v capsule secret out room ∙ ap (beside _) (sym q);
+          number = same_number sys sim s (ask (derive_session_key capsule secret)) ∙ session_number_lem v capsule secret out room ∙ ap (beside _) (sym q);
           opened = λ z e.
               a ∙ opened v capsule secret out room (session_accepted z) _ refl (sym q ∙ e)
               ∙ ap (λ (o : List ℕ). shake256 32 (1 ∷ take (bytes_for v.key.n) o ++ capsule)) (sym (same_output sys sim s (ask (open_capsule capsule out))));
@@ -158,7 +158,7 @@ module _ (sys : System) (sim : Simulates sys) where
       record {
         derives = derived;
         shares = λ s capsule secret rows public z.
-            let a = same_answer sys sim s (ask (session_key_lem capsule secret)) in
+            let a = same_answer sys sim s (ask (derive_session_key capsule secret)) in
             let y = session_accepted s capsule secret z in
             record {
               sender = λ e l. a ∙ sender (sys.view s) capsule secret y rows public _ refl e l;

@@ -152,8 +152,8 @@ module _ (sys : System) (sim : Simulates sys) where
         numbers = same-answered sys.fresh calls ∙ ap (λ (t : Slot). answered step t calls) sim.fresh ∙ a.numbers;
         opening = λ k e m. let o = a.opening k e m in (o.0, o.1, o.2, λ capsule out w long. decides s (ask (open_capsule capsule out)) _ _ _ out (o.3 capsule out w long));
         reading = λ k word out e w long. decides s (ask (read_word word out)) _ _ _ out (a.reading k word out e w long);
-        marked_reading_lem = λ k word marks out e w z long.
-            decides s (ask (read_marked word marks out)) _ _ _ out (a.marked_reading_lem k word marks out e w z long);
+        marked_readings = λ k word marks out e w z long.
+            decides s (ask (read_marked word marks out)) _ _ _ out (a.marked_readings k word marks out e w z long);
       }
 
   after_every_list : AfterEveryList sys

@@ -124,7 +124,7 @@ module _ (sys : System) where
     pub reading : (k : Key) (word out : List ℕ) → l.key ≡ some k
         → well_formed k.n word ≡ true → bytes_for k.n ≤ length out
         → Decides (Differs k word) ones 14 out (sys.call s (ask (read_word word out)))
-    pub marked_reading_lem : (k : Key) (word marks out : List ℕ) → l.key ≡ some k
+    pub marked_readings : (k : Key) (word marks out : List ℕ) → l.key ≡ some k
         → well_formed k.n word ≡ true → well_formed k.n marks ≡ true → bytes_for k.n ≤ length out
         → Decides (DiffersMarked k word marks) (differences (unpack k.n marks)) 14 out (sys.call s (ask (read_marked word marks out)))
 

@@ -7,7 +7,7 @@ use Rattle.key.specs.Keys.{Key, file_of, key_number, reducible}
 use Rattle.ledger.specs.Slot.{loaded}
 use Rattle.ledger.specs.Loading.{key_file}
 use Rattle.ledger.specs.Publishing.{systematic}
-use Rattle.ledger.specs.Questions.{Question, open_capsule, read_word, read_marked, report, session_key_lem}
+use Rattle.ledger.specs.Questions.{Question, open_capsule, read_word, read_marked, report, derive_session_key}
 use Rattle.ledger.specs.Calls.{Call, load, publish, ask, drop_key, run}
 use Rattle.ledger.specs.Ledger.{blank, ledger_after}
 use Rattle.ledger.specs.Systems.{System}
@@ -19,7 +19,7 @@ opens (open_capsule capsule out) = true
 opens (read_word word out) = false
 opens (read_marked word marks out) = false
 opens (report capsules records) = true
-opens (session_key_lem capsule secret) = true
+opens (derive_session_key capsule secret) = true
 
 -- the calls that exchange: publish, and the questions that open
 unfoldable pub exchanges : Call → Bool

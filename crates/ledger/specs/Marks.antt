@@ -61,5 +61,5 @@ module _ (sys : System) where
         → (read_marked_of s word marks out).number ≡ (read_of s word out).number
 
   pub record MarkedReading : Type 0 where
-    pub corrects_marked_lem : (s : sys.Stations) (word marks out : List ℕ) → CorrectsWithMarks (sys.view s).key s word marks out
+    pub corrects_with_marks : (s : sys.Stations) (word marks out : List ℕ) → CorrectsWithMarks (sys.view s).key s word marks out
     pub beside_read : (s : sys.Stations) (word marks out : List ℕ) → BesideRead (sys.view s).key s word marks out

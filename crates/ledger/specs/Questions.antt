@@ -18,7 +18,7 @@ pub data Question : Type 0 where
   read_word : List ℕ → List ℕ → Question
   read_marked : List ℕ → List ℕ → List ℕ → Question
   report : List ℕ → List ℕ → Question
-  session_key_lem : List ℕ → List ℕ → Question
+  derive_session_key : List ℕ → List ℕ → Question
 
 -- the buffer that is written to; a session key has none
 unfoldable pub answer_buffer : Question → List ℕ
@@ -26,7 +26,7 @@ answer_buffer (open_capsule capsule out) = out
 answer_buffer (read_word word out) = out
 answer_buffer (read_marked word marks out) = out
 answer_buffer (report capsules records) = records
-answer_buffer (session_key_lem capsule secret) = []
+answer_buffer (derive_session_key capsule secret) = []
 
 -- open 25, 34, 24, 8, 9, 10, 13; read 25, 8, 9, 10, 14; marked reading 25, 8, 9, 37, 10, 14; report 25, 34, 24, 31; session key
 -- 25, 34, 24, 8, 9, 33
@@ -35,7 +35,7 @@ question_conditions h (open_capsule capsule out) = open_conditions h.unsound h.u
 question_conditions h (read_word word out) = read_conditions h.unsound h.key word out
 question_conditions h (read_marked word marks out) = marked_conditions h.unsound h.key word marks out
 question_conditions h (report capsules records) = report_conditions h.unsound h.unpublished h.key capsules (length records)
-question_conditions h (session_key_lem capsule secret) = session_conditions h.unsound h.unpublished h.key capsule secret
+question_conditions h (derive_session_key capsule secret) = session_conditions h.unsound h.unpublished h.key capsule secret
 
 -- What is answered: the output buffer, the number of ones counted, and what the form answers besides.
 pub record Given : Type 0 where
@@ -56,7 +56,7 @@ given k (read_marked word marks out) =
     gives (differences (unpack k.n marks)) (found (marked_reading k (unpack k.n word) (unpack k.n marks))) out
 given k (report capsules records) =
     record { output = over (records_of k capsules) records; count = 0; answer = counts_of (records_of k capsules) }
-given k (session_key_lem capsule secret) = record { output = []; count = 0; answer = session_key k capsule secret }
+given k (derive_session_key capsule secret) = record { output = []; count = 0; answer = session_key k capsule secret }
 
 -- how many numbers a form answers besides: zeros where it is refused
 unfoldable pub answer_size : Question → ℕ
@@ -64,4 +64,4 @@ answer_size (open_capsule capsule out) = 0
 answer_size (read_word word out) = 0
 answer_size (read_marked word marks out) = 0
 answer_size (report capsules records) = 256
-answer_size (session_key_lem capsule secret) = 32
+answer_size (derive_session_key capsule secret) = 32

@@ -6,7 +6,7 @@ use Rattle.bits.specs.Bits.{bytes_for, pack, well_formed}
 use Rattle.code.specs.PublicKey.{Matrix, public_key}
 use Rattle.keccak.specs.Shake.{shake256}
 use Rattle.ledger.specs.Slot.{Outcome}
-use Rattle.ledger.specs.Questions.{open_capsule, session_key_lem}
+use Rattle.ledger.specs.Questions.{open_capsule, derive_session_key}
 use Rattle.ledger.specs.Calls.{ask}
 use Rattle.ledger.specs.Systems.{System}
 use Rattle.ledger.specs.Demands.{Locks}
@@ -18,7 +18,7 @@ beside right number = cond (eqb number 0 || eqb number 13) (cond right 0 33) num
 module _ (sys : System) where
   -- the two calls
   abbrev pub session_of : sys.Stations → List ℕ → List ℕ → Outcome sys.Stations
-  session_of s capsule secret = sys.call s (ask (session_key_lem capsule secret))
+  session_of s capsule secret = sys.call s (ask (derive_session_key capsule secret))
 
   abbrev pub open_of : sys.Stations → List ℕ → List ℕ → Outcome sys.Stations
   open_of s capsule out = sys.call s (ask (open_capsule capsule out))

@@ -32,7 +32,7 @@ use Rattle.session.specs.Session.{session_conditions}
 use Rattle.ledger.specs.Slot.{State, empty, loaded, published, Slot, empty_key, fresh, is_empty, is_unpublished, held_by, Outcome}
 use Rattle.ledger.specs.Loading.{key_file, network_file, loading_conditions, loaded_key}
 use Rattle.ledger.specs.Publishing.{systematic, small, public_buffer, work_buffer, needed_bytes, publishing_conditions, publication, freed_bytes}
-use Rattle.ledger.specs.Questions.{open_capsule, read_word, read_marked, report, session_key_lem, answer_buffer, question_conditions, gives, given, answer_size}
+use Rattle.ledger.specs.Questions.{open_capsule, read_word, read_marked, report, derive_session_key, answer_buffer, question_conditions, gives, given, answer_size}
 use Rattle.ledger.specs.Calls.{Call, load, publish, ask, drop_key, conditions_of, output_of, no_answer, made, unless, step, run}
 use Rattle.ledger.specs.Ledger.{blank, held_in, ledger_number, entered, fed, ledger_after, expected}
 
@@ -248,21 +248,21 @@ orders =
     (after published_K1 (ask (report (0x03 ∷ 0x00 ∷ 0x13 ∷ []) (9 ∷ 9 ∷ []))), refused 31) ∷
     (after published_K1 (ask (report [] [])), accepted [] 0) ∷
     -- session key 21, 25, 34, 24, 8, 9, 33
-    (after [] (ask (session_key_lem [] [])), refused 21) ∷
-    (on (bad loaded) (ask (session_key_lem [] [])), refused 25) ∷
-    (on (bad published) (ask (session_key_lem (0x13 ∷ []) [])), refused 25) ∷
-    (on (bad_factored published) (ask (session_key_lem [] [])), refused 25) ∷
-    (after (load (key_file factored_file) ∷ []) (ask (session_key_lem [] [])), refused 34) ∷
-    (on (factored published) (ask (session_key_lem [] [])), refused 34) ∷
-    (on (factored published) (ask (session_key_lem (0x00 ∷ []) (zeros 1))), refused 34) ∷
-    (on (factored published) (ask (session_key_lem (0x00 ∷ []) (zeros 2))), refused 34) ∷
-    (after (load (key_file K1) ∷ []) (ask (session_key_lem [] [])), refused 24) ∷
-    (after published_K1 (ask (session_key_lem (0x13 ∷ 0x00 ∷ []) [])), refused 8) ∷
-    (after published_K1 (ask (session_key_lem (0x13 ∷ []) [])), refused 9) ∷
-    (after published_K1 (ask (session_key_lem (0x03 ∷ []) [])), refused 33) ∷
-    (after published_K1 (ask (session_key_lem (0x03 ∷ []) (0x40 ∷ []))), refused 33) ∷
-    (after published_K1 (ask (session_key_lem (0x03 ∷ []) (0x2a ∷ []))), accepted [] 0) ∷
-    (after published_K1 (ask (session_key_lem (0x00 ∷ []) (0x2a ∷ []))), accepted [] 0) ∷
+    (after [] (ask (derive_session_key [] [])), refused 21) ∷
+    (on (bad loaded) (ask (derive_session_key [] [])), refused 25) ∷
+    (on (bad published) (ask (derive_session_key (0x13 ∷ []) [])), refused 25) ∷
+    (on (bad_factored published) (ask (derive_session_key [] [])), refused 25) ∷
+    (after (load (key_file factored_file) ∷ []) (ask (derive_session_key [] [])), refused 34) ∷
+    (on (factored published) (ask (derive_session_key [] [])), refused 34) ∷
+    (on (factored published) (ask (derive_session_key (0x00 ∷ []) (zeros 1))), refused 34) ∷
+    (on (factored published) (ask (derive_session_key (0x00 ∷ []) (zeros 2))), refused 34) ∷
+    (after (load (key_file K1) ∷ []) (ask (derive_session_key [] [])), refused 24) ∷
+    (after published_K1 (ask (derive_session_key (0x13 ∷ 0x00 ∷ []) [])), refused 8) ∷
+    (after published_K1 (ask (derive_session_key (0x13 ∷ []) [])), refused 9) ∷
+    (after published_K1 (ask (derive_session_key (0x03 ∷ []) [])), refused 33) ∷
+    (after published_K1 (ask (derive_session_key (0x03 ∷ []) (0x40 ∷ []))), refused 33) ∷
+    (after published_K1 (ask (derive_session_key (0x03 ∷ []) (0x2a ∷ []))), accepted [] 0) ∷
+    (after published_K1 (ask (derive_session_key (0x00 ∷ []) (0x2a ∷ []))), accepted [] 0) ∷
     -- drop 21
     (after [] drop_key, refused 21) ∷
     (on (bad published) drop_key, accepted [] 0) ∷
@@ -314,7 +314,7 @@ reports =
     (counts published_1 (ask (report [] (9 ∷ []))), numbers 256 (zeros 4)) ∷
     (counts published_1 (ask (report (0x03 ∷ []) [])), numbers 256 (zeros 4)) ∷
     (counts published_1 (ask (open_capsule (0x03 ∷ []) (zeros 1))), numbers 0 (zeros 4)) ∷
-    (counts published_1 (ask (session_key_lem (0x03 ∷ []) [])), numbers 32 (zeros 4)) ∷
+    (counts published_1 (ask (derive_session_key (0x03 ∷ []) [])), numbers 32 (zeros 4)) ∷
     (on two_bytes_lem (ask (report (0x00 ∷ 0x10 ∷ 0x00 ∷ []) (7 ∷ 7 ∷ 7 ∷ []))), accepted (9 ∷ 8 ∷ 7 ∷ []) 0) ∷
     (on two_bytes_lem (ask (report (0x00 ∷ 0x10 ∷ 0x00 ∷ []) (7 ∷ []))), refused 31) ∷
     (counts two_bytes_lem (ask (report (0x00 ∷ 0x10 ∷ 0x00 ∷ []) (zeros 2))), numbers 256 (0 ∷ 1 ∷ 1 ∷ 0 ∷ [])) ∷ []
@@ -335,7 +335,7 @@ story =
     (ask (open_capsule (0x35 ∷ []) (zeros 2)), refused 34) ∷
     (ask (read_word (0x81 ∷ 0x00 ∷ []) (zeros 2)), accepted (0x81 ∷ 0x00 ∷ []) 2) ∷
     (ask (report (0x35 ∷ []) (zeros 1)), refused 34) ∷
-    (ask (session_key_lem (0x35 ∷ []) (zeros 2)), refused 34) ∷
+    (ask (derive_session_key (0x35 ∷ []) (zeros 2)), refused 34) ∷
     (drop_key, accepted [] 0) ∷
     (load (key_file (file 6 1 (7 ∷ 2 ∷ 1 ∷ 11 ∷ 4 ∷ 0 ∷ []) (13 ∷ []))), accepted [] 0) ∷
     (publish (systematic (zeros 3) (zeros 3)), refused 10) ∷
@@ -350,8 +350,8 @@ story =
     (ask (read_marked (0x06 ∷ []) (0x10 ∷ []) (zeros 1)), accepted (0x10 ∷ []) 0) ∷
     (ask (report (0x04 ∷ 0x0A ∷ 0x44 ∷ []) (zeros 2)), refused 31) ∷
     (ask (report (0x04 ∷ 0x0A ∷ 0x44 ∷ []) (7 ∷ 7 ∷ 7 ∷ 7 ∷ [])), accepted (0 ∷ 13 ∷ 9 ∷ 7 ∷ []) 0) ∷
-    (ask (session_key_lem (0x0A ∷ []) []), refused 33) ∷
-    (ask (session_key_lem (0x0A ∷ []) (zeros 1)), accepted [] 0) ∷
+    (ask (derive_session_key (0x0A ∷ []) []), refused 33) ∷
+    (ask (derive_session_key (0x0A ∷ []) (zeros 1)), accepted [] 0) ∷
     (drop_key, accepted [] 0) ∷
     (load (key_file K1), accepted [] 0) ∷
     (ask (open_capsule [] (zeros 1)), refused 24) ∷

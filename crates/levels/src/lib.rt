@@ -1,4 +1,6 @@
 // The levels of the additive transform over GF(2^m): their bases, and what each multiplies by.
+#![tactic(auto)]
+
 mod adding;
 mod bases;
 mod levels;

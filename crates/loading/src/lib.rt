@@ -1,4 +1,6 @@
 // The forms of load (documents 01, 'Keys', and 02, L7): the shape of what is loaded, and its arrays.
+#![tactic(auto)]
+
 ghost use Rattle.std.specs.Prelude.{◌≡◌};
 ghost use Rattle.bits.specs.Bits.{padded};
 ghost use Rattle.key.specs.declared.shape.ShapeAnswer.TheVariants as answers;

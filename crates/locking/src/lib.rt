@@ -1,4 +1,6 @@
 // Locking a pattern under a shape and a public key (document 01, 'Code and public key').
+#![tactic(auto)]
+
 ghost use Rattle.std.specs.Prelude.{◌≡◌, map, ◌+◌, ◌*◌, ◌≤◌, length, take, drop, replicate};
 ghost use Rattle.bits.specs.Bits.{from, every, bytes_for, bit_at, put_bits, pack, filler_clear, over, row_product};
 ghost use Rattle.field.specs.Verdicts.{verdict_of};

@@ -1,4 +1,6 @@
 // Reading a word with marked places on a kept key (request L8).
+#![tactic(auto)]
+
 mod calls;
 mod rows;
 mod tries;

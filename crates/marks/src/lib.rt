@@ -1,1 +1,3 @@
 // Marked reading (request L8): its definitions, in specs/, and laws about them, in proofs/.
+
+#![tactic(auto)]

@@ -1,4 +1,6 @@
 // The byte by which a call names one of two recipients, A and B (request L6), and what it picks of their two slots.
+#![tactic(auto)]
+
 ghost use Rattle.std.specs.Prelude.{◌≡◌};
 ghost use Rattle.naming.specs.Picks.{known, pick};
 

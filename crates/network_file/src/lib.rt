@@ -1,4 +1,6 @@
 // Key files that store the support as a switching network (document 02, L7).
+#![tactic(auto)]
+
 ghost use Rattle.std.specs.Prelude.{◌≡◌, ◌++◌, map, length, take, drop, ◌+◌, ◌*◌, ◌^◌, ◌≤◌, ◌<◌};
 ghost use Rattle.bits.specs.Bits.{padded};
 ghost use Rattle.field.specs.Numbers.{first_of};

@@ -7,17 +7,17 @@ use Rattle.network_key.specs.Files.{network_conditions, to_network, from_network
 
 -- old to new, and new to old
 pub data Way : Type 0 where
-  to_network_lem : Way
-  from_network_lem : Way
+  into_network : Way
+  out_of_network : Way
 
 -- the other file, and the conditions of the load of this one
 unfoldable pub converted : Way → List ℕ → List ℕ
-converted to_network_lem file = to_network file
-converted from_network_lem file = from_network file
+converted into_network file = to_network file
+converted out_of_network file = from_network file
 
 unfoldable pub way_conditions : Way → List ℕ → List (Bool × ℕ)
-way_conditions to_network_lem file = file_conditions file
-way_conditions from_network_lem file = network_conditions file
+way_conditions into_network file = file_conditions file
+way_conditions out_of_network file = network_conditions file
 
 -- the number, for an output of so many bytes: as the load, 22 aside, then 10: too short
 unfoldable pub convert_number : Way → List ℕ → ℕ → ℕ

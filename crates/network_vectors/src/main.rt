@@ -1,5 +1,7 @@
 // Runs data/network.txt and the standard's five keys through the shape of network files and both conversions, and counts agreements
 // and differences. A line is `old2new OLD NEW`, `new2old NEW ok OLD` or `new2old NEW refused NUMBER`, with bytes in hexadecimal.
+#![tactic(auto)]
+
 use converting::Converted;
 use libc::STDOUT_FILENO;
 use vectors::line::{FILLER, bytes_of, end, letter, refused, size};

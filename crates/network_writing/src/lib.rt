@@ -1,4 +1,6 @@
 // Network files, written (document 02, L7).
+#![tactic(auto)]
+
 ghost use Rattle.std.specs.Prelude.{◌≡◌, length, take, ◌+◌, ◌*◌, ◌^◌, ◌≤◌, ◌<◌};
 ghost use mathlib.Core.List.{◌∷◌, ◌++◌, flat_map};
 ghost use Rattle.std.proofs.lemmas.List.Edits.{sets};

@@ -1,5 +1,7 @@
 // Opens capsules (document 01, 'Bench keys'): reads key.bin of the working folder and publishes; then, if the key is accepted,
 // reads capsules from standard input and writes a line for each, and the total.
+#![tactic(auto)]
+
 ghost use Rattle.io.specs.Counts.{IsPrefixLen};
 
 use libc::{STDIN_FILENO, STDOUT_FILENO};

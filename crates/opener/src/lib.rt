@@ -1,5 +1,7 @@
 // The text that the program prints, from a key file and capsules (document 01, 'Bench keys'; L1's last line); its calls name A. A
 // function with a place `at` writes its part from there on, as far as the output reaches, and gives the place behind it.
+#![tactic(auto)]
+
 ghost use Rattle.std.specs.Prelude.{◌≡◌, true, [], ◌∷◌, ◌++◌, ◌+◌, ◌^◌, ◌≤◌, ◌<◌, length, take, drop, replicate};
 ghost use Rattle.bits.specs.Bits.{bytes_for, unpack};
 ghost use Rattle.code.specs.Publish.{capsule_bits};

@@ -1,4 +1,6 @@
 // Packed rows added, multiplied and written.
+#![tactic(auto)]
+
 ghost use Rattle.std.specs.Prelude.{◌≡◌, [], map, ◌+◌, ◌*◌, ◌%◌, ◌^◌, ◌≤◌, ◌<◌, length, replicate};
 ghost use Rattle.std.specs.Int.Count.{ones};
 ghost use Rattle.bits.specs.Bits.{from, bytes_for, bit_at, number, put_bits, over, row_written, xor_row, row_product};

@@ -1,5 +1,7 @@
 // Rows of H in a lent workspace, from g's values at the places of a support. Rows lie `step` bytes apart; what lies behind a
 // row's bits, and behind the rows, stays.
+#![tactic(auto)]
+
 ghost use Rattle.std.specs.Prelude.{◌≡◌, true, map, ◌*◌, ◌≤◌, ◌<◌, length, take, drop};
 ghost use Rattle.bits.specs.Bits.{every, bytes_for, put_bits};
 ghost use Rattle.field.specs.Field.{is_width};

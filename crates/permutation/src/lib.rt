@@ -1,4 +1,6 @@
 // KECCAK-p[1600, 24] of FIPS 202. The state is 25 lanes: bit z of lane (x, y), the number at 5y + x, is the standard's A[x, y, z].
+#![tactic(auto)]
+
 ghost use Rattle.std.specs.Prelude.{◌≡◌};
 ghost use Rattle.keccak.specs.Lanes.{theta_lanes, rho_pi_lanes, chi_lanes, round_lanes, permuted};
 

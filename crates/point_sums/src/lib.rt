@@ -1,4 +1,6 @@
 // Weighted sums of powers over points.
+#![tactic(auto)]
+
 mod elements;
 mod points;
 

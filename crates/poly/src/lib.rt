@@ -1,4 +1,6 @@
 // Polynomials over GF(2^m).
+#![tactic(auto)]
+
 mod horner;
 
 pub use horner::{value, value_each};

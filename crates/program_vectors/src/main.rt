@@ -1,5 +1,7 @@
 // Runs the cases of data/ through opener::report. Case NN is the key file NN.key, none where it is missing, the
 // input NN.inp, of which the program reads 65,536 bytes, and the text NN.txt.
+#![tactic(auto)]
+
 ghost use Rattle.io.specs.Counts.{IsPrefixLen};
 
 use libc::STDOUT_FILENO;

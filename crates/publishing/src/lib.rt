@@ -1,4 +1,6 @@
 // The public key of a kept key (document 01, 'Code and public key' and 'Station').
+#![tactic(auto)]
+
 mod matrix;
 mod rows;
 

@@ -1,4 +1,6 @@
 // Reading and opening on a kept key (document 01, 'Reading and opening').
+#![tactic(auto)]
+
 mod calls;
 
 pub use calls::{

@@ -23,7 +23,7 @@ use Rattle.ledger.proofs.Simulation.{Simulates, definitions_simulate, same_numbe
 use Rattle.ledger.proofs.OwnWords.{own_words}
 use Rattle.ledger.proofs.Reports.{import_report}
 use Rattle.ledger.proofs.Sessions.{session_keys}
-use Rattle.ledger.proofs.Marks.{marked_reading_lem}
+use Rattle.ledger.proofs.Marks.{marked_readings}
 use Rattle.ledger.proofs.Exchange.{exchange_keys}
 use Rattle.ledger.proofs.SmallPublish.{small_publish}
 use Rattle.recipients.specs.Names.{Name, name_of, NamedCall, naming, calls_of}
@@ -128,7 +128,7 @@ module _ (r : Recipients) (p : Slotted r) (sim : Simulates r.slots) where
         reads_code_words = λ x. (own_words (recipient r x) (sims x)).reads_code_words;
         import_report = λ x. import_report (recipient r x) (sims x);
         session_keys = λ x. session_keys (recipient r x) (sims x);
-        marked_reading_lem = λ x. marked_reading_lem (recipient r x) (sims x);
+        marked_readings = λ x. marked_readings (recipient r x) (sims x);
         exchange_keys = λ x. exchange_keys (recipient r x) (sims x);
         small_publish = λ x. small_publish (recipient r x) (sims x);
         apart = apart r p;

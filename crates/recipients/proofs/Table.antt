@@ -27,7 +27,7 @@ use Rattle.session.specs.Session.{session_conditions}
 use Rattle.ledger.specs.Slot.{empty_key, fresh, is_empty, is_unpublished, held_by}
 use Rattle.ledger.specs.Loading.{key_file, network_file, loading_conditions, loaded_key}
 use Rattle.ledger.specs.Publishing.{systematic, small, public_buffer, work_buffer, needed_bytes, publishing_conditions, publication, freed_bytes}
-use Rattle.ledger.specs.Questions.{open_capsule, read_word, read_marked, report, session_key_lem, answer_buffer, question_conditions, gives, given, answer_size}
+use Rattle.ledger.specs.Questions.{open_capsule, read_word, read_marked, report, derive_session_key, answer_buffer, question_conditions, gives, given, answer_size}
 use Rattle.ledger.specs.Calls.{Call, load, publish, ask, drop_key, conditions_of, output_of, no_answer, made, unless, step, run}
 use Rattle.ledger.specs.Ledger.{blank, held_in, ledger_number, entered, fed}
 use Rattle.ledger_tables.proofs.Table.{Answer, accepted, refused, answer_by, answer_of, answers, zeros}
@@ -78,7 +78,7 @@ kinds =
     ask (read_marked (0x24 ∷ []) (0x00 ∷ []) (zeros 1)) ∷
     ask (read_marked [] [] []) ∷
     ask (report (0x03 ∷ []) (zeros 1)) ∷
-    ask (session_key_lem [] []) ∷
+    ask (derive_session_key [] []) ∷
     drop_key ∷ []
 
 unfoldable pub nameless : List (NamedCall × Answer)

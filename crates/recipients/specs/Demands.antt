@@ -65,7 +65,7 @@ module _ (r : Recipients) where
     pub reads_code_words : (x : Name) → ReadsCodeWords (recipient r x)
     pub import_report : (x : Name) → ImportReport (recipient r x)
     pub session_keys : (x : Name) → SessionKeys (recipient r x)
-    pub marked_reading_lem : (x : Name) → MarkedReading (recipient r x)
+    pub marked_readings : (x : Name) → MarkedReading (recipient r x)
     pub exchange_keys : (x : Name) → ExchangeKeys (recipient r x)
     pub small_publish : (x : Name) → SmallPublish (recipient r x)
     pub apart : Apart r

@@ -1,4 +1,6 @@
 // The shortest register for a list of elements: document 004's Figure 1.
+#![tactic(auto)]
+
 ghost use Rattle.std.specs.Prelude.{◌≡◌, true, ◌++◌, map, ◌+◌, ◌-◌, ◌*◌, ◌/◌, ◌≤◌, ◌<◌, min, length, get_or, replicate};
 ghost use Rattle.bits.specs.Xor.{◌⊕◌};
 ghost use Rattle.bits.specs.Bits.{from, every, xor_row};

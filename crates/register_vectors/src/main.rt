@@ -1,5 +1,7 @@
 // Runs the vectors of data/registers.txt through the register's public call and counts agreements and differences.
 // A line is `m N : s_0 .. : LENGTH : c_0 .. c_LENGTH` or `m N : s_0 .. : refused NUMBER`; `#` starts a comment.
+#![tactic(auto)]
+
 ghost use Rattle.std.specs.Prelude.{◌<◌};
 
 use libc::STDOUT_FILENO;

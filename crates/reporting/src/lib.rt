@@ -1,4 +1,6 @@
 // The import report on a kept key, lent by its parts (request L1).
+#![tactic(auto)]
+
 ghost use Rattle.std.specs.Prelude.{◌≡◌, not, ◌+◌, ◌-◌, ◌/◌, ◌≤◌, length, take, drop};
 ghost use Rattle.bits.specs.Bits.{over};
 ghost use Rattle.field.specs.Numbers.{first_of};

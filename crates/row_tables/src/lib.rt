@@ -1,4 +1,6 @@
 // A row of at most 128 coefficients in GF(2^m): the table of its multiples, and a multiple of it added to another row.
+#![tactic(auto)]
+
 ghost use Rattle.std.specs.Prelude.{◌≡◌, ◌⊎◌, ℕ, ◌+◌, ◌*◌, ◌%◌, ◌≤◌, ◌<◌, length, get_or};
 ghost use Rattle.row_tables.specs.RowTable.{table_in, add_multiple};
 ghost use Rattle.row_tables.specs.Making.{earlier_rows, digit_places, Put, Zeroed, Columns};

@@ -1,4 +1,6 @@
 // The session key of a capsule under a kept key, lent by its parts (request L4).
+#![tactic(auto)]
+
 ghost use Rattle.std.specs.Prelude.{◌≡◌, not, cond, ◌&&◌, ◌+◌, ◌≤◌, eqb, length, take};
 ghost use Rattle.std.proofs.Math.Seq.{paste};
 ghost use Rattle.field.specs.Verdicts.{verdict_of};

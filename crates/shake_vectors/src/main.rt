@@ -1,6 +1,8 @@
 // Runs data/shake.txt and data/more.txt through SHAKE256 and counts agreements and differences. A line is `INPUT LENGTH
 // OUTPUT`, bytes in hexadecimal, `-` where there are none. more.txt has inputs and lengths about those of whole blocks, drawn
 // at random, with the outputs of hashlib's shake_256.
+#![tactic(auto)]
+
 ghost use Rattle.io.specs.Counts.{IsPrefixLen};
 
 use libc::STDOUT_FILENO;

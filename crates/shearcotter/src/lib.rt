@@ -1,16 +1,18 @@
 // The calls under C names; include/shearcotter.h declares them. What each call answers is what the crates below answer. Where a
 // call leaves the station or its keys, the reply takes the caller's own: one copy less.
+#![tactic(auto)]
+
 ghost use Rattle.std.specs.Prelude.{◌≡◌, length, drop};
 ghost use Rattle.keccak.specs.Shake.{shake256};
 ghost use Rattle.field_calls.specs.Answers.{add_of, multiply_of, invert_of};
 ghost use Rattle.register.specs.Registered.{registered_of};
 ghost use Rattle.key.specs.Answers.{shape_of};
 ghost use Rattle.code.specs.Lock.{lock_number, lock_output};
-ghost use Rattle.network_key.specs.Converting.{to_network_lem, from_network_lem, convert_output};
+ghost use Rattle.network_key.specs.Converting.{into_network, out_of_network, convert_output};
 ghost use Rattle.converting.specs.Answers.{converted_of};
 ghost use Rattle.ledger.specs.Loading.{key_file, network_file};
 ghost use Rattle.ledger.specs.Publishing.{systematic, small};
-ghost use Rattle.ledger.specs.Questions.{open_capsule, read_word, read_marked, report, session_key_lem};
+ghost use Rattle.ledger.specs.Questions.{open_capsule, read_word, read_marked, report, derive_session_key};
 ghost use Rattle.ledger.specs.Calls.{load, publish, ask, drop_key};
 ghost use Rattle.recipients.specs.Names.{named};
 ghost use Rattle.station.specs.Replies.{fresh_station, handed, reply_of, reported_of, derived_of};
@@ -92,8 +94,8 @@ pub extern "C" fn shearcotter_shake256(input: &[u8], out: &mut [u8])
 // The network file of a key file's key is written from the output's start; 1, 2, 3, 4, 5, 6, 7 or 10 on refusal.
 #[unsafe(no_mangle)]
 pub extern "C" fn shearcotter_to_network(file: &[u8], out: &mut [u8]) -> Converted
-    ensures answer { result ≡ converted_of to-network file.now (length out.old) }
-    ensures output { out.new ≡ convert_output to-network file.now out.old }
+    ensures answer { result ≡ converted_of into_network file.now (length out.old) }
+    ensures output { out.new ≡ convert_output into_network file.now out.old }
 {
     converting::to_network(file, out)
 }
@@ -101,8 +103,8 @@ pub extern "C" fn shearcotter_to_network(file: &[u8], out: &mut [u8]) -> Convert
 // The key file of a network file's key is written from the output's start; 1, 2, 36, 3, 4, 6, 7 or 10 on refusal.
 #[unsafe(no_mangle)]
 pub extern "C" fn shearcotter_from_network(file: &[u8], out: &mut [u8]) -> Converted
-    ensures answer { result ≡ converted_of from-network file.now (length out.old) }
-    ensures output { out.new ≡ convert_output from-network file.now out.old }
+    ensures answer { result ≡ converted_of out_of_network file.now (length out.old) }
+    ensures output { out.new ≡ convert_output out_of_network file.now out.old }
 {
     converting::from_network(file, out)
 }
@@ -118,7 +120,7 @@ pub extern "C" fn shearcotter_fresh() -> Station
 // The key of a key file is kept; 35, 22, 1, 2, 3, 4, 5, 6 or 7 on refusal.
 #[unsafe(no_mangle)]
 pub extern "C" fn shearcotter_load(own: Station, name: u8, file: &[u8]) -> Reply
-    ensures { result ≡ reply_of (handed own (named name (load (key-file file.now)))) }
+    ensures { result ≡ reply_of (handed own (named name (load (key_file file.now)))) }
 {
     own.load(name, file)
 }
@@ -126,7 +128,7 @@ pub extern "C" fn shearcotter_load(own: Station, name: u8, file: &[u8]) -> Reply
 // The key of a network file is kept; 35, 22, 1, 2, 36, 3, 4, 6 or 7 on refusal.
 #[unsafe(no_mangle)]
 pub extern "C" fn shearcotter_load_network(own: Station, name: u8, file: &[u8]) -> Reply
-    ensures { result ≡ reply_of (handed own (named name (load (network-file file.now)))) }
+    ensures { result ≡ reply_of (handed own (named name (load (network_file file.now)))) }
 {
     own.load_network(name, file)
 }
@@ -186,8 +188,8 @@ pub extern "C" fn shearcotter_publish_small(
 // The pattern of a capsule is written from the output's start; 35, 21, 25, 34, 24, 8, 9, 10 or 13 on refusal.
 #[unsafe(no_mangle)]
 pub extern "C" fn shearcotter_open(own: Station, name: u8, capsule: &[u8], out: &mut [u8]) -> Reply
-    ensures reply { result ≡ reply_of (handed own (named name (ask (open-capsule capsule.now out.old)))) }
-    ensures output { out.new ≡ (handed own (named name (ask (open-capsule capsule.now out.old)))).output }
+    ensures reply { result ≡ reply_of (handed own (named name (ask (open_capsule capsule.now out.old)))) }
+    ensures output { out.new ≡ (handed own (named name (ask (open_capsule capsule.now out.old)))).output }
 {
     let opened = own.open(name, capsule, out);
     Reply {
@@ -221,8 +223,8 @@ pub extern "C" fn shearcotter_read_marked(
     marks: &[u8],
     out: &mut [u8],
 ) -> Reply
-    ensures reply { result ≡ reply_of (handed own (named name (ask (read-marked word.now marks.now out.old)))) }
-    ensures output { out.new ≡ (handed own (named name (ask (read-marked word.now marks.now out.old)))).output }
+    ensures reply { result ≡ reply_of (handed own (named name (ask (read_marked word.now marks.now out.old)))) }
+    ensures output { out.new ≡ (handed own (named name (ask (read_marked word.now marks.now out.old)))).output }
 {
     let corrected = own.read_marked(name, word, marks, out);
     Reply {
@@ -261,7 +263,7 @@ pub extern "C" fn shearcotter_session(
     capsule: &[u8],
     secret: &[u8],
 ) -> Derived
-    ensures { result ≡ derived_of (handed own (named name (ask (session-key capsule.now secret.now)))) }
+    ensures { result ≡ derived_of (handed own (named name (ask (derive_session_key capsule.now secret.now)))) }
 {
     let derived = own.session(name, capsule, secret);
     let key = derived.key;
@@ -275,7 +277,7 @@ pub extern "C" fn shearcotter_session(
 // Afterwards the slot that is named is a fresh one; 35 or 21 on refusal.
 #[unsafe(no_mangle)]
 pub extern "C" fn shearcotter_drop(own: Station, name: u8) -> Reply
-    ensures { result ≡ reply_of (handed own (named name drop-key)) }
+    ensures { result ≡ reply_of (handed own (named name drop_key)) }
 {
     own.drop(name)
 }

@@ -29,8 +29,8 @@ import_report = Reports.import_report code code_simulates
 pub session_keys : SessionKeys code
 session_keys = Sessions.session_keys code code_simulates
 
-pub marked_reading_lem : MarkedReading code
-marked_reading_lem = Marks.marked_reading_lem code code_simulates
+pub marked_readings : MarkedReading code
+marked_readings = Marks.marked_readings code code_simulates
 
 pub exchange_keys : ExchangeKeys code
 exchange_keys = Exchange.exchange_keys code code_simulates

@@ -1,10 +1,12 @@
 // A slot, which keeps one key (document 01, 'Station'). The station of request L6 has two. The slot's calls take its parts, the state
 // and the key's sizes and arrays, so that nothing of it is copied.
+#![tactic(auto)]
+
 ghost use Rattle.std.specs.Prelude.{◌≡◌, not, drop};
 ghost use Rattle.field.specs.Verdicts.{verdict_of};
 ghost use Rattle.ledger.specs.Slot.{is_empty, is_unpublished};
 ghost use Rattle.ledger.specs.Publishing.{systematic, small};
-ghost use Rattle.ledger.specs.Questions.{open_capsule, read_word, read_marked, report, session_key_lem};
+ghost use Rattle.ledger.specs.Questions.{open_capsule, read_word, read_marked, report, derive_session_key};
 ghost use Rattle.ledger.specs.Calls.{load, publish, ask, drop_key};
 ghost use Rattle.loading.specs.Forms.{loading_of};
 ghost use Rattle.slot.specs.Replies.{state_of, answer_number, fresh_slot, handed};
@@ -143,8 +145,8 @@ pub fn open<'a>(
     capsule: &[u8],
     out: &mut [u8],
 ) -> Answer
-    ensures answer { result ≡ answered_of (handed (slot_in state m n t support.now g.now) (ask (open-capsule capsule.now out.old))) }
-    ensures output { out.new ≡ (handed (slot_in state m n t support.now g.now) (ask (open-capsule capsule.now out.old))).output }
+    ensures answer { result ≡ answered_of (handed (slot_in state m n t support.now g.now) (ask (open_capsule capsule.now out.old))) }
+    ensures output { out.new ≡ (handed (slot_in state m n t support.now g.now) (ask (open_capsule capsule.now out.old))).output }
 {
     if is_empty(state) {
         return Answer::Refused(21);
@@ -185,8 +187,8 @@ pub fn read_marked<'a>(
     marks: &[u8],
     out: &mut [u8],
 ) -> Answer
-    ensures answer { result ≡ answered_of (handed (slot_in state m n t support.now g.now) (ask (read-marked word.now marks.now out.old))) }
-    ensures output { out.new ≡ (handed (slot_in state m n t support.now g.now) (ask (read-marked word.now marks.now out.old))).output }
+    ensures answer { result ≡ answered_of (handed (slot_in state m n t support.now g.now) (ask (read_marked word.now marks.now out.old))) }
+    ensures output { out.new ≡ (handed (slot_in state m n t support.now g.now) (ask (read_marked word.now marks.now out.old))).output }
 {
     if is_empty(state) {
         return Answer::Refused(21);
@@ -230,7 +232,7 @@ pub fn session<'a>(
     capsule: &[u8],
     secret: &[u8],
 ) -> SessionKey
-    ensures { result ≡ derived_of (handed (slot_in state m n t support.now g.now) (ask (session-key capsule.now secret.now))) }
+    ensures { result ≡ derived_of (handed (slot_in state m n t support.now g.now) (ask (derive_session_key capsule.now secret.now))) }
 {
     if is_empty(state) {
         return SessionKey {
@@ -244,7 +246,7 @@ pub fn session<'a>(
 
 // Whether the slot becomes a fresh one; 21 on refusal. A drop asks for nothing but the state.
 pub fn drop(state: u8) -> Verdict
-    ensures { result ≡ verdict_of (handed (keyless state) drop-key).reply.refused }
+    ensures { result ≡ verdict_of (handed (keyless state) drop_key).reply.refused }
 {
     if is_empty(state) {
         return Verdict::Refused(21);

@@ -1,4 +1,6 @@
 // The public key of a kept key, in the small workspace (request L9).
+#![tactic(auto)]
+
 ghost use Rattle.std.specs.Prelude.{◌≡◌, not, cond, ◌-◌, ◌*◌, ◌≤◌, length, drop};
 ghost use Rattle.bits.specs.Bits.{bytes_for, over};
 ghost use Rattle.field.specs.Numbers.{first_of};

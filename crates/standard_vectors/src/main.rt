@@ -1,6 +1,8 @@
 // Runs the published vector 0 of mceliece348864 through the station's calls and lock: the key is loaded, T is
 // compared with the public key byte for byte, the capsule opened and read, the pattern locked, a changed capsule refused,
 // and the session keys of both capsules compared.
+#![tactic(auto)]
+
 ghost use Rattle.io.specs.Counts.{IsPrefixLen};
 
 use libc::STDOUT_FILENO;

@@ -1,9 +1,11 @@
 // The station: a slot for each of two recipients, A and B (request L6). Each call names one by a byte and is that slot's call; a
 // byte other than 1 and 2 is refused with 35, before all else. The slot that is named is lent part by part, so that it is not copied.
+#![tactic(auto)]
+
 ghost use Rattle.std.specs.Prelude.{◌≡◌, drop, replicate};
 ghost use Rattle.ledger.specs.Loading.{key_file, network_file};
 ghost use Rattle.ledger.specs.Publishing.{systematic, small};
-ghost use Rattle.ledger.specs.Questions.{open_capsule, read_word, read_marked, report, session_key_lem};
+ghost use Rattle.ledger.specs.Questions.{open_capsule, read_word, read_marked, report, derive_session_key};
 ghost use Rattle.ledger.specs.Calls.{load, publish, ask, drop_key};
 ghost use Rattle.slot.specs.Replies.{fresh_slot};
 ghost use Rattle.recipients.specs.Names.{named};
@@ -141,7 +143,7 @@ impl Station {
 
     // The key of a key file is kept; 35, 22, 1, 2, 3, 4, 5, 6 or 7 on refusal. It is written where it stays, so that it is not copied.
     pub fn load(self, name: u8, file: &[u8]) -> Reply
-        ensures { result ≡ reply_of (handed self (named name (load (key-file file.now)))) }
+        ensures { result ≡ reply_of (handed self (named name (load (key_file file.now)))) }
     {
         let mut reply = self.refuse(35);
         if !is_name(name) {
@@ -173,7 +175,7 @@ impl Station {
 
     // The key of a network file is kept likewise; 35, 22, 1, 2, 36, 3, 4, 6 or 7 on refusal.
     pub fn load_network(self, name: u8, file: &[u8]) -> Reply
-        ensures { result ≡ reply_of (handed self (named name (load (network-file file.now)))) }
+        ensures { result ≡ reply_of (handed self (named name (load (network_file file.now)))) }
     {
         let mut held = self.refuse(35);
         if !is_name(name) {
@@ -263,8 +265,8 @@ impl Station {
 
     // The pattern of a capsule is written from the output's start; 35, 21, 25, 34, 24, 8, 9, 10 or 13 on refusal.
     pub fn open(self, name: u8, capsule: &[u8], out: &mut [u8]) -> Reply
-        ensures reply { result ≡ reply_of (handed self (named name (ask (open-capsule capsule.now out.old)))) }
-        ensures output { out.new ≡ (handed self (named name (ask (open-capsule capsule.now out.old)))).output }
+        ensures reply { result ≡ reply_of (handed self (named name (ask (open_capsule capsule.now out.old)))) }
+        ensures output { out.new ≡ (handed self (named name (ask (open_capsule capsule.now out.old)))).output }
     {
         if !is_name(name) {
             return self.refuse(35);
@@ -320,8 +322,8 @@ impl Station {
     // The differences of a marked word are written from the output's start, and those at unmarked places are counted; 35, 21, 25, 8,
     // 9, 37, 10 or 14 on refusal.
     pub fn read_marked(self, name: u8, word: &[u8], marks: &[u8], out: &mut [u8]) -> Reply
-        ensures reply { result ≡ reply_of (handed self (named name (ask (read-marked word.now marks.now out.old)))) }
-        ensures output { out.new ≡ (handed self (named name (ask (read-marked word.now marks.now out.old)))).output }
+        ensures reply { result ≡ reply_of (handed self (named name (ask (read_marked word.now marks.now out.old)))) }
+        ensures output { out.new ≡ (handed self (named name (ask (read_marked word.now marks.now out.old)))).output }
     {
         if !is_name(name) {
             return self.refuse(35);
@@ -380,7 +382,7 @@ impl Station {
 
     // The session key of a capsule, with the secret for one that open refuses with 13; 35, 21, 25, 34, 24, 8, 9 or 33 on refusal.
     pub fn session(self, name: u8, capsule: &[u8], secret: &[u8]) -> Derived
-        ensures { result ≡ derived_of (handed self (named name (ask (session-key capsule.now secret.now)))) }
+        ensures { result ≡ derived_of (handed self (named name (ask (derive_session_key capsule.now secret.now)))) }
     {
         if !is_name(name) {
             return Derived {
@@ -409,7 +411,7 @@ impl Station {
 
     // Afterwards the slot that is named is a fresh one; 35 or 21 on refusal.
     pub fn drop(self, name: u8) -> Reply
-        ensures { result ≡ reply_of (handed self (named name drop-key)) }
+        ensures { result ≡ reply_of (handed self (named name drop_key)) }
     {
         if !is_name(name) {
             return self.refuse(35);

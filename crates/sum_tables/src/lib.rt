@@ -1,4 +1,6 @@
 // Tables of the sums of a few packed rows.
+#![tactic(auto)]
+
 ghost use Rattle.std.specs.Prelude.{◌≡◌, ◌++◌, map, ◌+◌, ◌*◌, ◌^◌, ◌≤◌, ◌<◌, length, drop};
 ghost use Rattle.bits.specs.Bits.{from, bytes_for, unpack};
 ghost use Rattle.code.specs.Lock.{rows_of};

@@ -1,4 +1,6 @@
 // What the switching network sends out (document 02, L7).
+#![tactic(auto)]
+
 ghost use Rattle.std.specs.Prelude.{◌≡◌, map, length, ◌+◌, ◌*◌, ◌^◌, ◌≤◌, ◌<◌};
 ghost use Rattle.bits.specs.Bits.{from, bit_at};
 ghost use Rattle.network.specs.Network.{exchange, network};

@@ -1,4 +1,6 @@
 // Values of a polynomial by an additive Fourier transform over GF(2^m).
+#![tactic(auto)]
+
 mod everywhere;
 mod gathering;
 mod halves;

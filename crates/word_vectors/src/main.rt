@@ -5,6 +5,8 @@
 // published, `lock PATTERN ok CAPSULE`, or one of the five with `refused NUMBER` from `ok` on; or `session CAPSULE SECRET KEY` as if
 // published, or with `refused NUMBER` for KEY. Bytes are in hexadecimal, and `-` is none. A capsule of `open` that is one or a
 // short tail is also reported on.
+#![tactic(auto)]
+
 ghost use Rattle.std.specs.Prelude.{◌≡◌, length};
 
 use key::kept::Key;

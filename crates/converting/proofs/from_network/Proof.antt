@@ -3,7 +3,7 @@ use mathlib.Core.Path.{sym, ap, ◌∙◌}
 use lib.Seq.{sets}
 use borrow.Author.Rules.{rules}
 use Rattle.key.specs.Answers.{answer_number}
-use Rattle.network_key.specs.Converting.{from_network_lem, way_conditions}
+use Rattle.network_key.specs.Converting.{out_of_network, way_conditions}
 use Rattle.network_file.proofs.Files.{shape_accepted, shape_refused, shape_says, says_fit}
 use Rattle.converting.proofs.Ways.{convert_refused, convert_short, convert_written}
 use Rattle.converting.proofs.Networks.{old_length, old_file}
@@ -28,7 +28,7 @@ returns c =
     let t = c.before.enum_told.given.1 in
     let r = shape_refused _ (sym c.before.before.before.read-key.ensures.0 ∙ t) in
     let e = c.number.ensures ∙ ap answer_number t ∙ r.0 in
-    convert_refused from_network_lem _ _ e (λ z. r.1 (sym e ∙ z))
+    convert_refused out_of_network _ _ e (λ z. r.1 (sym e ∙ z))
 
 cast-length : tie.Need-overflow-cast-length
 cast-length c = search rules
@@ -53,7 +53,7 @@ unfolding way_conditions
 returns-2 c =
     let p = c.before.before.before.before in
     let a = shape_accepted _ (sym p.before.before.read-key.ensures.0 ∙ p.a.given.1) in
-    convert_short from_network_lem _ _ a.0 (old_length _ a.1) c.if1.true
+    convert_short out_of_network _ _ a.0 (old_length _ a.1) c.if1.true
 
 put-requires : tie.Need-put-requires
 put-requires c κs =
@@ -73,7 +73,7 @@ returns-3 c =
     let p = i.before.before.before.before in
     let r = p.before.before.read-key.ensures in
     let a = shape_accepted _ (sym r.0 ∙ p.a.given.1) in
-    let q = convert_written from_network_lem _ _ a.0 (old_length _ a.1) i.if1.false in
+    let q = convert_written out_of_network _ _ a.0 (old_length _ a.1) i.if1.false in
     (q.0, w.put.ensures ∙ ap (sets _ 0) (old_file _ a.1 (r.1.0 a.0) (r.1.1 a.0)) ∙ q.1)
 
 pub from-network-spec : {M : Type 1} → statement M

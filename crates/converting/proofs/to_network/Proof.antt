@@ -4,7 +4,7 @@ use native.Mathlib.Omega.{arith}
 use borrow.Author.Rules.{rules}
 use Rattle.key.specs.Answers.{answer_number}
 use Rattle.key_file.proofs.Files.{shape_refused}
-use Rattle.network_key.specs.Converting.{to_network_lem, converted, way_conditions}
+use Rattle.network_key.specs.Converting.{into_network, converted, way_conditions}
 use Rattle.completion.proofs.Permutation.{none, narrow}
 use Rattle.network_writing.proofs.Whole.{wide, network-size}
 use Rattle.converting.proofs.Ways.{convert_refused, convert_short, convert_written}
@@ -29,7 +29,7 @@ returns c =
     let t = c.before.enum_told.given.1 in
     let r = shape_refused _ (sym c.before.before.before.shape.ensures ∙ t) in
     let e = c.number.ensures ∙ ap answer_number t ∙ r.0 in
-    convert_refused to_network_lem _ _ e (λ z. r.1 (sym e ∙ z))
+    convert_refused into_network _ _ e (λ z. r.1 (sym e ∙ z))
 
 network-length-requires : tie.Need-network-length-requires
 network-length-requires c κs =
@@ -43,7 +43,7 @@ unfolding way_conditions converted
 returns-2 c =
     let p = c.before.before.before in
     let e = sym p.before.before.shape.ensures ∙ p.a.given.1 in
-    convert_short to_network_lem _ _ (none _ _ e) (c.before.network-length.ensures ∙ sym (network-size _ _ e)) c.if1.true
+    convert_short into_network _ _ (none _ _ e) (c.before.network-length.ensures ∙ sym (network-size _ _ e)) c.if1.true
 
 put-network-requires : tie.Need-put-network-requires
 put-network-requires c κs =
@@ -59,7 +59,7 @@ returns-3 c =
     let i = c.before.before.before.before in
     let p = i.before.before.before in
     let e = sym p.before.before.shape.ensures ∙ p.a.given.1 in
-    let q = convert_written to_network_lem _ _ (none _ _ e) (i.before.network-length.ensures ∙ sym (network-size _ _ e)) i.if1.false in
+    let q = convert_written into_network _ _ (none _ _ e) (i.before.network-length.ensures ∙ sym (network-size _ _ e)) i.if1.false in
     (q.0, c.before.before.put-network.ensures ∙ q.1)
 
 pub to-network-spec : {M : Type 1} → statement M

@@ -1,5 +1,5 @@
 -- The station's reply, with the caller's own station. Assumes nothing.
-use Rattle.ledger.specs.Questions.{session_key_lem}
+use Rattle.ledger.specs.Questions.{derive_session_key}
 use Rattle.shearcotter.proofs.Own.{own_derived}
 use Rattle.shearcotter.proofs.shearcotter_session.Statement.{statement}
 use Rattle.shearcotter.proofs.shearcotter_session.Tie as tie
@@ -11,7 +11,7 @@ returns : tie.Need-returns
 returns c =
     let r = c.before in
     let a = r.before.before.before.args in
-    own_derived a.own a.name (session_key_lem a.capsule.now a.secret.now) r.session.ensures
+    own_derived a.own a.name (derive_session_key a.capsule.now a.secret.now) r.session.ensures
 
 pub shearcotter-session-spec : {M : Type 1} → statement M
 shearcotter-session-spec = tie.close (tie.spec session-requires returns)

@@ -2,7 +2,7 @@
 use mathlib.Core.Path.{sym, ap, ◌∙◌}
 use borrow.Author.Tests.{not-true, not-false}
 use Rattle.session_key.specs.declared.SessionKey.{SessionKey}
-use Rattle.ledger.specs.Questions.{session_key_lem, answer_size}
+use Rattle.ledger.specs.Questions.{derive_session_key, answer_size}
 use Rattle.ledger.specs.Calls.{ask, no_answer}
 use Rattle.slot.specs.Replies.{handed}
 use Rattle.slot.specs.Parts.{derived_of}
@@ -20,7 +20,7 @@ unfolding no_answer answer_size
 returns c =
     let i = c.before in
     let a = i.before.before.before.args in
-    derived_unknown a.t1 a.name (ask (session_key_lem a.capsule.now a.secret.now)) (sym i.is_name.ensures ∙ not-true _ c.if1.true)
+    derived_unknown a.t1 a.name (ask (derive_session_key a.capsule.now a.secret.now)) (sym i.is_name.ensures ∙ not-true _ c.if1.true)
 
 byte-requires : tie.Need-byte-requires
 byte-requires c κs = tt
@@ -56,7 +56,7 @@ returns-2 c =
     let a = i.before.before.before.args in
     let k = sym i.is_name.ensures ∙ not-false _ e.if1.false in
     let t = slot_parts a.name a.t1 m.before.byte.ensures m.byte2.ensures n.before.number.ensures n.number2.ensures p.places.ensures f.coefficients.ensures in
-    let q = session_key_lem a.capsule.now a.secret.now in
+    let q = derive_session_key a.capsule.now a.secret.now in
     ap (λ (r : SessionKey). record { station = a.t1; refused = r.refused; key = r.key })
     (o.session.ensures ∙ ap (λ (s : Slot). derived_of (handed s (ask q))) t)
     ∙ derived_left a.t1 a.name q k
