@@ -42,7 +42,7 @@ missing_zeros {cs} j (kernel.row {r = r} {rs = rs} b m) (each z zs) h =
     go false e (pivot p o) f h = let x : ◌≡◌ {A = ℕ} 0 1 = cc in absurd (omega arith)
 
 -- rows that are 0 in the first m columns, and a word that is 0 behind them
-zeros_product : {rs : Matrix} (m z : ℕ) (c : List ℕ) → EachZeros (from 0 m) rs → drop m c ≡ replicate z 0 → Kernel c rs
+zeros_product : (m z : ℕ) (c : List ℕ) {rs : Matrix} → EachZeros (from 0 m) rs → drop m c ≡ replicate z 0 → Kernel c rs
 zeros_product m z c identity.none e = kernel.none
 zeros_product m z c (each {r = r} h hs) e =
     kernel.zero_row

@@ -101,6 +101,8 @@ pub data Units : List ℕ → List ℕ → Matrix → Type 0 where
 units_step : {n : ℕ} {p pre cs : List ℕ} {ds : Matrix} (j : ℕ) → Row n p → Rows n ds → get_or p j 0 ≡ 1 → Zeros p pre → Zeros p cs
     → Units pre cs ds → Units pre (cs ++ (j ∷ [])) (map (clear j p) ds ++ (p ∷ []))
 units_step j a kernel.none o x none none = unit x o none none
+units_step {n = n} {p = p} {pre = pre} j a kernel.none o x (col {c = c} {cs = cs} y ys) u = elim u [ ]
+units_step {n = n} {p = p} {pre = pre} j a (kernel.row {r = r} {rs = rs} b m) o x none u = elim u [ ]
 units_step j a (kernel.row b m) o x (col {c = c} y ys) (unit z w zs us) =
     unit (zeros_clear j a b x z) (clear_keeps j a b c y ∙ w) (zeros_end j (zeros_clear j a b ys zs) (clear_own j a b o))
     (units_step j a m o (zeros_end c x y) ys us)

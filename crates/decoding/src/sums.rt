@@ -13,7 +13,7 @@ use field::Verdict;
 use register::Registered;
 
 // The sums with zeros behind them; on refusal zeros.
-#[derive(Drop)]
+#[derive(Clone, Copy)]
 pub struct Sums {
     pub verdict: Verdict,
     pub s: [u16; Registered::LONGEST],

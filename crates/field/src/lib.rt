@@ -8,7 +8,7 @@ ghost use Rattle.field.specs.Verdicts.{verdict_of, number_of};
 ghost use Rattle.field.specs.Answers.{inverse_number, inverse_of};
 
 // What a check answers, here and in the crates above: accepted, or the number of a refusal.
-#[derive(Drop)]
+#[derive(Clone, Copy)]
 pub enum Verdict {
     Accepted,
     Refused(u8),
@@ -25,7 +25,7 @@ pub fn number(v: Verdict) -> u8
 }
 
 // What an inverse answers, and each public call of `field_calls`: the element, or the number of a refusal.
-#[derive(Drop)]
+#[derive(Clone, Copy)]
 pub enum Answer {
     Value(u16),
     Refused(u8),

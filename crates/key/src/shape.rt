@@ -5,7 +5,7 @@ ghost use Rattle.key.specs.Answers.{answer_number, shape_of};
 
 use super::kept::Key;
 
-#[derive(Drop)]
+#[derive(Clone, Copy)]
 pub struct Sizes {
     pub m: u8,
     pub n: u16,

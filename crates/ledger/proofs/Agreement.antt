@@ -71,13 +71,13 @@ agree_step {s} {l} a c = go (ledger_number l c) refl
 pub agree_run : {s : Slot} {l : Ledger} → Agree s l → (calls : List Call) → Agree (run step s calls) (ledger_after l calls)
 unfolding run ledger_after
 agree_run a [] = a
-agree_run a (c ∷ cs) = agree_run (agree_step a c) cs
+agree_run {s = s} {l = l} a (c ∷ cs) = agree_run {s = (step s c).station} {l = ledger_next l c} (agree_step a c) cs
 
 -- each call was refused with its number, or accepted where it has none
 pub agree_numbers : {s : Slot} {l : Ledger} → Agree s l → (calls : List Call) → answered step s calls ≡ expected l calls
 unfolding answered expected
 agree_numbers a [] = refl
-agree_numbers {s} {l} a (c ∷ cs) = ap₂ ◌∷◌ (step-number s c ∙ agree_number a c) (agree_numbers (agree_step a c) cs)
+agree_numbers {s = s} {l = l} a (c ∷ cs) = ap₂ ◌∷◌ (step-number s c ∙ agree_number a c) (agree_numbers {s = (step s c).station} {l = ledger_next l c} (agree_step a c) cs)
 
 -- the slot holds the ledger's key, or none where the ledger has none
 pub agree_key : {s : Slot} {l : Ledger} → Agree s l → key_held s ≡ l.key

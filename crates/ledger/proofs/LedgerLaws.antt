@@ -52,7 +52,7 @@ next_question l q = go (ledger_number l (ask q))
 pub ledger_append : (l : Ledger) (cs ds : List Call) → ledger_after l (cs ++ ds) ≡ ledger_after (ledger_after l cs) ds
 unfolding ledger_after
 ledger_append l [] ds = refl
-ledger_append l (c ∷ cs) ds = ledger_append _ cs ds
+ledger_append l (c ∷ cs) ds = ledger_append (ledger_next l c) cs ds
 
 pub run-append : {S C : Type 0} (call : S → C → Outcome S) (s : S) (cs ds : List C) → run call s (cs ++ ds) ≡ run call (run call s cs) ds
 unfolding run

@@ -27,7 +27,7 @@ pub struct Registered {
 }
 
 // Figure 1's l and y, and its d_m multiplied by a unit; B(x), beside it, by the same, and C(x) by another.
-#[derive(Drop)]
+#[derive(Clone, Copy)]
 struct Step {
     l: usize,
     d: u16,

@@ -10,7 +10,7 @@ pub const SIZE: usize = 64;
 pub const FILLER: u8 = 0xa5;
 
 // The first `count` bytes.
-#[derive(Drop)]
+#[derive(Clone, Copy)]
 pub struct Bytes {
     pub bytes: [u8; 64],
     pub count: usize,

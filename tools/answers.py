@@ -1,0 +1,318 @@
+#!/usr/bin/env python3
+"""Turns each Proof.antt of an older Rattle, which answers its goals as tie.Need-.., into Invariants.antt and Answers.antt.
+
+usage: tools/answers.py CRATE_FOLDER NAMES.JSON
+
+NAMES.JSON is what `rt check --generated DIR --old-names` writes in the crate. Answers that the check finds alone are left out.
+What a line could not be turned for is printed. A Proof.antt that is turned is removed.
+"""
+
+import glob
+import json
+import os
+import re
+import sys
+
+PATH = re.compile(r"(?<![^\s(){};,@])(?!\u0002)([A-Za-zα-ωκ][^\s(){}.;,@\"«»]*)((?:\.[^\s(){}.;,@\"«»]+)*)")
+EASY = {"search rules", "tt", "omega arith"}
+plain = lambda s: re.sub(r"[-_]", "", s)
+
+
+def read(p):
+    with open(p, encoding="utf-8") as f:
+        return f.read()
+
+
+def signatures(root):
+    """For each crate, function names with their `&mut` parameters and the names of their clauses."""
+    out = {}
+    for c in os.listdir(os.path.join(root, "crates")):
+        for p in glob.glob(os.path.join(root, "crates", c, "src", "**", "*.rt"), recursive=True):
+            t = re.sub(r"//[^\n]*", "", read(p))
+            for m in re.finditer(r"\bfn (\w+)\s*(?:<[^>{]*>)?\s*\(", t):
+                i, d = m.end(), 1
+                while d:
+                    d += {"(": 1, ")": -1}.get(t[i], 0)
+                    i += 1
+                params = t[m.end() : i - 1]
+                muts = [a or "self" for a, b in re.findall(r"(?:(\w+)\s*:\s*&(?:'\w+ )?mut|(&mut self))", params)]
+                j = i
+                clauses = {"requires": [], "ensures": []}
+                while True:
+                    k = re.compile(r"\s*(?:->[^{]*?(?=\s*(?:requires|ensures|\{)))?\s*(requires|ensures)\s*\*?\s*(\w*)\s*\{").match(t, j)
+                    if not k:
+                        break
+                    clauses[k[1]].append(k[2])
+                    d, j = 1, k.end()
+                    while d:
+                        d += {"{": 1, "}": -1}.get(t[j], 0)
+                        j += 1
+                out.setdefault((c, m[1]), []).append((muts, clauses))
+    return out
+
+
+class Turned:
+    def __init__(self, crate, where, names, sigs):
+        self.crate, self.where, self.names, self.sigs, self.said = crate, where, names, sigs, []
+        self.places = {}
+        for i, (old, parent, step, callee, _) in enumerate(names["places"]):
+            self.places[old] = (parent, step, callee, names["arms"][i] if i < len(names["arms"]) else None)
+        self.needs = {}
+        for (old, new), (at, _) in zip(names["needs"], names["asked_at"]):
+            self.needs[plain(old)] = (new, at)
+
+    def say(self, text):
+        self.said.append(text)
+
+    def chain(self, place):
+        while place is not None:
+            yield place
+            place = self.places[place][0] if place in self.places else None
+
+    def contract(self, callee):
+        parts = callee.split("::")
+        return (self.sigs.get((parts[0], parts[-1])) or [None])[0]
+
+    def fields(self, callee, rest):
+        """The fields of a call's step in today's names."""
+        sig = self.contract(callee) if callee else None
+        if not sig or not rest:
+            return rest
+        muts, clauses = sig
+        if rest[0] in ("new", "auto") and len(rest) > 1 and rest[1].isdigit():
+            n = int(rest[1])
+            if n < len(muts):
+                return [rest[0], muts[n]] + rest[2:]
+        if rest[0] in ("requires", "ensures") and len(rest) > 1 and rest[1].isdigit():
+            labels = clauses[rest[0]]
+            n = int(rest[1])
+            if len(labels) > 1 and n < len(labels) and labels[n]:
+                return [rest[0], labels[n]] + rest[2:]
+        return rest
+
+    def path(self, place, parts):
+        """The path `parts` of a point in today's names, or a point."""
+        try:
+            return self.path_from(place, parts)
+        except KeyError:
+            # Today's proof has fewer points: the step is searched from the goal's own point.
+            return self.path_from(self.goal_at, [p for p in parts if p != "before"])
+
+    def path_from(self, place, parts):
+        while parts and parts[0] == "before":
+            place = (self.places[place][0] if place in self.places else None) or place
+            parts = parts[1:]
+        if not parts:
+            return place, None
+        head, rest = parts[0], parts[1:]
+        if head in ("args", "requires", "ranges", "type_inv", "type-inv", "utf8", "well_formed", "lifetimes"):
+            if head == "requires":
+                rest = self.fields_own(head, rest)
+                return None, ".".join(["c"] + rest)
+            return None, ".".join(["c", head.replace("-", "_")] + rest)
+        arms = {}
+        for at in list(self.chain(place)):
+            _, step, callee, arm = self.places[at]
+            if arm:
+                for field, old, path in arm[2]:
+                    arms.setdefault(plain(old), []).append((arm[0], field, path))
+        for at in self.chain(place):
+            _, step, callee, arm = self.places[at]
+            if plain(step[0]) == plain(head):
+                for name, field, path in sorted(arms.get(plain(head), []), key=lambda it: -len(it[2])):
+                    if path and rest[: len(path)] == path:
+                        return None, ".".join(["c", name, field] + rest[len(path) :])
+                return None, ".".join(["c", step[1]] + self.fields(callee, rest))
+        raise KeyError(head)
+
+    def fields_own(self, head, rest):
+        labels = self.own[1][head] if self.own else []
+        if rest and rest[0].isdigit() and len(labels) > 1 and int(rest[0]) < len(labels):
+            return [head, labels[int(rest[0])]] + rest[1:]
+        return [head] + rest
+
+    def body(self, text, place, need):
+        env = {"c": place}
+        self.goal_at = place
+        out = []
+        for line in text.split("\n"):
+            # An alias of a point of the code goes.
+            while True:
+                m = re.search(r"\blet (\S+) = ([a-zA-Z][^\s(){}.;,]*)((?:\.[^\s(){}.;,]+)*) in(?=\s|$)", line)
+                if not m or m[2] not in env:
+                    break
+                try:
+                    at, new = self.path(env[m[2]], [p for p in m[3].split(".") if p])
+                except KeyError as e:
+                    self.say(f"{need}: no step {e} in {m[0]}")
+                    env.pop(m[1], None)
+                    line = line[: m.start()] + line[m.start() :].replace("let ", "let\u0001", 1)
+                    continue
+                if new is None:
+                    env[m[1]] = at
+                    line = line[: m.start()] + line[m.end() :].lstrip()
+                    if not line.strip():
+                        line = None
+                        break
+                else:
+                    env.pop(m[1], None)
+                    line = line[: m.start()] + f"let\u0001{m[1]} = \u0002{new} in" + line[m.end() :]
+            if line is None:
+                continue
+
+            def one(m):
+                if m[1] not in env:
+                    return m[0]
+                parts = [p for p in m[2].split(".") if p]
+                try:
+                    at, new = self.path(env[m[1]], parts)
+                except KeyError as e:
+                    self.say(f"{need}: no step {e} in {m[0]}")
+                    return m[0]
+                if new is None:
+                    if m[1] == "c" and not parts:
+                        return "c"
+                    self.say(f"{need}: a point of the code stands alone: {m[0]}")
+                    return m[0]
+                return "\u0002" + new
+
+            line = re.sub(r"\blet ([^\s:=]+)( : | = )", lambda m: f"let\u0001{m[1]}{m[2]}", line)
+            pieces = re.split(r"(let\u0001\S+)", line)
+            line = "".join(p if p.startswith("let\u0001") else PATH.sub(one, p) for p in pieces)
+            out.append(line.replace("\u0001", " ").replace("\u0002", ""))
+        return "\n".join(out)
+
+    def invariant(self, kind, loop, text):
+        """The lines of an invariant or a measure with l for the variables."""
+        m = re.match(r"\S+((?: [^\s=]+)*) =((?:.|\n)*)$", text)
+        params = m[1].split()
+        old_vars = None
+        for (old, new), variables in self.names["loops"]:
+            if plain(old) == plain(loop):
+                old_vars, new_name, index = variables, new, self.names["loops"].index([[old, new], variables])
+        changed = self.names["changed"][index]
+        want = []
+        for v, ch in zip(old_vars, changed):
+            want.append(f"l.initial.{v}" if ch else f"l.{v}")
+        want += [f"l.{v}" for v, ch in zip(old_vars, changed) if ch]
+        if len(want) != len(params):
+            self.say(f"{kind}-{loop}: {len(params)} variables and not {len(want)}: {params} {want}")
+        table = {p: w for p, w in zip(params, want) if not p.startswith("_")}
+        body = PATH.sub(lambda k: table[k[1]] + k[2] if k[1] in table else k[0], m[2])
+        return f"abbrev pub {kind}-{new_name} : goal.{kind}-{new_name}\n{kind}-{new_name} l ={body}"
+
+
+def blocks(text):
+    """The comment at the head, the use lines, and the declarations."""
+    lines = text.split("\n")
+    i, head, uses, decls = 0, [], [], []
+    while i < len(lines) and (lines[i].startswith("--") or not lines[i].strip()):
+        if lines[i].strip():
+            head.append(lines[i])
+        i += 1
+    while i < len(lines) and (lines[i].startswith(("use ", "pub use ")) or not lines[i].strip()):
+        if lines[i].strip():
+            uses.append(lines[i])
+        i += 1
+    current = []
+    for line in lines[i:]:
+        if not line.strip():
+            if current:
+                decls.append(current)
+                current = []
+        else:
+            current.append(line)
+    if current:
+        decls.append(current)
+    return head, uses, decls
+
+
+def turn(crate, folder, names, sigs):
+    """Answers and invariants of one function's old proof."""
+    key = None
+    rel = os.path.relpath(folder, os.path.join(crate, "proofs"))
+    name = os.path.basename(os.path.abspath(crate))
+    key = f"Rattle-{name}-proofs.{rel.replace(os.sep, '.')}.Lts"
+    if key not in names:
+        print(f"{folder}: no {key}")
+        return
+    t = Turned(name, rel, names[key], sigs)
+    t.own = (sigs.get((name, rel.split(os.sep)[-1].lstrip("+"))) or [None])[0]
+    head, uses, decls = blocks(read(os.path.join(folder, "Proof.antt")))
+    path = f"Rattle.{name}.proofs.{rel.replace(os.sep, '.')}"
+    uses = [u for u in uses if f"{path}.Tie" not in u and f"{path}.Statement" not in u]
+    invariants, answers, helpers = [], [], []
+    for d in decls:
+        comments = [l for l in d if l.startswith("--")]
+        d = [l for l in d if not l.startswith("--")]
+        if not d:
+            helpers.append("\n".join(comments))
+            continue
+        m = re.match(r"(abbrev )?(?:pub )?(\S+) : (.*)$", d[0])
+        if not m:
+            helpers.append("\n".join(comments + d))
+            continue
+        typed = m[3]
+        if re.search(r"[_-]spec$", m[2]) and "statement" in typed:
+            continue
+        k = re.match(r"tie\.(invariant|decreases)-(\S+)$", typed)
+        if k:
+            invariants.append("\n".join(comments) + ("\n" if comments else "") + t.invariant(k[1], k[2], "\n".join(d[1:])))
+            continue
+        k = re.match(r"tie\.Need-(\S+)( |$)", typed)
+        if not k:
+            helpers.append("\n".join(comments + d))
+            continue
+        if plain(k[1]) not in t.needs:
+            short = [n for n in t.needs if plain(re.sub(r"^overflow-|^slice-bounds-|^nonzero-", "", k[1])) == n]
+            if plain(re.sub(r"^slice-bounds-", "part-", k[1])) in t.needs:
+                short = [plain(re.sub(r"^slice-bounds-", "part-", k[1]))]
+            if not short:
+                t.say(f"no goal {k[1]}: {' '.join(n for n, _ in t.names['needs'])[:300]}")
+                continue
+            need, at = t.needs[short[0]]
+        else:
+            need, at = t.needs[plain(k[1])]
+        rest = d[1:]
+        unfolding = []
+        while rest and rest[0].startswith("unfolding"):
+            unfolding.append(rest[0])
+            rest = rest[1:]
+        body = "\n".join(rest)
+        b = re.match(r"\S+ (\S+)(?: κs)? =\s?((?:.|\n)*)$", body)
+        if not b:
+            t.say(f"{need}: cannot read {body[:60]}")
+            continue
+        if b[2].strip() in EASY and not unfolding:
+            continue
+        text = t.body(b[2], at, need) if b[1] == "c" else b[2]
+        text = text.lstrip(" ") if not text.startswith("\n") else text
+        lead = "" if text.startswith("\n") else " "
+        if "\n" in text and lead:
+            lead = "\n    "
+        answers.append("\n".join(comments + [f"pub {need} : goal.{need}"] + unfolding + [f"{need} {b[1]} ={lead}{text}"]))
+    out = {}
+    if invariants:
+        out["Invariants.antt"] = "\n".join(head + uses + [f"use {path}.Given as goal", ""]) + "\n" + "\n\n".join(invariants) + "\n"
+    if answers or helpers:
+        out["Answers.antt"] = "\n".join(head + uses + [f"use {path}.Goals as goal", ""]) + "\n" + "\n\n".join(helpers + answers) + "\n"
+    for file, text in out.items():
+        with open(os.path.join(folder, file), "w", encoding="utf-8") as f:
+            f.write(text)
+    os.remove(os.path.join(folder, "Proof.antt"))
+    if not os.listdir(folder):
+        os.rmdir(folder)
+    for s in t.said:
+        print(f"{name}/{rel}: {s}")
+
+
+def main(crate, listing):
+    names = json.load(open(listing, encoding="utf-8"))
+    root = os.path.join(os.path.abspath(crate), "..", "..")
+    sigs = signatures(root)
+    for p in sorted(glob.glob(os.path.join(crate, "proofs", "**", "Proof.antt"), recursive=True)):
+        turn(crate, os.path.dirname(p), names, sigs)
+
+
+if __name__ == "__main__":
+    main(*sys.argv[1:])
