@@ -47,7 +47,8 @@ def signatures(root):
                     while d:
                         d += {"{": 1, "}": -1}.get(t[j], 0)
                         j += 1
-                out.setdefault((c, m[1]), []).append((muts, clauses))
+                names = [a or b for a, b in re.findall(r"(?:^|,)\s*(?:(?:mut )?(\w+)\s*:|&?(?:'\w+ )?(?:mut )?(self)\b)", params)]
+                out.setdefault((c, m[1]), []).append((muts, clauses, names))
     return out
 
 
@@ -78,11 +79,15 @@ class Turned:
         sig = self.contract(callee) if callee else None
         if not sig or not rest:
             return rest
-        muts, clauses = sig
+        muts, clauses = sig[:2]
         if rest[0] in ("new", "auto") and len(rest) > 1 and rest[1].isdigit():
-            n = int(rest[1])
-            if n < len(muts):
-                return [rest[0], muts[n]] + rest[2:]
+            # A parameter by its place: as many 1 as stand before it, and 0.
+            k = 1
+            while k < len(rest) and rest[k] == "1":
+                k += 1
+            params = self.names["params"].get(callee, [])
+            if k < len(rest) and rest[k] == "0" and k - 1 < len(params):
+                return [rest[0], params[k - 1]] + rest[k + 1 :]
         if rest[0] in ("requires", "ensures") and len(rest) > 1 and rest[1].isdigit():
             labels = clauses[rest[0]]
             n = int(rest[1])
@@ -109,6 +114,9 @@ class Turned:
             if head == "requires":
                 rest = self.fields_own(head, rest)
                 return None, ".".join(["c"] + rest)
+            k = re.fullmatch(r"t(\d+)", rest[0]) if head == "args" and rest else None
+            if k and self.own_params and int(k[1]) <= len(self.own_params) and rest[0] not in self.own_params:
+                rest = [self.own_params[int(k[1]) - 1]] + rest[1:]
             return None, ".".join(["c", head.replace("-", "_")] + rest)
         arms = {}
         for at in list(self.chain(place)):
@@ -116,6 +124,11 @@ class Turned:
             if arm:
                 for field, old, path in arm[2]:
                     arms.setdefault(plain(old), []).append((arm[0], field, path))
+        known = {plain(self.places[at][1][0]) for at in self.chain(place)}
+        for other in (head, re.sub(r"_lem$", "", head), head.split("-")[-1]):
+            if plain(other) in known:
+                head = other
+                break
         for at in self.chain(place):
             _, step, callee, arm = self.places[at]
             if plain(step[0]) == plain(head):
@@ -125,6 +138,71 @@ class Turned:
                 return None, ".".join(["c", step[1]] + self.fields(callee, rest))
         raise KeyError(head)
 
+    @staticmethod
+    def bare_not(m):
+        opened = m[0].startswith("(")
+        if opened and m[2]:
+            return m[1]
+        return ("(" if opened else "") + m[1] + m[2]
+
+    def callee_of(self, step):
+        for at in self.chain(self.goal_at):
+            if at in self.places and self.places[at][1][1] == step:
+                return self.places[at][2]
+        return None
+
+    def clauses_of(self, need):
+        """The names of the clauses that a goal asks for, where there are several."""
+        if need == "returns" or re.match(r"returns-", need):
+            labels = self.own[1]["ensures"] if self.own else []
+        else:
+            m = re.match(r"(.*?)-requires(-.*)?$", need)
+            labels = []
+            if m:
+                for _, step, callee, _ in self.places.values():
+                    if callee and (plain(step[1]) == plain(m[1]) or plain(step[0]) == plain(m[1]) or callee.split("::")[-1] == m[1]):
+                        sig = self.contract(callee)
+                        labels = sig[1]["requires"] if sig else []
+                        break
+        return labels if len(labels) > 1 and all(labels) else []
+
+    def as_record(self, need, text):
+        """A tuple at the end of an answer is a record of the clauses' names."""
+        labels = self.clauses_of(need)
+        s = text.rstrip()
+        if not labels or not s.endswith(")"):
+            return text
+        depth, i = 0, len(s) - 1
+        while i >= 0:
+            depth += {")": 1, "(": -1}.get(s[i], 0)
+            if depth == 0:
+                break
+            i -= 1
+        before = s[:i].rstrip()
+        if before and not re.search(r"(\bin|=|,|\u21a6)$", before):
+            return text
+
+        def split(inner):
+            parts, depth, last = [], 0, 0
+            for k, ch in enumerate(inner):
+                depth += {"(": 1, ")": -1, "{": 1, "}": -1, "[": 1, "]": -1}.get(ch, 0)
+                if ch == "," and depth == 0:
+                    parts.append(inner[last:k].strip())
+                    last = k + 1
+            tail = inner[last:].strip()
+            return parts + [tail] if tail else parts
+
+        parts = split(s[i + 1 : len(s) - 1])
+        while len(parts) < len(labels) and parts and parts[-1].startswith("(") and parts[-1].endswith(")"):
+            more = split(parts[-1][1:-1])
+            if len(more) < 2:
+                break
+            parts = parts[:-1] + more
+        if len(parts) != len(labels):
+            return text
+        fields = "; ".join(f"{a} = {b}" for a, b in zip(labels, parts))
+        return s[:i] + "record { " + fields + " }"
+
     def fields_own(self, head, rest):
         labels = self.own[1][head] if self.own else []
         if rest and rest[0].isdigit() and len(labels) > 1 and int(rest[0]) < len(labels):
@@ -132,7 +210,7 @@ class Turned:
         return [head] + rest
 
     def body(self, text, place, need):
-        env = {"c": place}
+        env, steps = {"c": place}, {}
         self.goal_at = place
         out = []
         for line in text.split("\n"):
@@ -156,11 +234,25 @@ class Turned:
                         break
                 else:
                     env.pop(m[1], None)
+                    steps.pop(m[1], None)
+                    step = new.split(".")
+                    if new == "c.args":
+                        steps[m[1]] = "args"
+                    elif len(step) == 2:
+                        steps[m[1]] = self.callee_of(step[1])
                     line = line[: m.start()] + f"let\u0001{m[1]} = \u0002{new} in" + line[m.end() :]
             if line is None:
                 continue
 
             def one(m):
+                if m[1] in steps and m[1] not in env:
+                    parts = [p for p in m[2].split(".") if p]
+                    if steps[m[1]] == "args":
+                        k = re.fullmatch(r"t(\d+)", parts[0]) if parts else None
+                        if k and int(k[1]) <= len(self.own_params) and parts[0] not in self.own_params:
+                            parts = [self.own_params[int(k[1]) - 1]] + parts[1:]
+                        return "\u0002" + ".".join([m[1]] + parts)
+                    return "\u0002" + ".".join([m[1]] + self.fields(steps[m[1]], parts))
                 if m[1] not in env:
                     return m[0]
                 parts = [p for p in m[2].split(".") if p]
@@ -179,8 +271,48 @@ class Turned:
             line = re.sub(r"\blet ([^\s:=]+)( : | = )", lambda m: f"let\u0001{m[1]}{m[2]}", line)
             pieces = re.split(r"(let\u0001\S+)", line)
             line = "".join(p if p.startswith("let\u0001") else PATH.sub(one, p) for p in pieces)
-            out.append(line.replace("\u0001", " ").replace("\u0002", ""))
+            line = line.replace("\u0001", " ").replace("\u0002", "")
+            # A test of `not b` says what b is.
+            line = re.sub(r"(?<![^\s(])\(?not[-_](?:true|false) (?:_|[^\s()]+|\((?:[^()]|\([^()]*\))*\)) ([^\s()]*\bif-not-[^\s()]*)(\)?)", self.bare_not, line)
+            out.append(line)
         return "\n".join(out)
+
+    def substituted(self, text, table):
+        """The text with the variables' new names, but for those that a binder takes, up to the end of its parentheses."""
+        out, depth, bound, i = [], 0, [], 0
+        binder = re.compile(r"λ (?:\((\S+) : |([^\s(.]+(?: [^\s(.]+)*)\.(?=\s))|\((\S+) : (?=[^()]*\) →)|let (\S+) (?=[:=])")
+        while i < len(text):
+            b = binder.match(text, i)
+            if b:
+                names = (b[1] or b[2] or b[3] or b[4]).split()
+                opens = b[0].count("(")
+                bound += [(n, depth) for n in names if n in table]
+                out.append(b[0])
+                depth += opens
+                # The binder's own parenthesis closes before its scope.
+                if opens:
+                    k, d = b.end(), 1
+                    while d:
+                        d += {"(": 1, ")": -1}.get(text[k], 0)
+                        k += 1
+                    out.append(self.substituted(text[b.end() : k - 1], {a: v for a, v in table.items() if a not in [n for n, _ in bound]}) + ")")
+                    depth -= 1
+                    i = k
+                else:
+                    i = b.end()
+                continue
+            k = PATH.match(text, i)
+            if k:
+                free = k[1] in table and k[1] not in [n for n, _ in bound]
+                out.append(table[k[1]] + k[2] if free else k[0])
+                i = k.end()
+                continue
+            depth += {"(": 1, ")": -1}.get(text[i], 0)
+            if text[i] == ")":
+                bound = [(n, d) for n, d in bound if d <= depth]
+            out.append(text[i])
+            i += 1
+        return "".join(out)
 
     def invariant(self, kind, loop, text):
         """The lines of an invariant or a measure with l for the variables."""
@@ -198,7 +330,7 @@ class Turned:
         if len(want) != len(params):
             self.say(f"{kind}-{loop}: {len(params)} variables and not {len(want)}: {params} {want}")
         table = {p: w for p, w in zip(params, want) if not p.startswith("_")}
-        body = PATH.sub(lambda k: table[k[1]] + k[2] if k[1] in table else k[0], m[2])
+        body = self.substituted(m[2], table)
         return f"abbrev pub {kind}-{new_name} : goal.{kind}-{new_name}\n{kind}-{new_name} l ={body}"
 
 
@@ -237,11 +369,18 @@ def turn(crate, folder, names, sigs):
         print(f"{folder}: no {key}")
         return
     t = Turned(name, rel, names[key], sigs)
+    t.own_params = []
     t.own = (sigs.get((name, rel.split(os.sep)[-1].lstrip("+"))) or [None])[0]
+    t.own_params = t.own[2] if t.own else []
     head, uses, decls = blocks(read(os.path.join(folder, "Proof.antt")))
     path = f"Rattle.{name}.proofs.{rel.replace(os.sep, '.')}"
     uses = [u for u in uses if f"{path}.Tie" not in u and f"{path}.Statement" not in u]
     invariants, answers, helpers = [], [], []
+    goals, whole = {}, "\n".join("\n".join(d[1:]) for d in decls if not re.search(r"[_-]spec :", d[0]))
+    for d in decls:
+        m = re.match(r"(?:pub )?(\S+) : tie\.Need-(\S+?)( |$)", [l for l in d if not l.startswith("--")][0] if [l for l in d if not l.startswith("--")] else "")
+        if m and plain(m[2]) in t.needs and len(re.findall(rf"(?<![^\s(){{}};,]){re.escape(m[1])}(?![^\s(){{}};,])", whole)) > 1:
+            goals[m[1]] = t.needs[plain(m[2])][0]
     for d in decls:
         comments = [l for l in d if l.startswith("--")]
         d = [l for l in d if not l.startswith("--")]
@@ -279,23 +418,39 @@ def turn(crate, folder, names, sigs):
             unfolding.append(rest[0])
             rest = rest[1:]
         body = "\n".join(rest)
-        b = re.match(r"\S+ (\S+)(?: κs)? =\s?((?:.|\n)*)$", body)
+        b = re.match(r"\S+ (\S+)(?: κs)?((?: [^\s=]+)*) =\s?((?:.|\n)*)$", body)
         if not b:
             t.say(f"{need}: cannot read {body[:60]}")
             continue
-        if b[2].strip() in EASY and not unfolding:
+        if b[3].strip() in EASY and not unfolding and m[2] not in goals:
             continue
-        text = t.body(b[2], at, need) if b[1] == "c" else b[2]
+        text = t.body(b[3], at, need) if b[1] == "c" else b[3]
+        for a, g in goals.items():
+            text = re.sub(rf"(?<![^\s(){{}};,]){re.escape(a)}(?![^\s(){{}};,.])", g, text)
+        text = t.as_record(need, text)
         text = text.lstrip(" ") if not text.startswith("\n") else text
         lead = "" if text.startswith("\n") else " "
         if "\n" in text and lead:
             lead = "\n    "
-        answers.append("\n".join(comments + [f"pub {need} : goal.{need}"] + unfolding + [f"{need} {b[1]} ={lead}{text}"]))
+        answers.append("\n".join(comments + [f"pub {need} : goal.{need}"] + unfolding + [f"{need} {b[1]}{b[2]} ={lead}{text}"]))
     out = {}
+    shared = []
+    for h in list(helpers):
+        m = re.match(r"(?:--[^\n]*\n)*((?:abbrev |unfoldable |pub )*)(\S+) :", h)
+        if m and any(re.search(rf"(?<![^\s(){{}};,]){re.escape(m[2])}(?![^\s(){{}};,.])", v) for v in invariants):
+            helpers.remove(h)
+            shared.append(m[2])
+            at = h.index(m[1] + m[2] + " :")
+            marks = m[1] if "pub " in m[1] else m[1] + "pub "
+            invariants.insert(len(shared) - 1, h[:at] + marks + h[at + len(m[1]) :])
+    if shared and (answers or helpers):
+        uses_answers = uses + [f"use {path}.Invariants.{{{', '.join(shared)}}}"]
+    else:
+        uses_answers = uses
     if invariants:
         out["Invariants.antt"] = "\n".join(head + uses + [f"use {path}.Given as goal", ""]) + "\n" + "\n\n".join(invariants) + "\n"
     if answers or helpers:
-        out["Answers.antt"] = "\n".join(head + uses + [f"use {path}.Goals as goal", ""]) + "\n" + "\n\n".join(helpers + answers) + "\n"
+        out["Answers.antt"] = "\n".join(head + uses_answers + [f"use {path}.Goals as goal", ""]) + "\n" + "\n\n".join(helpers + answers) + "\n"
     for file, text in out.items():
         with open(os.path.join(folder, file), "w", encoding="utf-8") as f:
             f.write(text)

@@ -20,11 +20,11 @@ use Rattle.key.specs.Keys.{distinct}
 use Rattle.key.specs.Parts.{distinct_below, faults}
 
 -- the code's test of an answer r, for the value q
-pub failed : {r q : Bool} → r ≡ q → not r ≡ true → q ≡ false
-failed {r} e h = sym e ∙ not-true r h
+pub failed : {r q : Bool} → r ≡ q → r ≡ false → q ≡ false
+failed e h = sym e ∙ h
 
-pub passed : {r q : Bool} → r ≡ q → not r ≡ false → q ≡ true
-passed {r} e h = sym e ∙ not-false r h
+pub passed : {r q : Bool} → r ≡ q → r ≡ true → q ≡ true
+passed e h = sym e ∙ h
 
 -- elements have 13 digits, so they are distinct where the table says so
 pub distinct-elements : (m : ℕ) (s : List ℕ) → Width m → every (is_element m) s ≡ true → distinct_below 8192 s ≡ distinct s

@@ -4,7 +4,7 @@ ghost use Rattle.key.specs.Kept.{no_key};
 
 // The support's first n and g's first t numbers are the key's.
 #[repr(C)]
-#[derive(Drop)]
+#[derive(Clone, Copy)]
 pub struct Key {
     pub m: u8,
     pub n: u16,

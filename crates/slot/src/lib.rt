@@ -22,7 +22,7 @@ use session_key::SessionKey;
 
 // The state and the key, the key of zeros where it is empty. State 0 is no key, 1 a key, any other a published key.
 #[repr(C)]
-#[derive(Drop)]
+#[derive(Clone, Copy)]
 pub struct Slot {
     pub state: u8,
     pub key: Key,

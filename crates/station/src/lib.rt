@@ -22,7 +22,7 @@ use slot::{Slot, answer_number};
 
 // The slots of A and B.
 #[repr(C)]
-#[derive(Drop)]
+#[derive(Clone, Copy)]
 pub struct Station {
     pub a: Slot,
     pub b: Slot,
