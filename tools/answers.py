@@ -89,11 +89,23 @@ class Turned:
             if k < len(rest) and rest[k] == "0" and k - 1 < len(params):
                 return [rest[0], params[k - 1]] + rest[k + 1 :]
         if rest[0] in ("requires", "ensures") and len(rest) > 1 and rest[1].isdigit():
-            labels = clauses[rest[0]]
-            n = int(rest[1])
-            if len(labels) > 1 and n < len(labels) and labels[n]:
-                return [rest[0], labels[n]] + rest[2:]
+            return self.clause(rest, clauses[rest[0]])
         return rest
+
+    @staticmethod
+    def clause(rest, labels):
+        """A clause by its name: they were pairs, nested to the right."""
+        k = len(labels)
+        if k < 2 or not all(labels):
+            return rest
+        i, at = 0, 1
+        while i < k - 1 and at < len(rest) and rest[at] == "1":
+            i, at = i + 1, at + 1
+        if i < k - 1:
+            if at >= len(rest) or rest[at] != "0":
+                return rest
+            at += 1
+        return [rest[0], labels[i]] + rest[at:]
 
     def path(self, place, parts):
         """The path `parts` of a point in today's names, or a point."""
@@ -110,6 +122,8 @@ class Turned:
         if not parts:
             return place, None
         head, rest = parts[0], parts[1:]
+        if head == "pre":
+            head = "requires"
         if head in ("args", "requires", "ranges", "type_inv", "type-inv", "utf8", "well_formed", "lifetimes"):
             if head == "requires":
                 rest = self.fields_own(head, rest)
@@ -125,7 +139,7 @@ class Turned:
                 for field, old, path in arm[2]:
                     arms.setdefault(plain(old), []).append((arm[0], field, path))
         known = {plain(self.places[at][1][0]) for at in self.chain(place)}
-        for other in (head, re.sub(r"_lem$", "", head), head.split("-")[-1]):
+        for other in (head, re.sub(r"_lem$", "", head), head.lower(), head.replace("Is", "").lower(), head.split("-")[-1]):
             if plain(other) in known:
                 head = other
                 break
@@ -170,7 +184,27 @@ class Turned:
         """A tuple at the end of an answer is a record of the clauses' names."""
         labels = self.clauses_of(need)
         s = text.rstrip()
-        if not labels or not s.endswith(")"):
+        if not labels:
+            return text
+        done = self.tuple_record(s, labels, text)
+        if done is not text:
+            return done
+        # The last term, where a lemma gives all clauses as pairs.
+        depth, start = 0, 0
+        for m in re.finditer(r"[(){}\[\]]|(?<![^\s(])in(?=\s)", s):
+            if m[0] == "in":
+                if depth == 0:
+                    start = m.end()
+            else:
+                depth += 1 if m[0] in "({[" else -1
+        tail = s[start:].strip()
+        if re.match(r"(absurd|rw|subst|simp|cc|search|omega|elim|grind|tt|record|refl)\b|\(", tail) or not re.match(r"[a-z]", tail):
+            return text
+        fields = "; ".join(f"{a} = both." + ".".join(["1"] * i + (["0"] if i < len(labels) - 1 else [])) for i, a in enumerate(labels))
+        return s[:start] + ("\n    " if start else "\n    ") + f"let both = {tail} in\n    record {{ {fields} }}"
+
+    def tuple_record(self, s, labels, text):
+        if not s.endswith(")"):
             return text
         depth, i = 0, len(s) - 1
         while i >= 0:
@@ -204,10 +238,7 @@ class Turned:
         return s[:i] + "record { " + fields + " }"
 
     def fields_own(self, head, rest):
-        labels = self.own[1][head] if self.own else []
-        if rest and rest[0].isdigit() and len(labels) > 1 and int(rest[0]) < len(labels):
-            return [head, labels[int(rest[0])]] + rest[1:]
-        return [head] + rest
+        return self.clause([head] + rest, self.own[1][head] if self.own else [])
 
     def body(self, text, place, need):
         env, steps = {"c": place}, {}
@@ -238,6 +269,9 @@ class Turned:
                     step = new.split(".")
                     if new == "c.args":
                         steps[m[1]] = "args"
+                    elif len(step) == 3 and step[2] in ("ensures", "requires") and self.contract(self.callee_of(step[1]) or "") or new == "c.requires":
+                        sig = self.own if new == "c.requires" else self.contract(self.callee_of(step[1]))
+                        steps[m[1]] = ("clauses", sig[1][step[-1]] if sig else [])
                     elif len(step) == 2:
                         steps[m[1]] = self.callee_of(step[1])
                     line = line[: m.start()] + f"let\u0001{m[1]} = \u0002{new} in" + line[m.end() :]
@@ -252,6 +286,8 @@ class Turned:
                         if k and int(k[1]) <= len(self.own_params) and parts[0] not in self.own_params:
                             parts = [self.own_params[int(k[1]) - 1]] + parts[1:]
                         return "\u0002" + ".".join([m[1]] + parts)
+                    if isinstance(steps[m[1]], tuple):
+                        return "\u0002" + ".".join([m[1]] + self.clause(["ensures"] + parts, steps[m[1]][1])[1:])
                     return "\u0002" + ".".join([m[1]] + self.fields(steps[m[1]], parts))
                 if m[1] not in env:
                     return m[0]

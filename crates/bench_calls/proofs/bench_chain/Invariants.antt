@@ -1,0 +1,15 @@
+-- The loop's invariant: k products are left, from r on. Assumes nothing.
+use mathlib.Core.Path.{◌≡◌, refl, ap, ◌∙◌}
+use Prim.Native.Nat.{ℕ, zero, suc, ◌-◌, ◌≤◌, ◌<◌}
+use native.Mathlib.Nat.{not-suc-le-zero}
+use native.Mathlib.Omega.{arith}
+use borrow.Author.Rules.{rules}
+use Rattle.field.specs.Field.{mul}
+use Rattle.bench_calls.specs.Chain.{chain}
+use Rattle.bench_calls.proofs.bench_chain.Given as goal
+
+abbrev pub invariant-loop-k : goal.invariant-loop-k
+invariant-loop-k l = chain l.k l.m l.a l.r ≡ chain l.n l.m l.a l.b
+
+abbrev pub decreases-loop-k : goal.decreases-loop-k
+decreases-loop-k l = l.k

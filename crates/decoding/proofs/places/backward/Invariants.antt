@@ -1,0 +1,19 @@
+-- The loop's invariant: the first i coefficients are written. Assumes nothing.
+use mathlib.Core.Path.{◌≡◌, refl, sym, ap, ap₂, ◌∙◌}
+use mathlib.Core.List.{List}
+use Prim.Native.Nat.{ℕ, ◌-◌, ◌≤◌}
+use native.Mathlib.Omega.{arith}
+use borrow.Author.Rules.{rules}
+use lib.ListN.{length, take, set, length-set}
+use lib.Seq.{take_all}
+use Rattle.bits.specs.Bits.{padded}
+use Rattle.decoder.specs.Decoding.{backward}
+use Rattle.bits.proofs.Padded.{padded-start, padded-next}
+use Rattle.decoding.proofs.Located.{length-backward, backward-at}
+use Rattle.decoding.proofs.places.backward.Given as goal
+
+abbrev pub invariant-loop-i : goal.invariant-loop-i
+invariant-loop-i l = (l.i ≤ l.l) × (length l.q ≡ 256) × (l.q ≡ padded 256 (take l.i (backward l.c l.l)))
+
+abbrev pub decreases-loop-i : goal.decreases-loop-i
+decreases-loop-i l = l.l - l.i

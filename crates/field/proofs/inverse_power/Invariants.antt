@@ -1,0 +1,14 @@
+-- The loop's invariant: r is a^(2^k - 2). Assumes nothing.
+use mathlib.Core.Path.{◌≡◌, ap, ◌∙◌}
+use Prim.Native.Nat.{ℕ, ◌-◌, ◌≤◌, ◌<◌}
+use native.Mathlib.Omega.{arith}
+use Rattle.field.specs.Field.{mul}
+use Rattle.field.proofs.Table.{width_over_one}
+use Rattle.field.proofs.Reciprocals.{even_power, square_power, power-turn, power-last}
+use Rattle.field.proofs.inverse_power.Given as goal
+
+abbrev pub invariant-loop-k : goal.invariant-loop-k
+invariant-loop-k l = (0 < l.k) × (l.k ≤ l.m) × (l.r ≡ even_power l.m l.k l.a)
+
+abbrev pub decreases-loop-k : goal.decreases-loop-k
+decreases-loop-k l = l.m - l.k

@@ -1,0 +1,17 @@
+-- The loop's invariant: the first i places are done. Assumes nothing.
+use mathlib.Core.Path.{◌≡◌, refl, ap, ◌∙◌}
+use Prim.Native.Nat.{ℕ, ◌-◌, ◌≤◌}
+use native.Mathlib.Omega.{arith}
+use mathlib.Core.List.{List}
+use lib.ListN.{length, get_or, set, length-set}
+use borrow.Author.Rules.{rules}
+use Rattle.bits.specs.Xor.{◌⊕◌}
+use Rattle.field.specs.PointTable.{combination}
+use Rattle.field.proofs.PointTable.{combined_to, combined_start, combined_next, combined_all}
+use Rattle.field_places.proofs.horner_with.Given as goal
+
+abbrev pub invariant-loop-i : goal.invariant-loop-i
+invariant-loop-i l = (l.i ≤ l.n) × (length l.r ≡ length l.initial.r) × (l.r ≡ combined_to l.t l.c l.initial.r l.i)
+
+abbrev pub decreases-loop-i : goal.decreases-loop-i
+decreases-loop-i l = l.n - l.i

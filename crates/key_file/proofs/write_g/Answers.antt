@@ -1,0 +1,8 @@
+-- Zeros, and the elements over them. Assumes nothing.
+use mathlib.Core.Path.{◌∙◌}
+use borrow.Author.Rules.{rules}
+use Rattle.key_file.proofs.Files.{stored_fill}
+use Rattle.key_file.proofs.write_g.Goals as goal
+
+pub returns : goal.returns
+returns c = c.fill.ensures ∙ stored_fill 128 _ _ _ c.smaller-count.ensures

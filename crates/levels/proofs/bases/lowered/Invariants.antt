@@ -1,0 +1,17 @@
+-- `levels::bases::lowered` meets its contract. Assumes nothing.
+use mathlib.Core.Path.{◌≡◌, ap, ◌∙◌}
+use Prim.Native.Nat.{ℕ, ◌-◌, ◌≤◌}
+use native.Mathlib.Omega.{arith}
+use lib.ListN.{length, get_or, length-set}
+use borrow.Author.Rules.{rules}
+use Rattle.bits.specs.Xor.{◌⊕◌}
+use Rattle.field.specs.Field.{mul}
+use Rattle.levels.proofs.Loops.{each_to, each_start, each_next, each_all}
+use Rattle.levels.specs.Levels.{lowered}
+use Rattle.levels.proofs.bases.lowered.Given as goal
+
+abbrev pub invariant-loop-i : goal.invariant-loop-i
+invariant-loop-i l = (l.i ≤ l.n) × (length l.r ≡ 16) × (l.r ≡ each_to (λ y. mul l.m y y ⊕ y) l.n l.initial.r l.i)
+
+abbrev pub decreases-loop-i : goal.decreases-loop-i
+decreases-loop-i l = l.n - l.i

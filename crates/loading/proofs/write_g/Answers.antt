@@ -1,0 +1,10 @@
+-- By the form. Assumes nothing.
+use borrow.Author.Rules.{rules}
+use Rattle.loading.proofs.Forms.{key_file_g, network_file_g}
+use Rattle.loading.proofs.write_g.Goals as goal
+
+pub returns-in-KeyFile : goal.returns-in-KeyFile
+returns-in-KeyFile c e = key_file_g c.args.file.now c.in-KeyFile.is e c.write_g.ensures
+
+pub returns-in-NetworkFile : goal.returns-in-NetworkFile
+returns-in-NetworkFile c e = network_file_g c.args.file.now c.in-NetworkFile.is e c.write_g-in-NetworkFile.ensures

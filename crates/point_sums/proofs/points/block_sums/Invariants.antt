@@ -1,0 +1,18 @@
+-- The loop's invariant: the first j sums are added, and p has the terms of the sum j. Assumes nothing.
+use mathlib.Core.Path.{◌≡◌, refl, ap, ◌∙◌}
+use Prim.Native.Nat.{◌-◌, ◌≤◌, ◌<◌}
+use native.Mathlib.Omega.{arith}
+use lib.ListN.{length, length-set}
+use borrow.Author.Rules.{rules}
+use Rattle.bits.specs.Xor.{◌⊕◌}
+use Rattle.field.specs.PointTable.{combine_each}
+use Rattle.poly.specs.Polynomials.{sum}
+use Rattle.point_sums.proofs.Blocks.{terms, terms_start, terms_total, terms_next, added_to, added-start, added_next, added_all}
+use Rattle.point_sums.proofs.points.block_sums.Given as goal
+
+abbrev pub invariant-loop-j : goal.invariant-loop-j
+invariant-loop-j l = (l.j ≤ l.k) × (length l.s ≡ length l.initial.s) × (length l.p ≡ 64)
+    × (l.s ≡ added_to l.m l.w l.points l.k l.initial.s l.j) × (l.p ≡ terms l.m l.w l.points l.j)
+
+abbrev pub decreases-loop-j : goal.decreases-loop-j
+decreases-loop-j l = l.k - l.j

@@ -1,0 +1,15 @@
+-- The loop's invariant: the values of the polynomial with the coefficients from k on. Assumes nothing.
+use mathlib.Core.Path.{◌≡◌, refl, ap, ◌∙◌}
+use Prim.Native.Nat.{◌-◌, ◌≤◌}
+use native.Mathlib.Omega.{arith}
+use lib.ListN.{length, get_or}
+use borrow.Author.Rules.{rules}
+use Rattle.field.specs.PointTable.{combine_each}
+use Rattle.poly.proofs.AtPoints.{values_from, from_start, from_step}
+use Rattle.poly.proofs.horner.value_block.Given as goal
+
+abbrev pub invariant-loop-k : goal.invariant-loop-k
+invariant-loop-k l = (l.k ≤ length l.g) × (length l.r ≡ length l.initial.r) × (l.r ≡ values_from l.m l.g l.initial.r l.a l.k)
+
+abbrev pub decreases-loop-k : goal.decreases-loop-k
+decreases-loop-k l = l.k

@@ -1,0 +1,17 @@
+-- `power_sums::merging::weave` meets its contract. Assumes nothing.
+use mathlib.Core.Path.{◌≡◌, refl, ◌∙◌}
+use Prim.Native.Nat.{◌-◌, ◌*◌, ◌≤◌}
+use native.Mathlib.Omega.{arith}
+use lib.ListN.{length, take, drop, length-set}
+use borrow.Author.Rules.{rules}
+use Rattle.power_sums.proofs.Loops.{weave_next, weave_all}
+use Rattle.power_sums.specs.Sums.{zip}
+use Rattle.bits.specs.Bits.{over}
+use Rattle.bits.proofs.Padded.{over-start}
+use Rattle.power_sums.proofs.merging.weave.Given as goal
+
+abbrev pub invariant-loop-i : goal.invariant-loop-i
+invariant-loop-i l = (l.i ≤ l.h) × (length l.c ≡ length l.initial.c) × (l.c ≡ over (take (2 * l.i) (zip (take l.h l.t) (drop l.h l.t))) l.initial.c)
+
+abbrev pub decreases-loop-i : goal.decreases-loop-i
+decreases-loop-i l = l.h - l.i

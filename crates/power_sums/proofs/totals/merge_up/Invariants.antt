@@ -1,0 +1,16 @@
+-- `power_sums::totals::merge_up` meets its contract. Assumes nothing.
+use mathlib.Core.Path.{◌≡◌, refl, ap, ◌∙◌}
+use Prim.Native.Nat.{ℕ, ◌-◌, ◌≤◌}
+use native.Mathlib.Omega.{arith}
+use lib.ListN.{length, get_or}
+use borrow.Author.Rules.{rules}
+use Rattle.levels.proofs.TwoPowers.{two_below}
+use Rattle.power_sums.specs.Sums.{merges_of}
+use Rattle.power_sums.proofs.Summing.{merge_length, merge_small, merges_next, merged-length}
+use Rattle.power_sums.proofs.totals.merge_up.Given as goal
+
+abbrev pub invariant-loop-j : goal.invariant-loop-j
+invariant-loop-j l = (l.j ≤ l.k) × (length l.c ≡ length l.initial.c) × (merges_of l.m l.k l.j l.c ≡ merges_of l.m l.k l.k l.initial.c)
+
+abbrev pub decreases-loop-j : goal.decreases-loop-j
+decreases-loop-j l = l.j

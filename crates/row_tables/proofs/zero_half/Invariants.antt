@@ -1,0 +1,13 @@
+-- The loop's invariant: i numbers are 0. Assumes nothing.
+use mathlib.Core.Path.{◌≡◌, subst}
+use Prim.Native.Nat.{ℕ, ◌-◌, ◌≤◌}
+use native.Mathlib.Omega.{arith}
+use Rattle.row_tables.specs.Making.{Zeroed}
+use Rattle.row_tables.proofs.Making.{zeroed_none, zeroed_next}
+use Rattle.row_tables.proofs.zero_half.Given as goal
+
+abbrev pub invariant-loop-i : goal.invariant-loop-i
+invariant-loop-i l = (l.i ≤ 64) × Zeroed l.h l.i l.initial.p l.p
+
+abbrev pub decreases-loop-i : goal.decreases-loop-i
+decreases-loop-i l = 64 - l.i

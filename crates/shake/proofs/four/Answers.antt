@@ -1,0 +1,14 @@
+-- Two pairs, one above the other. Assumes nothing.
+use mathlib.Core.Path.{ap₂, ◌∙◌}
+use Prim.Native.Nat.{ℕ, ◌*◌, ◌%◌, ◌^◌}
+use native.Mathlib.Omega.{arith}
+use lib.Bits.{bit_or}
+use Rattle.keccak.proofs.Words.{word_join}
+use borrow.Author.Rules.{rules}
+use Rattle.shake.proofs.four.Goals as goal
+
+pub returns : goal.returns
+returns c =
+    let a = c.args in
+    ap₂ (λ (x y : ℕ). bit_or x (y * 2 ^ 16 % 2 ^ 64)) c.pair.ensures c.pair-2.ensures
+    ∙ word_join 2 2 a.s.now a.at (omega arith)

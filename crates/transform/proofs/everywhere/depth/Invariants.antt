@@ -1,0 +1,16 @@
+-- `transform::everywhere::depth` meets its contract. Assumes nothing.
+use mathlib.Core.Path.{◌≡◌, refl, sym, ap, ap₂, ◌∙◌}
+use Prim.Native.Nat.{ℕ, suc, ◌+◌, ◌-◌, ◌^◌, ◌≤◌, ◌<◌}
+use native.Mathlib.Omega.{arith}
+use borrow.Author.Rules.{rules}
+use lib.Pow.{pow_mono}
+use native.Mathlib.Nat.{pow-suc}
+use native.Mathlib.Decide.{dec_le}
+use lib.Pow.{pow_pos}
+use Rattle.transform.proofs.everywhere.depth.Given as goal
+
+abbrev pub invariant-loop-w : goal.invariant-loop-w
+invariant-loop-w l = (l.w ≡ 2 ^ l.k) × (l.k ≤ 9) × ((j : ℕ) → l.n ≤ 2 ^ j → l.k ≤ j)
+
+abbrev pub decreases-loop-w : goal.decreases-loop-w
+decreases-loop-w l = l.n - l.w

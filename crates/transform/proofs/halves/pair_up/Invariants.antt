@@ -1,0 +1,15 @@
+-- `transform::halves::pair_up` meets its contract. Assumes nothing.
+use mathlib.Core.Path.{◌≡◌, refl, ◌∙◌}
+use Prim.Native.Nat.{◌-◌, ◌≤◌}
+use native.Mathlib.Omega.{arith}
+use lib.ListN.{length, length-set}
+use borrow.Author.Rules.{rules}
+use Rattle.transform.proofs.Loops.{paired_to, paired-next, paired_all}
+use Rattle.bits.specs.Xor.{◌⊕◌}
+use Rattle.transform.proofs.halves.pair_up.Given as goal
+
+abbrev pub invariant-loop-k : goal.invariant-loop-k
+invariant-loop-k l = (l.k ≤ l.n) × (length l.c ≡ length l.initial.c) × (l.c ≡ paired_to l.k l.initial.c)
+
+abbrev pub decreases-loop-k : goal.decreases-loop-k
+decreases-loop-k l = l.n - l.k

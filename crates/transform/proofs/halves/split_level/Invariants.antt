@@ -1,0 +1,21 @@
+-- `transform::halves::split_level` meets its contract. Assumes nothing.
+use mathlib.Core.Path.{◌≡◌, refl, sym, ap, ◌∙◌}
+use Prim.Native.Nat.{ℕ, ◌+◌, ◌-◌, ◌*◌, ◌≤◌}
+use native.Mathlib.Omega.{arith}
+use mathlib.Core.List.{List}
+use lib.ListN.{length, take, drop}
+use borrow.Author.Rules.{rules}
+use Rattle.levels.specs.Twist.{each_block}
+use Rattle.transform.specs.Halves.{split}
+use Rattle.levels.proofs.Blocks.{block_in, block_next, block_length, length-each_block}
+use Rattle.transform.proofs.Lengths.{length-split}
+use Rattle.transform.proofs.Wholes.{split_powers}
+use Rattle.bits.proofs.Parts.{next_row}
+use native.Mathlib.Nat.{zero-mul}
+use Rattle.transform.proofs.halves.split_level.Given as goal
+
+abbrev pub invariant-loop-k : goal.invariant-loop-k
+invariant-loop-k l = (l.k ≤ l.q) × (l.at ≡ l.k * (l.h + l.h)) × (length l.c ≡ length l.initial.c) × (l.c ≡ each_block (split l.m l.b) (l.h + l.h) l.k l.initial.c)
+
+abbrev pub decreases-loop-k : goal.decreases-loop-k
+decreases-loop-k l = l.q - l.k
