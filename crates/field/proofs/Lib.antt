@@ -18,3 +18,6 @@ pub mod Reciprocals
 pub mod Gf
 pub mod Arrays
 pub mod FiniteField
+pub mod CallGuards
+pub mod CallInverse
+pub mod CallExamples

@@ -1,11 +1,11 @@
 // The fields GF(2^m) for m of 4, 12 and 13 (document 01, 'Field').
 #![tactic(auto)]
 
-ghost use Rattle.std.specs.Prelude.{◌≡◌, true, suc, ◌^◌, ◌<◌, ◌≤◌, ltb};
+ghost use Rattle.std.specs.Prelude.{◌≡◌, true, suc, ◌^◌, ◌<◌, ◌≤◌, [], ◌∷◌, ltb};
 ghost use Rattle.bits.specs.Bits.{every};
 ghost use Rattle.field.specs.Field.{is_width, is_element, modulus_of, mul_mod, product_by, mul, inv};
 ghost use Rattle.field.specs.Verdicts.{verdict_of, number_of};
-ghost use Rattle.field.specs.Answers.{inverse_number, inverse_of};
+ghost use Rattle.field.specs.Answers.{elements_number, add_of, multiply_of, invert_of, inverse_number, inverse_of};
 
 // What a check answers, here and in the crates above: accepted, or the number of a refusal.
 #[derive(Clone, Copy)]
@@ -24,7 +24,7 @@ pub fn number(v: Verdict) -> u8
     }
 }
 
-// What an inverse answers, and each public call of `field_calls`: the element, or the number of a refusal.
+// What an inverse answers, and each public call: the element, or the number of a refusal.
 #[derive(Clone, Copy)]
 pub enum Answer {
     Value(u16),
@@ -150,4 +150,62 @@ fn below(top: u16, s: &[u16]) -> bool
         i += 1;
     }
     true
+}
+
+// Whether a is an element of width m: 1 or 4 on refusal.
+fn check(m: u8, a: u32) -> Verdict
+    ensures { result ≡ verdict_of (elements_number m (a ∷ [])) }
+{
+    if modulus(m) == 0 {
+        return Verdict::Refused(1);
+    }
+    let top: u16 = 1 << m;
+    if top as u32 <= a {
+        return Verdict::Refused(4);
+    }
+    Verdict::Accepted
+}
+
+// The same for two elements.
+fn check_pair(m: u8, a: u32, b: u32) -> Verdict
+    ensures { result ≡ verdict_of (elements_number m (a ∷ b ∷ [])) }
+{
+    let x = check(m, a);
+    let Verdict::Accepted = x else {
+        return x;
+    };
+    check(m, b)
+}
+
+// The sum, exclusive or, of two elements.
+pub fn add(m: u8, a: u32, b: u32) -> Answer
+    ensures { result ≡ add_of m a b }
+{
+    let x = check_pair(m, a, b);
+    let Verdict::Accepted = x else {
+        return Answer::Refused(number(x));
+    };
+    Answer::Value((a as u16) ^ (b as u16))
+}
+
+// The product of two elements.
+pub fn multiply(m: u8, a: u32, b: u32) -> Answer
+    ensures { result ≡ multiply_of m a b }
+{
+    let x = check_pair(m, a, b);
+    let Verdict::Accepted = x else {
+        return Answer::Refused(number(x));
+    };
+    Answer::Value(times(m, a as u16, b as u16))
+}
+
+// The inverse of an element other than 0.
+pub fn invert(m: u8, a: u32) -> Answer
+    ensures { result ≡ invert_of m a }
+{
+    let x = check(m, a);
+    let Verdict::Accepted = x else {
+        return Answer::Refused(number(x));
+    };
+    inverse(m, a as u16)
 }

@@ -21,7 +21,7 @@ use Rattle.code.specs.Lock.{locked}
 use Rattle.code.proofs.PublicKey.{row_capsule}
 use Rattle.code.proofs.LockLaws.{public_size_lem, lock-written, lock_accepts}
 use Rattle.code.proofs.Exchange.{exchangeable}
-use Rattle.code.specs.Publish.{capsule_bits, public_bytes, publish_checks, publish_conditions, free_bytes}
+use Rattle.code.specs.Publish.{capsule_bits, public_bytes, publish_checks_within, publish_conditions_within, free_bytes_within}
 use Rattle.decoder.specs.Calls.{open_conditions}
 use Rattle.ledger.specs.Slot.{State, empty, loaded, published, Slot, Held, is_empty, held_by, Result}
 use Rattle.ledger.specs.Publishing.{Publishing, public_buffer, work_buffer, needed_bytes, publishing_conditions, publication, freed_bytes}
@@ -120,7 +120,7 @@ module _ (k : Key) (rows : Matrix) (good : key_number k ≡ 0) (irreducible : re
 
   publish_accepted : (state : State) (p : Publishing) → is_empty state ≡ false → public_bytes k ≤ length (public_buffer p) → needed_bytes k p ≤ length (work_buffer p)
       → (publish_result state k p).number ≡ 0
-  unfolding at conditions_of publishing_conditions publish_checks publish_conditions
+  unfolding at conditions_of publishing_conditions publish_checks_within publish_conditions_within
   publish_accepted state p h long room =
       step-number (at state k) (publish p)
       ∙ ap (λ (x : Held). first_of (conditions_of x (publish p))) (sound_held state k good)
@@ -129,11 +129,11 @@ module _ (k : Key) (rows : Matrix) (good : key_number k ≡ 0) (irreducible : re
 
   publish_frees : (state : State) (p : Publishing) → is_empty state ≡ false → public_bytes k ≤ length (public_buffer p) → needed_bytes k p ≤ length (work_buffer p)
       → (publish_result state k p).free ≡ needed_bytes k p
-  unfolding at made held_by freed_bytes free_bytes publish_checks
+  unfolding at made held_by freed_bytes free_bytes_within publish_checks_within
   publish_frees state p h long room =
       step_free (at state k) (publish p)
       ∙ ap (λ (b : Bool). cond b 0 (freed_bytes k p)) h
-      ∙ ap (λ (b : Bool). cond (eqb (first_of (publish_checks (needed_bytes k p) b k (public_buffer p) (work_buffer p))) 0) (needed_bytes k p) 0) (ap (λ (x : Held). x.unsound) (sound_held state k good))
+      ∙ ap (λ (b : Bool). cond (eqb (first_of (publish_checks_within (needed_bytes k p) b k (public_buffer p) (work_buffer p))) 0) (needed_bytes k p) 0) (ap (λ (x : Held). x.unsound) (sound_held state k good))
       ∙ ap (λ (n : ℕ). cond (eqb n 0) (needed_bytes k p) 0)
       (checks_first (reducible k) (ltb (length (public_buffer p)) (public_bytes k)) (ltb (length (work_buffer p)) (needed_bytes k p)) irreducible (le-ltb _ _ long) (le-ltb _ _ room))
 

@@ -15,7 +15,7 @@ use Rattle.key.proofs.Accepted.{Accepted, accepted}
 use Rattle.key.proofs.Parse.{accepted_file}
 use Rattle.network_key.specs.Files.{network_conditions}
 use Rattle.code.specs.PublicKey.{dependent}
-use Rattle.code.specs.Publish.{capsule_bits, public_bytes, work_bytes, publish_checks, publish_conditions}
+use Rattle.code.specs.Publish.{capsule_bits, public_bytes, work_bytes, publish_checks_within, publish_conditions_within}
 use Rattle.code.proofs.Exchange.{exchangeable, exchange_refused}
 use Rattle.decoder.specs.Calls.{open_conditions, read_conditions}
 use Rattle.marks.specs.Marked.{marked_conditions}
@@ -46,7 +46,7 @@ record Begins (h : Held) (c : Call) : Type 0 where
   once : without 34 others ≡ true
 
 exchange_begins : (h : Held) (c : Call) → exchanges c ≡ true → Begins h c
-unfolding exchanges opens conditions_of publishing_conditions publish_conditions publish_checks question_conditions open_conditions report_conditions session_conditions without
+unfolding exchanges opens conditions_of publishing_conditions publish_conditions_within publish_checks_within question_conditions open_conditions report_conditions session_conditions without
 exchange_begins h (load f) e = absurd (false≢true e)
 exchange_begins h (publish p) e = record { others = _; begins = refl; once = refl }
 exchange_begins h (ask (open_capsule capsule out)) e = record { others = _; begins = refl; once = refl }
@@ -138,7 +138,7 @@ unfolding first_of
 asked_first a r o w d p q = rw (p, q)
 
 asked_number : (s : Slot) (k : Key) → key_held s ≡ some k → key_number k ≡ 0 → (step s (publish (systematic [] []))).number ≡ cond (reducible k) 34 10
-unfolding at conditions_of publishing_conditions publish_checks publish_conditions public_buffer work_buffer needed_bytes
+unfolding at conditions_of publishing_conditions publish_checks_within publish_conditions_within public_buffer work_buffer needed_bytes
 asked_number s k h good =
     at_held (λ (y : Slot). (step y (publish (systematic [] []))).number ≡ cond (reducible k) 34 10) s k h
     (λ state e.

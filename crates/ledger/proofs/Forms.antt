@@ -15,7 +15,7 @@ use Rattle.key.proofs.Parse.{accepted_key}
 use Rattle.network_key.specs.Files.{network_conditions}
 use Rattle.network_key.proofs.Convert.{accepted-network}
 use Rattle.code.specs.PublicKey.{Matrix, public_key, dependent}
-use Rattle.code.specs.Publish.{publish_checks, publish_conditions, free_bytes}
+use Rattle.code.specs.Publish.{publish_checks_within, publish_conditions_within, free_bytes_within}
 use Rattle.code.proofs.Exchange.{exchangeable}
 use Rattle.decoder.specs.Calls.{open_conditions, read_conditions}
 use Rattle.marks.specs.Marked.{marked_conditions}
@@ -39,7 +39,7 @@ loading_good (network_file file) e = accepted-network file e
 
 -- publish
 pub publishing_numbered : (h : Held) (p : Publishing) → numbered (publishing_conditions h p) ≡ true
-unfolding numbered publishing_conditions publish_checks publish_conditions
+unfolding numbered publishing_conditions publish_checks_within publish_conditions_within
 publishing_numbered h p = refl
 
 -- a key whose first columns are not dependent has a public key
@@ -58,7 +58,7 @@ pub record Public (h : Held) : Type 0 where
   pub public : public_key h.key ≡ some rows
 
 pub publishing_public : (h : Held) (p : Publishing) → first_of (publishing_conditions h p) ≡ 0 → Public h
-unfolding publishing_conditions publish_checks publish_conditions
+unfolding publishing_conditions publish_checks_within publish_conditions_within
 publishing_public h f e =
     let x = exchangeable h.unsound h.key _ e in
     let p = public_rows h.key (first-clear _ 22 _ (first-clear _ 10 _ (first-clear _ 9 _ x.rest).1).1).0 in
@@ -89,10 +89,10 @@ refused_free checks d w n ok e other = go (eqb (first_of checks) 0) refl
 
 pub publishing_free : (h : Held) (p : Publishing) (n : ℕ) → h.unsound ≡ unsound h.key → first_of (publishing_conditions h p) ≡ suc n → (suc n ≡ 23 → ⊥)
     → freed_bytes h.key p ≡ 0
-unfolding numbered publishing_conditions publish_checks publish_conditions freed_bytes free_bytes
+unfolding numbered publishing_conditions publish_checks_within publish_conditions_within freed_bytes free_bytes_within
 publishing_free h p n same e other =
     rw (← same)
-    (refused_free (publish_checks (needed_bytes h.key p) h.unsound h.key (public_buffer p) (work_buffer p)) (dependent h.key) (needed_bytes h.key p) n refl e other)
+    (refused_free (publish_checks_within (needed_bytes h.key p) h.unsound h.key (public_buffer p) (work_buffer p)) (dependent h.key) (needed_bytes h.key p) n refl e other)
 
 -- No byte of the workspace is free, or those that the form needs.
 none_or_needed : (b : Bool) (w : ℕ) → (cond b w 0 ≡ 0) ⊎ (cond b w 0 ≡ w)
@@ -100,5 +100,5 @@ none_or_needed true w = inr refl
 none_or_needed false w = inl refl
 
 pub freed_workspace : (k : Key) (p : Publishing) → (freed_bytes k p ≡ 0) ⊎ (freed_bytes k p ≡ needed_bytes k p)
-unfolding freed_bytes free_bytes
-freed_workspace k p = none_or_needed (eqb (first_of (publish_checks (needed_bytes k p) (unsound k) k (public_buffer p) (work_buffer p))) 0) (needed_bytes k p)
+unfolding freed_bytes free_bytes_within
+freed_workspace k p = none_or_needed (eqb (first_of (publish_checks_within (needed_bytes k p) (unsound k) k (public_buffer p) (work_buffer p))) 0) (needed_bytes k p)

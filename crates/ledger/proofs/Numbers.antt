@@ -10,7 +10,7 @@ use Rattle.bits.proofs.Lists.{and_left, and_right}
 use Rattle.field.specs.Numbers.{first_of}
 use Rattle.key.specs.Keys.{conditions, file_conditions}
 use Rattle.network_key.specs.Files.{network_conditions}
-use Rattle.code.specs.Publish.{publish_checks, publish_conditions}
+use Rattle.code.specs.Publish.{publish_checks_within, publish_conditions_within}
 use Rattle.decoder.specs.Calls.{open_conditions, read_conditions}
 use Rattle.marks.specs.Marked.{marked_conditions}
 use Rattle.records.specs.Records.{report_conditions}
@@ -38,7 +38,7 @@ without_first n (c ∷ cs) w e =
 
 -- no call of a slot has 35, which says that a recipient's name is unknown
 pub calls_without_35 : (h : Held) (c : Call) → without 35 (conditions_of h c) ≡ true
-unfolding without conditions_of loading_conditions file_conditions network_conditions conditions publishing_conditions publish_conditions publish_checks question_conditions open_conditions read_conditions marked_conditions report_conditions session_conditions
+unfolding without conditions_of loading_conditions file_conditions network_conditions conditions publishing_conditions publish_conditions_within publish_checks_within question_conditions open_conditions read_conditions marked_conditions report_conditions session_conditions
 calls_without_35 h (load (key_file file)) = refl
 calls_without_35 h (load (network_file file)) = refl
 calls_without_35 h (publish p) = refl

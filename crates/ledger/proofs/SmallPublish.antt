@@ -11,7 +11,7 @@ use Rattle.bits.specs.Bits.{pack, over}
 use Rattle.field.specs.Numbers.{first_of}
 use Rattle.key.specs.Keys.{Key, unsound, reducible}
 use Rattle.code.specs.PublicKey.{Matrix, public_key, dependent}
-use Rattle.code.specs.Publish.{public_bytes, small_bytes, publish_checks, publish_conditions, free_bytes}
+use Rattle.code.specs.Publish.{public_bytes, small_bytes, publish_checks_within, publish_conditions_within, free_bytes_within}
 use Rattle.ledger.specs.Slot.{Slot, is_empty, held_by, Result}
 use Rattle.ledger.specs.Publishing.{Publishing, systematic, small, public_buffer, work_buffer, needed_bytes, publishing_conditions, publication, freed_bytes}
 use Rattle.ledger.specs.Calls.{Call, publish, conditions_of, output_of, no_answer, made, unless, step}
@@ -27,7 +27,7 @@ use Rattle.ledger.proofs.Simulation.{Simulates, definitions_simulate, same_numbe
 module _ (s : Slot) (p q : Publishing) (b : public_buffer p ≡ public_buffer q)
     (w : ltb (length (work_buffer p)) (needed_bytes s.key p) ≡ ltb (length (work_buffer q)) (needed_bytes s.key q)) where
   alike_number : call_number s (publish p) ≡ call_number s (publish q)
-  unfolding conditions_of publishing_conditions publish_conditions publish_checks held_by
+  unfolding conditions_of publishing_conditions publish_conditions_within publish_checks_within held_by
   alike_number = rw (b, w) refl
 
   alike_step : unfreed (step s (publish p)) ≡ unfreed (step s (publish q))
@@ -49,7 +49,7 @@ short_first a false false false e f p q = rw (p, q) refl
 
 short_number : (s : Slot) (k : Key) (out tight : List ℕ) → key_held s ≡ some k → length tight < small_bytes k
     → (step s (publish (small out tight))).number ≡ first_of ((unsound k, 25) ∷ (reducible k, 34) ∷ (ltb (length out) (public_bytes k), 10) ∷ (true, 11) ∷ [])
-unfolding at held_by conditions_of publishing_conditions publish_conditions publish_checks public_buffer work_buffer needed_bytes
+unfolding at held_by conditions_of publishing_conditions publish_conditions_within publish_checks_within public_buffer work_buffer needed_bytes
 short_number s k out tight h l =
     at_held (λ (x : Slot). (step x (publish (small out tight))).number ≡ first_of ((unsound k, 25) ∷ (reducible k, 34) ∷ (ltb (length out) (public_bytes k), 10) ∷ (true, 11) ∷ [])) s k h
     (λ state e.
@@ -79,11 +79,11 @@ module _ (s : Slot) (out tight : List ℕ) where
   publishing = publish (small out tight)
 
   free_checks : (step s publishing).free ≡ cond (eqb (first_of (small_checks s out tight)) 0) (small_bytes s.key) 0
-  unfolding made freed_bytes free_bytes publish_checks public_buffer work_buffer needed_bytes small_checks
+  unfolding made freed_bytes free_bytes_within publish_checks_within public_buffer work_buffer needed_bytes small_checks
   free_checks = step_free s publishing ∙ free_first (is_empty s.state) _ (small_bytes s.key)
 
   free_number : (step s publishing).free ≡ (let r = (step s publishing).number in cond (eqb r 0 || eqb r 23) (small_bytes s.key) 0)
-  unfolding small_checks held_by conditions_of publishing_conditions publish_conditions publish_checks public_buffer work_buffer needed_bytes
+  unfolding small_checks held_by conditions_of publishing_conditions publish_conditions_within publish_checks_within public_buffer work_buffer needed_bytes
   free_number =
       free_checks
       ∙ number-first (is_empty s.state) (unsound s.key) (reducible s.key) (ltb (length out) (public_bytes s.key)) (ltb (length tight) (small_bytes s.key)) (dependent s.key) (small_bytes s.key)

@@ -3,7 +3,7 @@ use Rattle.std.specs.Prelude.{ℕ, Bool, List}
 use Rattle.bits.specs.Bits.{over}
 use Rattle.key.specs.Keys.{Key}
 use Rattle.code.specs.PublicKey.{public_key, written}
-use Rattle.code.specs.Publish.{work_bytes, small_bytes, publish_conditions, free_bytes}
+use Rattle.code.specs.Publish.{work_bytes, small_bytes, publish_conditions_within, free_bytes_within}
 use Rattle.ledger.specs.Slot.{Held}
 
 -- document 01's publish: output, workspace; request L9's with a small workspace
@@ -28,7 +28,7 @@ needed_bytes k (small out work) = small_bytes k
 
 -- 25, 34, 10, 11, 23
 unfoldable pub publishing_conditions : Held → Publishing → List (Bool × ℕ)
-publishing_conditions h p = publish_conditions (needed_bytes h.key p) h.unsound h.key (public_buffer p) (work_buffer p)
+publishing_conditions h p = publish_conditions_within (needed_bytes h.key p) h.unsound h.key (public_buffer p) (work_buffer p)
 
 -- T from the output's start
 unfoldable pub publication : Key → Publishing → List ℕ
@@ -36,4 +36,4 @@ publication k p = over (written (public_key k)) (public_buffer p)
 
 -- the free bytes of the workspace, once 25, 34, 10 and 11 have passed
 unfoldable pub freed_bytes : Key → Publishing → ℕ
-freed_bytes k p = free_bytes (needed_bytes k p) k (public_buffer p) (work_buffer p)
+freed_bytes k p = free_bytes_within (needed_bytes k p) k (public_buffer p) (work_buffer p)

@@ -24,7 +24,7 @@ use Rattle.code.specs.PublicKey.{with_row, find_pivot, clear, with_pivot, column
 use Rattle.code.specs.Lock.{locked, row_of, rows_of, lock_number, lock}
 use Rattle.decoder.specs.Search.{or_else, first_row}
 use Rattle.decoder.specs.Reading.{corrects, reading, filled, exactly, opening}
-use Rattle.code.specs.Publish.{capsule_bits, publish_checks, publish_conditions, free_bytes}
+use Rattle.code.specs.Publish.{capsule_bits, publish_checks_within, publish_conditions_within, free_bytes_within}
 use Rattle.decoder.specs.Calls.{found, is_none, open_conditions, read_conditions}
 use Rattle.marks.specs.Marked.{steady, unmarked, differences, corrects_marked, marked_reading, marked_conditions}
 use Rattle.records.specs.Records.{cut, capsules_of, capsule_conditions, record_of, records_of, occurrences, counts_of, report_conditions}
@@ -373,7 +373,7 @@ Story =
 
 -- one computation for all tables
 tables_hold : Holds rows × Holds running × Holds orders × Holds remains × Holds reports × Story
-unfolding ◌⊕◌ from every bytes_for bit_at unpack number pack ones weight filler_clear well_formed each_with xor_row dot first_of is_width is_element modulus_of poly_mul reduced mul_mod mul power last_below inv value sum same monic product some_below some_list has_square has_factor in_limits pair elements parse two_bytes four_bytes file_of distinct goppa_at conditions file_conditions exchange sent Network.network reversed switches support_of four parse_network network_conditions key_number reducible K1 K2 K1-with K3 entry in_code parity_row parity_rows with_row find_pivot clear with_pivot columns echelon public_key dependent written locked row_of rows_of lock_number lock or_else first_row corrects reading filled exactly opening unsound empty_key fresh is_empty is_unpublished held_by capsule_bits found is_none publish_checks publish_conditions free_bytes open_conditions read_conditions steady unmarked differences corrects_marked marked_reading marked_conditions cut capsules_of capsule_conditions record_of records_of occurrences counts_of report_conditions session_conditions loading_conditions loaded_key public_buffer work_buffer needed_bytes publishing_conditions publication freed_bytes answer_buffer question_conditions gives given answer_size over conditions_of output_of no_answer made unless step run blank held_in ledger_number entered fed ledger_after expected answer_by answer_of lock_answer counts_in answer zeros file network N1 published_K1 published_1 rows running factored_file factored bad_factored bad orders remains two_bytes_lem reports answers story calls flat_map zip_with
+unfolding ◌⊕◌ from every bytes_for bit_at unpack number pack ones weight filler_clear well_formed each_with xor_row dot first_of is_width is_element modulus_of poly_mul reduced mul_mod mul power last_below inv value sum same monic product some_below some_list has_square has_factor in_limits pair elements parse two_bytes four_bytes file_of distinct goppa_at conditions file_conditions exchange sent Network.network reversed switches support_of four parse_network network_conditions key_number reducible K1 K2 K1-with K3 entry in_code parity_row parity_rows with_row find_pivot clear with_pivot columns echelon public_key dependent written locked row_of rows_of lock_number lock or_else first_row corrects reading filled exactly opening unsound empty_key fresh is_empty is_unpublished held_by capsule_bits found is_none publish_checks_within publish_conditions_within free_bytes_within open_conditions read_conditions steady unmarked differences corrects_marked marked_reading marked_conditions cut capsules_of capsule_conditions record_of records_of occurrences counts_of report_conditions session_conditions loading_conditions loaded_key public_buffer work_buffer needed_bytes publishing_conditions publication freed_bytes answer_buffer question_conditions gives given answer_size over conditions_of output_of no_answer made unless step run blank held_in ledger_number entered fed ledger_after expected answer_by answer_of lock_answer counts_in answer zeros file network N1 published_K1 published_1 rows running factored_file factored bad_factored bad orders remains two_bytes_lem reports answers story calls flat_map zip_with
 tables_hold = (refl, refl, refl, refl, refl, (refl, refl, refl))
 
 pub rows_hold : Holds rows

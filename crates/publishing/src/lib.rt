@@ -27,7 +27,7 @@ fn check<'a>(
     out: usize,
     work: usize,
 ) -> Verdict
-    ensures { result ≡ (let k = kept (parts m n t support.now g.now) in verdict_of (first_of (size_checks (work_bytes k) (unsound k) k out work))) }
+    ensures { result ≡ (let k = kept (parts m n t support.now g.now) in verdict_of (first_of (size_checks (unsound k) k out work))) }
 {
     let x = irreducible::check_exchange(m, n, t, support, g, false);
     let Verdict::Accepted = x else {
@@ -54,7 +54,7 @@ fn make<'a>(
     out: &mut [u8],
     work: &mut [u8],
 ) -> Verdict
-    requires { let k = kept (parts m n t support.now g.now) in first_of (size_checks (work_bytes k) (unsound k) k (length out.old) (length work.old)) ≡ 0 }
+    requires { let k = kept (parts m n t support.now g.now) in first_of (size_checks (unsound k) k (length out.old) (length work.old)) ≡ 0 }
     ensures answer { result ≡ verdict_of (cond (dependent (kept (parts m n t support.now g.now))) 23 0) }
     ensures output { out.new ≡ over (written (public_key (kept (parts m n t support.now g.now)))) out.old }
     ensures rest { let k = kept (parts m n t support.now g.now) in
@@ -82,9 +82,9 @@ pub fn publish<'a>(
     out: &mut [u8],
     work: &mut [u8],
 ) -> Verdict
-    ensures answer { result ≡ (let k = kept (parts m n t support.now g.now) in verdict_of (publish_number (work_bytes k) k out.old work.old)) }
-    ensures output { out.new ≡ (let k = kept (parts m n t support.now g.now) in publish_output (work_bytes k) k out.old work.old) }
-    ensures workspace { let k = kept (parts m n t support.now g.now) in let f = free_bytes (work_bytes k) k out.old work.old in
+    ensures answer { result ≡ (let k = kept (parts m n t support.now g.now) in verdict_of (publish_number k out.old work.old)) }
+    ensures output { out.new ≡ (let k = kept (parts m n t support.now g.now) in publish_output k out.old work.old) }
+    ensures workspace { let k = kept (parts m n t support.now g.now) in let f = free_bytes k out.old work.old in
         drop f work.new ≡ drop f work.old }
 {
     let x = check(m, n, t, support, g, out.len(), work.len());

@@ -4,7 +4,7 @@
 
 ghost use Rattle.std.specs.Prelude.{◌≡◌, length, drop};
 ghost use Rattle.keccak.specs.Shake.{shake256};
-ghost use Rattle.field_calls.specs.Answers.{add_of, multiply_of, invert_of};
+ghost use Rattle.field.specs.Answers.{add_of, multiply_of, invert_of};
 ghost use Rattle.register.specs.Registered.{registered_of};
 ghost use Rattle.key.specs.Answers.{shape_of};
 ghost use Rattle.code.specs.Lock.{lock_number, lock_output};

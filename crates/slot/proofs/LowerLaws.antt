@@ -8,7 +8,7 @@ use lib.ListN.{drop}
 use Rattle.key.specs.Keys.{Key}
 use Rattle.key.specs.Kept.{kept, keep}
 use Rattle.key.specs.Answers.{shape_answer}
-use Rattle.code.specs.Publish.{free_bytes, publish_number, publish_output}
+use Rattle.code.specs.Publish.{free_bytes_within, publish_number_within, publish_output_within}
 use Rattle.decoder.specs.Calls.{open_number, read_number, open_output, read_output, pattern_output}
 use Rattle.reading.specs.Answers.{answer_of, open_of, read_of}
 use Rattle.marks.specs.Marked.{marked_number, marked_output}
@@ -49,15 +49,15 @@ module _ (s : Slot) (p : Publishing) (keyed : is_empty (state_of s.state) ≡ fa
   unfolding stop
   publish_passes = keyed
 
-  pub publish_number_lem : publish_number (needed_bytes (kept s.key) p) (kept s.key) (public_buffer p) (work_buffer p) ≡ (handed s (publish p)).reply.refused
-  unfolding lower publishing_conditions held_by view publish_number
+  pub publish_number_lem : publish_number_within (needed_bytes (kept s.key) p) (kept s.key) (public_buffer p) (work_buffer p) ≡ (handed s (publish p)).reply.refused
+  unfolding lower publishing_conditions held_by view publish_number_within
   publish_number_lem = lower_number s (publish p) publish_passes
 
-  pub publish_output_lem : publish_output (needed_bytes (kept s.key) p) (kept s.key) (public_buffer p) (work_buffer p) ≡ (handed s (publish p)).output
-  unfolding publish_output publish_number lower publishing_conditions held_by made publication view output_of
+  pub publish_output_lem : publish_output_within (needed_bytes (kept s.key) p) (kept s.key) (public_buffer p) (work_buffer p) ≡ (handed s (publish p)).output
+  unfolding publish_output_within publish_number_within lower publishing_conditions held_by made publication view output_of
   publish_output_lem = lower_output s (publish p) publish_passes
 
-  pub publish_work : (before after : List ℕ) → (let f = free_bytes (needed_bytes (kept s.key) p) (kept s.key) (public_buffer p) (work_buffer p) in drop f after ≡ drop f before)
+  pub publish_work : (before after : List ℕ) → (let f = free_bytes_within (needed_bytes (kept s.key) p) (kept s.key) (public_buffer p) (work_buffer p) in drop f after ≡ drop f before)
       → (let f = (handed s (publish p)).free in drop f after ≡ drop f before)
   unfolding handed made freed_bytes view
   publish_work before after =

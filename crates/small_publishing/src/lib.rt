@@ -8,8 +8,8 @@ ghost use Rattle.field.specs.Verdicts.{verdict_of};
 ghost use Rattle.key.specs.Keys.{key_of, key_number, unsound};
 ghost use Rattle.key.specs.Kept.{kept, parts};
 ghost use Rattle.code.specs.PublicKey.{public_key, dependent, written};
-ghost use Rattle.code.specs.Publish.{small_bytes, free_bytes, publish_number, publish_output};
-ghost use Rattle.publishing.specs.Checks.{size_checks};
+ghost use Rattle.code.specs.Publish.{small_bytes, free_bytes_within, publish_number_within, publish_output_within};
+ghost use Rattle.publishing.specs.Checks.{size_checks_within};
 ghost use Rattle.block_product.specs.Blocks.{step_of};
 
 use field::Verdict;
@@ -25,7 +25,7 @@ fn check<'a>(
     out: usize,
     work: usize,
 ) -> Verdict
-    ensures { result ≡ (let k = kept (parts m n t support.now g.now) in verdict_of (first_of (size_checks (small_bytes k) (unsound k) k out work))) }
+    ensures { result ≡ (let k = kept (parts m n t support.now g.now) in verdict_of (first_of (size_checks_within (small_bytes k) (unsound k) k out work))) }
 {
     let x = irreducible::check_exchange(m, n, t, support, g, true);
     let Verdict::Accepted = x else {
@@ -73,7 +73,7 @@ fn make<'a>(
     out: &mut [u8],
     work: &mut [u8],
 ) -> Verdict
-    requires { let k = kept (parts m n t support.now g.now) in first_of (size_checks (small_bytes k) (unsound k) k (length out.old) (length work.old)) ≡ 0 }
+    requires { let k = kept (parts m n t support.now g.now) in first_of (size_checks_within (small_bytes k) (unsound k) k (length out.old) (length work.old)) ≡ 0 }
     ensures answer { result ≡ verdict_of (cond (dependent (kept (parts m n t support.now g.now))) 23 0) }
     ensures output { out.new ≡ over (written (public_key (kept (parts m n t support.now g.now)))) out.old }
     ensures rest { let k = kept (parts m n t support.now g.now) in
@@ -100,9 +100,9 @@ pub fn publish_small<'a>(
     out: &mut [u8],
     work: &mut [u8],
 ) -> Verdict
-    ensures answer { result ≡ (let k = kept (parts m n t support.now g.now) in verdict_of (publish_number (small_bytes k) k out.old work.old)) }
-    ensures output { out.new ≡ (let k = kept (parts m n t support.now g.now) in publish_output (small_bytes k) k out.old work.old) }
-    ensures workspace { let k = kept (parts m n t support.now g.now) in let f = free_bytes (small_bytes k) k out.old work.old in
+    ensures answer { result ≡ (let k = kept (parts m n t support.now g.now) in verdict_of (publish_number_within (small_bytes k) k out.old work.old)) }
+    ensures output { out.new ≡ (let k = kept (parts m n t support.now g.now) in publish_output_within (small_bytes k) k out.old work.old) }
+    ensures workspace { let k = kept (parts m n t support.now g.now) in let f = free_bytes_within (small_bytes k) k out.old work.old in
         drop f work.new ≡ drop f work.old }
 {
     let x = check(m, n, t, support, g, out.len(), work.len());

@@ -2,11 +2,11 @@
 use mathlib.Core.Path.{refl}
 use borrow.Author.Rules.{rules}
 use Rattle.bits.specs.Xor.{◌⊕◌}
-use Rattle.field_calls.specs.Answers.{add_of}
+use Rattle.field.specs.Answers.{add_of}
 use Rattle.field.proofs.Verdicts.{verdict_accepted}
 use Rattle.field.proofs.Guards.{refused, allowed}
-use Rattle.field_calls.proofs.Guards.{accepted}
-use Rattle.field_calls.proofs.add.Goals as goal
+use Rattle.field.proofs.CallGuards.{accepted}
+use Rattle.field.proofs.add.Goals as goal
 
 pub returns-in_default : goal.returns-in_default
 unfolding add_of

@@ -3,8 +3,8 @@ use mathlib.Core.Path.{ap, ◌∙◌}
 use borrow.Author.Rules.{rules}
 use Rattle.field.specs.Verdicts.{verdict_of}
 use Rattle.field.proofs.Verdicts.{verdict_accepted, verdict_refused}
-use Rattle.field_calls.proofs.Guards.{first_refused, first_allowed}
-use Rattle.field_calls.proofs.check_pair.Goals as goal
+use Rattle.field.proofs.CallGuards.{first_refused, first_allowed}
+use Rattle.field.proofs.check_pair.Goals as goal
 
 pub returns-in_default : goal.returns-in_default
 returns-in_default c =

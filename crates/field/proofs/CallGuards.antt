@@ -14,7 +14,7 @@ use Rattle.field.specs.Answers.{answer, inverse_of}
 use Rattle.field.proofs.Table.{Width, width_narrow}
 use Rattle.field.proofs.Guards.{is_element_lem, no_element, element_below}
 use Rattle.field.proofs.Units.{element_inverse}
-use Rattle.field_calls.specs.Answers.{elements_number, invert_number, invert_of}
+use Rattle.field.specs.Answers.{elements_number, invert_number, invert_of}
 
 module _ (m : ℕ) where
   pub number_no_width : (xs : List ℕ) → is_width m ≡ false → elements_number m xs ≡ 1

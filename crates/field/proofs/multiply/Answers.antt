@@ -1,10 +1,10 @@
 -- `field_calls::multiply` meets its contract. Assumes nothing.
 use borrow.Author.Rules.{rules}
-use Rattle.field_calls.specs.Answers.{multiply_of}
+use Rattle.field.specs.Answers.{multiply_of}
 use Rattle.field.proofs.Verdicts.{verdict_accepted}
 use Rattle.field.proofs.Guards.{refused, allowed}
-use Rattle.field_calls.proofs.Guards.{accepted}
-use Rattle.field_calls.proofs.multiply.Goals as goal
+use Rattle.field.proofs.CallGuards.{accepted}
+use Rattle.field.proofs.multiply.Goals as goal
 
 pub returns-in_default : goal.returns-in_default
 unfolding multiply_of

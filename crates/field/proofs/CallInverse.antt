@@ -13,7 +13,7 @@ use Rattle.field.specs.declared.Answer.TheVariants.{Value, Refused}
 use Rattle.field.proofs.Table.{Width}
 use Rattle.field.proofs.Laws.{zero-mul, mul-inv, inv-lt, inv_unique}
 use Rattle.field.proofs.Guards.{answer-value, answer_refused, element_below}
-use Rattle.field_calls.specs.Answers.{invert_number, invert_of}
+use Rattle.field.specs.Answers.{invert_number, invert_of}
 
 module _ (m a : ℕ) where
   -- what a value says of the three conditions

@@ -4,7 +4,7 @@ use Rattle.field.specs.Numbers.{first_of}
 use Rattle.field.specs.Field.{is_width, is_element}
 use Rattle.field.specs.Answers.{answer}
 use Rattle.field.specs.declared.Answer.TheVariants.{Refused}
-use Rattle.field_calls.specs.Answers.{invert_number, invert_of}
+use Rattle.field.specs.Answers.{invert_number, invert_of}
 
 -- 0 has no inverse; 2^m is no element, though its m low digits are 0; 0 at no width
 invert0 : invert_of 4 0 ≡ Refused 32

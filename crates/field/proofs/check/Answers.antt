@@ -5,8 +5,8 @@ use borrow.Author.Rules.{rules}
 use Rattle.field.proofs.Verdicts.{refuses, accepts}
 use Rattle.field.proofs.Table.{modulus_none, modulus_some, width_narrow}
 use Rattle.field.proofs.Machine.{one_shl}
-use Rattle.field_calls.proofs.Guards.{number_no_width, number_no_element, number_element}
-use Rattle.field_calls.proofs.check.Goals as goal
+use Rattle.field.proofs.CallGuards.{number_no_width, number_no_element, number_element}
+use Rattle.field.proofs.check.Goals as goal
 
 pub returns-then-modulus-eq0 : goal.returns-then-modulus-eq0
 returns-then-modulus-eq0 c = refuses (sym (number_no_width _ _ (modulus_none _ c.modulus.ensures c.if-modulus-eq0.true)))

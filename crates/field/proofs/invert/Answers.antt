@@ -2,11 +2,11 @@
 use mathlib.Core.Path.{ap, ◌∙◌}
 use borrow.Author.Rules.{rules}
 use Rattle.field.specs.Verdicts.{verdict_of}
-use Rattle.field_calls.specs.Answers.{invert_of}
+use Rattle.field.specs.Answers.{invert_of}
 use Rattle.field.proofs.Verdicts.{verdict_accepted, verdict_taken}
 use Rattle.field.proofs.Guards.{refused}
-use Rattle.field_calls.proofs.Guards.{accepted, invert_refused, invert_allowed}
-use Rattle.field_calls.proofs.invert.Goals as goal
+use Rattle.field.proofs.CallGuards.{accepted, invert_refused, invert_allowed}
+use Rattle.field.proofs.invert.Goals as goal
 
 pub returns-in_default : goal.returns-in_default
 unfolding invert_of
