@@ -2,7 +2,7 @@
 #![tactic(auto)]
 
 ghost use Rattle.std.specs.Prelude.{◌≡◌, min};
-ghost use Rattle.bits.specs.Bits.{bytes_for, bit_at, set_bit, weight as weightOf, filler_clear, well_formed};
+ghost use Rattle.bits.specs.Bits.{bytes_for, bit_at, set_bit, weight as weight_of, filler_clear, well_formed};
 
 // The bytes of a row of n bits, n / 8 rounded up.
 pub fn bytes_for(n: usize) -> usize
@@ -37,7 +37,7 @@ pub fn set_bit(out: &mut [u8], i: usize, v: u8)
 
 // The number of ones among the first n bits.
 pub fn weight(row: &[u8], n: usize) -> usize
-    ensures { result ≡ weightOf n row.now }
+    ensures { result ≡ weight_of n row.now }
 {
     let mut w: usize = 0;
     let mut i = 0;

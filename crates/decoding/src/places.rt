@@ -3,7 +3,7 @@ ghost use Rattle.std.specs.Prelude.{◌≡◌, [], map, ◌≤◌, length};
 ghost use Rattle.bits.specs.Bits.{padded, put_bits};
 ghost use Rattle.poly.specs.Register.{register, register_number};
 ghost use Rattle.key.specs.Keys.{key_of};
-ghost use Rattle.decoder.specs.Decoding.{backward as backwardOf, places};
+ghost use Rattle.decoder.specs.Decoding.{backward as backward_of, places};
 ghost use Rattle.decoding.specs.Parts.{mark as mark_of, packed};
 
 use register::Registered;
@@ -11,7 +11,7 @@ use register::Registered;
 // The coefficients c_l, .., c_1, with zeros behind them.
 fn backward(c: [u16; Registered::COEFFICIENTS], l: usize) -> [u16; Registered::LONGEST]
     requires { l ≤ 256 }
-    ensures { result ≡ padded 256 (backwardOf c l) }
+    ensures { result ≡ padded 256 (backward_of c l) }
 {
     let mut q = [0u16; Registered::LONGEST];
     let mut i = 0;

@@ -3,7 +3,7 @@ ghost use Rattle.std.specs.Prelude.{◌≡◌, true, map, ◌≤◌, length};
 ghost use Rattle.bits.specs.Bits.{unpack};
 ghost use Rattle.field.specs.Field.{is_width};
 ghost use Rattle.field.specs.Answers.{inverse_number};
-ghost use Rattle.poly.specs.Polynomials.{same as sameAs};
+ghost use Rattle.poly.specs.Polynomials.{same as same_as};
 ghost use Rattle.key.specs.Keys.{key_of, goppa_at};
 ghost use Rattle.decoder.specs.Decoding.{square_sums};
 ghost use Rattle.decoding.specs.Parts.{point_sums, sums_of, divisors};
@@ -50,7 +50,7 @@ pub fn word_sums(m: u8, support: &[u16], g: &[u16], word: &[u8]) -> Sums
 // The two lists, of one length, are equal.
 pub fn same(a: &[u16], b: &[u16]) -> bool
     requires { length a.now ≡ length b.now }
-    ensures { result ≡ sameAs a.now b.now }
+    ensures { result ≡ same_as a.now b.now }
 {
     let mut i = 0;
     while i < a.len() {

@@ -8,7 +8,7 @@ ghost use Rattle.euclid.specs.Euclid.{
   added,
   step as step_of,
   steps as steps_of,
-  accepted as acceptedOf,
+  accepted as accepted_of,
   common_divisor,
 };
 
@@ -57,7 +57,7 @@ pub fn common_divisor(m: u8, a: &[u16], b: &[u16]) -> Divisor
 
 // m is a width, and p has at most 129 coefficients, each an element.
 fn accepted(m: u8, p: &[u16]) -> bool
-    ensures { result ≡ acceptedOf m p.now }
+    ensures { result ≡ accepted_of m p.now }
 {
     if field::modulus(m) == 0 {
         return false;

@@ -5,14 +5,14 @@ mod common;
 mod square;
 
 ghost use Rattle.std.specs.Prelude.{◌≡◌, ◌<◌, length};
-ghost use Rattle.euclid.specs.Euclid.{derivative_at, derivative as derivativeOf};
+ghost use Rattle.euclid.specs.Euclid.{derivative_at, derivative as derivative_of};
 
 pub use common::{Divisor, common_divisor};
 pub use square::has_square;
 
 // p becomes its derivative, with as many coefficients.
 pub fn derivative(p: &mut [u16])
-    ensures { p.new ≡ derivativeOf p.old }
+    ensures { p.new ≡ derivative_of p.old }
 {
     let mut k = 0;
     while k < p.len() {

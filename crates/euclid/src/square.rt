@@ -1,7 +1,7 @@
 // Whether a square of a polynomial of degree 1 or more divides a monic polynomial: Euclid's algorithm on g and g'.
 ghost use Rattle.std.specs.Prelude.{◌≡◌, ◌≤◌, length};
 ghost use Rattle.bits.specs.Bits.{padded};
-ghost use Rattle.poly.specs.Polynomials.{monic as monicOf};
+ghost use Rattle.poly.specs.Polynomials.{monic as monic_of};
 ghost use Rattle.euclid.specs.Euclid.{square_test};
 
 use super::common::{Divisor, common_divisor, load};
@@ -10,7 +10,7 @@ use super::derivative;
 // g with its leading 1, and zeros behind it.
 fn monic(g: &[u16]) -> [u16; Divisor::COEFFICIENTS]
     requires { length g.now ≤ 128 }
-    ensures { result ≡ padded 129 (monicOf g.now) }
+    ensures { result ≡ padded 129 (monic_of g.now) }
 {
     let n = g.len();
     let mut a = load(g);

@@ -5,7 +5,7 @@ ghost use Rattle.field.specs.Field.{is_width};
 ghost use Rattle.field.specs.Numbers.{first_of};
 ghost use Rattle.field.specs.Verdicts.{verdict_of};
 ghost use Rattle.key.specs.Keys.{key_number};
-ghost use Rattle.key.specs.Parts.{distinct_below, no_root, faults as faultsOf, number_but_roots};
+ghost use Rattle.key.specs.Parts.{distinct_below, no_root, faults as faults_of, number_but_roots};
 ghost use Rattle.key.specs.Kept.{kept, parts};
 
 use super::kept::Key;
@@ -81,7 +81,7 @@ fn no_root(m: u8, g: &[u16], s: &[u16]) -> bool
 // Whether the elements are right but for g's roots: 4, 5 or 6 on refusal.
 fn faults(m: u8, s: &[u16], g: &[u16]) -> Verdict
     requires { (is_width m ≡ true) × (length g.now ≤ 128) }
-    ensures { result ≡ verdict_of (first_of (take 3 (faultsOf m s.now g.now))) }
+    ensures { result ≡ verdict_of (first_of (take 3 (faults_of m s.now g.now))) }
 {
     if !field::elements(m, s) {
         return Verdict::Refused(4);

@@ -2,7 +2,7 @@
 ghost use Rattle.std.specs.Prelude.{◌≡◌, true, ◌+◌, ◌^◌, ◌≤◌, ◌<◌, length, get_or};
 ghost use Rattle.field.specs.Field.{is_width};
 ghost use Rattle.field.specs.Answers.{is_unit};
-ghost use Rattle.levels.specs.Levels.{basis_of, ratios as ratiosOf, lowered as loweredOf, points_of, points_put, doubled, two_of};
+ghost use Rattle.levels.specs.Levels.{basis_of, ratios as ratios_of, lowered as lowered_of, points_of, points_put, doubled, two_of};
 
 use field::Answer;
 
@@ -33,7 +33,7 @@ pub fn first_basis(m: u8) -> [u16; 16]
 // The first n divided by the number behind them.
 pub fn ratios(m: u8, n: usize, b: [u16; 16]) -> [u16; 16]
     requires { (is_width m ≡ true) × (n < 16) × (is_unit m (get_or b n 0) ≡ true) }
-    ensures { result ≡ ratiosOf m n b }
+    ensures { result ≡ ratios_of m n b }
 {
     let mut r = b;
     let d = field::inverse(m, b[n]);
@@ -52,7 +52,7 @@ pub fn ratios(m: u8, n: usize, b: [u16; 16]) -> [u16; 16]
 // t² + t for each t of the first n.
 pub fn lowered(m: u8, n: usize, t: [u16; 16]) -> [u16; 16]
     requires { n < 16 }
-    ensures { result ≡ loweredOf m n t }
+    ensures { result ≡ lowered_of m n t }
 {
     let mut r = t;
     let mut i = 0;

@@ -1,7 +1,7 @@
 // Packed rows with their marked bits cleared or set.
 ghost use Rattle.std.specs.Prelude.{◌≡◌};
 ghost use Rattle.bits.specs.Bits.{unpack};
-ghost use Rattle.marks.specs.Marked.{differences as differencesOf};
+ghost use Rattle.marks.specs.Marked.{differences as differences_of};
 ghost use Rattle.marked_reading.specs.Parts.{cleared, filled_row};
 
 // The marked bits of the row become 0, as far as both go.
@@ -31,7 +31,7 @@ pub fn with_marked(word: &[u8], marks: &[u8], one: bool) -> [u8; 1024]
 
 // The number of ones of a pattern of n bits at unmarked places.
 pub fn differences(pattern: [u8; 1024], marks: &[u8], n: usize) -> usize
-    ensures { result ≡ differencesOf (unpack n marks.now) (unpack n pattern) }
+    ensures { result ≡ differences_of (unpack n marks.now) (unpack n pattern) }
 {
     let mut row = pattern;
     clear_marked(&mut row, marks);

@@ -6,8 +6,8 @@ ghost use Rattle.bits.specs.Bits.{padded};
 ghost use Rattle.field.specs.Numbers.{first_of};
 ghost use Rattle.field.specs.Verdicts.{verdict_of};
 ghost use Rattle.key.specs.Kept.{sizes_of};
-ghost use Rattle.network.specs.Network.{switches as switchesOf};
-ghost use Rattle.network_key.specs.Files.{reversed as reversedOf, support_of, four as fourOf, parse_network, network_conditions};
+ghost use Rattle.network.specs.Network.{switches as switches_of};
+ghost use Rattle.network_key.specs.Files.{reversed as reversed_of, support_of, four as four_of, parse_network, network_conditions};
 ghost use Rattle.network_file.specs.Networks.{network_shape, Says};
 
 use field::Verdict;
@@ -19,7 +19,7 @@ use key_file::{byte, pair};
 // The bit count, (2m−1)·2^(m−1).
 pub fn switches(m: usize) -> usize
     requires { (0 < m) × (m < 14) }
-    ensures { result ≡ switchesOf m }
+    ensures { result ≡ switches_of m }
 {
     (2 * m - 1) << (m - 1)
 }
@@ -27,7 +27,7 @@ pub fn switches(m: usize) -> usize
 // The m lowest binary digits of x, in reverse order: always 13 steps, so that the loop over places vectorises.
 pub fn reversed(m: u8, x: u16) -> u16
     requires { m < 14 }
-    ensures { result ≡ reversedOf m x }
+    ensures { result ≡ reversed_of m x }
 {
     let mut r: u16 = 0;
     let mut y = x;
@@ -43,7 +43,7 @@ pub fn reversed(m: u8, x: u16) -> u16
 // The m lowest binary digits of each number, in reverse order.
 pub fn reverse_each(m: u8, places: &mut [u16])
     requires { m < 14 }
-    ensures { places.new ≡ map (reversedOf m) places.old }
+    ensures { places.new ≡ map (reversed_of m) places.old }
 {
     let mut i = 0;
     while i < places.len() {
@@ -72,7 +72,7 @@ fn fill_support(out: &mut [u16], row: &[u8], m: u8, n: usize)
 // Four bytes at i, the low one first.
 fn four(file: &[u8], i: usize) -> usize
     requires { i < 2 ^ 31 }
-    ensures { result ≡ fourOf file.now i }
+    ensures { result ≡ four_of file.now i }
 {
     pair(file, i) as usize + 65536 * (pair(file, i + 2) as usize)
 }

@@ -8,7 +8,7 @@ ghost use Rattle.bits.specs.Bits.{bytes_for, pack};
 ghost use Rattle.key.specs.Keys.{two_bytes};
 ghost use Rattle.key.specs.declared.shape.ShapeAnswer.TheVariants as answers;
 ghost use Rattle.key_file.specs.Files.{file_shape};
-ghost use Rattle.network.specs.Network.{switches as switchesOf, control_bits};
+ghost use Rattle.network.specs.Network.{switches as switches_of, control_bits};
 ghost use Rattle.network.specs.Tables.{Each};
 ghost use Rattle.network_key.specs.Files.{four_bytes, to_network};
 
@@ -33,7 +33,7 @@ fn put_four(out: &mut [u8], at: usize, x: usize)
 // A network file up to its row, from the output's start.
 fn put_head(out: &mut [u8], m: u8, n: u16, g: &[u16])
     requires { (9 + 2 * length g.now ≤ length out.old) × (length g.now < 65536) × (0 < m) × (m < 14) }
-    ensures { out.new ≡ sets out.old 0 (m ∷ (two_bytes n ++ (two_bytes (length g.now) ++ (flat_map two_bytes g.now ++ four_bytes (switchesOf m))))) }
+    ensures { out.new ≡ sets out.old 0 (m ∷ (two_bytes n ++ (two_bytes (length g.now) ++ (flat_map two_bytes g.now ++ four_bytes (switches_of m))))) }
 {
     let t = g.len();
     out[0] = m;
@@ -46,7 +46,7 @@ fn put_head(out: &mut [u8], m: u8, n: u16, g: &[u16])
 // The bytes of the row for 2^m values.
 fn row_length(m: usize) -> usize
     requires { (0 < m) × (m < 14) }
-    ensures { result ≡ bytes_for (switchesOf m) }
+    ensures { result ≡ bytes_for (switches_of m) }
 {
     bytes_for(switches(m))
 }
@@ -55,7 +55,7 @@ fn row_length(m: usize) -> usize
 fn put_row(out: &mut [u8], at: usize, m: usize, values: &mut [u16; 8192])
     requires le_m { (4 ≤ m) × (m < 14) }
     requires each { Each (2 ^ m) (take (2 ^ m) values.old) }
-    requires m_in_bounds { at + bytes_for (switchesOf m) ≤ length out.old }
+    requires m_in_bounds { at + bytes_for (switches_of m) ≤ length out.old }
     ensures { out.new ≡ sets out.old at (pack (control_bits m (take (2 ^ m) values.old))) }
 {
     let end = at + row_length(m);
@@ -65,14 +65,14 @@ fn put_row(out: &mut [u8], at: usize, m: usize, values: &mut [u16; 8192])
 // The length of a network file.
 pub fn network_length(m: u8, t: u16) -> usize
     requires { (0 < m) × (m < 14) }
-    ensures { result ≡ 9 + 2 * t + bytes_for (switchesOf m) }
+    ensures { result ≡ 9 + 2 * t + bytes_for (switches_of m) }
 {
     9 + 2 * (t as usize) + row_length(m as usize)
 }
 
 // The network file of the key of a file whose shape is s, from the output's start.
 pub fn put_network(out: &mut [u8], file: &[u8], s: Sizes)
-    requires { (file_shape file.now ≡ answers.Sizes s) × (9 + 2 * s.t + bytes_for (switchesOf s.m) ≤ length out.old) }
+    requires { (file_shape file.now ≡ answers.Sizes s) × (9 + 2 * s.t + bytes_for (switches_of s.m) ≤ length out.old) }
     ensures { out.new ≡ sets out.old 0 (to_network file.now) }
 {
     let t = s.t as usize;

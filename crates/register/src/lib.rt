@@ -9,7 +9,7 @@ ghost use Rattle.field.specs.Answers.{is_unit};
 ghost use Rattle.field.specs.Verdicts.{verdict_of};
 ghost use Rattle.field.specs.PointTable.{digit_sum};
 ghost use Rattle.poly.specs.Polynomials.{sum};
-ghost use Rattle.poly.specs.Register.{register as registerOf, register_number};
+ghost use Rattle.poly.specs.Register.{register as register_of, register_number};
 ghost use Rattle.poly.specs.Parts.{Earlier};
 ghost use Rattle.register.specs.Registered.{figure, registered, registered_of};
 ghost use Rattle.register.specs.Across.{Past, Multiples, Fits, discrepancy_across, corrected_across, turn_across, divided};
@@ -76,7 +76,7 @@ fn check(m: u8, s: &[u16]) -> Verdict
 // Figure 1 over the whole list, without quotients but for the last step.
 fn run(m: u8, s: &[u16]) -> Registered
     requires { (is_width m ≡ true) × (length s.now ≤ 256) × (every (is_element m) s.now ≡ true) }
-    ensures { result ≡ registered 0 (registerOf m s.now) }
+    ensures { result ≡ registered 0 (register_of m s.now) }
 {
     let mut c = [0u16; Registered::COEFFICIENTS];
     c[0] = 1;

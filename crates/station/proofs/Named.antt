@@ -24,7 +24,7 @@ use Rattle.ledger.specs.Loading.{Loading, loaded_key}
 use Rattle.ledger.specs.Publishing.{Publishing}
 use Rattle.ledger.specs.Questions.{Question}
 use Rattle.ledger.specs.Calls.{Call, load, publish, ask, drop_key, conditions_of, output_of, no_answer, made}
-use Rattle.slot.specs.Replies.{byte_of, view, answer_number, fresh_slot, Reply as SlotReply, refusal as slotRefusal, acceptance, moved, outcome_of}
+use Rattle.slot.specs.Replies.{byte_of, view, answer_number, fresh_slot, Reply as SlotReply, refusal as slot_refusal, acceptance, moved, outcome_of}
 use Rattle.slot.specs.Replies as Slots
 use Rattle.slot.specs.Parts.{keyless, loaded_of, answered_of}
 use Rattle.slot.specs.declared.Slot.{Slot}
@@ -105,7 +105,7 @@ module _ (s : Station) (b : ℕ) (c : Call) where
   -- refused: the station as it was
   pub reply_refused : known b ≡ true → {n : ℕ} → n ≡ (Slots.handed (slot_of (chosen b) s) c).reply.refused → (n ≡ 0 → ⊥)
       → refusal s n ≡ reply_of (handed s (named b c))
-  unfolding slotRefusal
+  unfolding slot_refusal
   reply_refused h {n} e some = go n e some
     where
       go : (n : ℕ) → n ≡ (Slots.handed (slot_of (chosen b) s) c).reply.refused → (n ≡ 0 → ⊥) → refusal s n ≡ reply_of (handed s (named b c))

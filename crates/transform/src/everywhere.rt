@@ -2,9 +2,9 @@
 ghost use Rattle.std.specs.Prelude.{◌≡◌, true, ℕ, ◌^◌, ◌≤◌, ◌<◌, length, replicate};
 ghost use Rattle.bits.specs.Bits.{padded};
 ghost use Rattle.field.specs.Field.{is_width};
-ghost use Rattle.poly.specs.Polynomials.{monic as monicOf};
+ghost use Rattle.poly.specs.Polynomials.{monic as monic_of};
 ghost use Rattle.levels.specs.Levels.{Factors, Tops};
-ghost use Rattle.transform.specs.Values.{parts_of, joins_of, everywhere as everywhereOf};
+ghost use Rattle.transform.specs.Values.{parts_of, joins_of, everywhere as everywhere_of};
 
 use super::halves::split_level;
 use super::joining::{join_level, spread};
@@ -53,7 +53,7 @@ fn ascend(m: u8, k: u8, g: &[u16; 8192], d: &mut [u16])
 // The values of the polynomial with the 2^k coefficients c at every element.
 fn transformed(m: u8, k: u8, c: &mut [u16], d: &mut [u16])
     requires { (is_width m ≡ true) × (k ≤ m) × (k ≤ 9) × (length c.old ≡ 2 ^ k) × (length d.old ≡ 2 ^ m) }
-    ensures { d.new ≡ everywhereOf m c.old }
+    ensures { d.new ≡ everywhere_of m c.old }
 {
     let l = Levels::of(m);
     descend(m, k, l.tops, c);
@@ -64,7 +64,7 @@ fn transformed(m: u8, k: u8, c: &mut [u16], d: &mut [u16])
 // The lower coefficients and the leading coefficient 1, with zeros behind them.
 fn monic(g: &[u16]) -> [u16; 512]
     requires { length g.now < 512 }
-    ensures { result ≡ padded 512 (monicOf g.now) }
+    ensures { result ≡ padded 512 (monic_of g.now) }
 {
     let mut c = field_places::block(g);
     c[g.len()] = 1;
@@ -74,7 +74,7 @@ fn monic(g: &[u16]) -> [u16; 512]
 // The monic polynomial with the lower coefficients g at a at place a of d for each element a, where d is zeros.
 pub fn everywhere(m: u8, g: &[u16], d: &mut [u16])
     requires { (is_width m ≡ true) × (9 ≤ m) × (length g.now < 512) × (d.old ≡ replicate 8192 0) }
-    ensures { d.new ≡ padded 8192 (everywhereOf m (monicOf g.now)) }
+    ensures { d.new ≡ padded 8192 (everywhere_of m (monic_of g.now)) }
 {
     let mut c = monic(g);
     let k = depth(g.len() + 1);

@@ -2,7 +2,7 @@
 ghost use Rattle.std.specs.Prelude.{◌≡◌, true, ◌++◌, ◌+◌, ◌*◌, ◌≤◌, ◌<◌, length};
 ghost use Rattle.field.specs.Field.{is_width};
 ghost use Rattle.levels.specs.Twist.{each_block};
-ghost use Rattle.transform.specs.Halves.{paired, expanded, unzip as unzipOf, split_by, split as splitOf};
+ghost use Rattle.transform.specs.Halves.{paired, expanded, unzip as unzip_of, split_by, split as split_of};
 
 // a + b and b for each pair of neighbours a, b.
 fn pair_up(c: &mut [u16])
@@ -30,7 +30,7 @@ fn expand(c: &mut [u16])
 // The numbers of t at even places, then those at odd places.
 fn unzip(t: &[u16], c: &mut [u16], h: usize)
     requires { (length t.now ≡ h + h) × (length c.old ≡ h + h) }
-    ensures { c.new ≡ (unzipOf t.now).0 ++ (unzipOf t.now).1 }
+    ensures { c.new ≡ (unzip_of t.now).0 ++ (unzip_of t.now).1 }
 {
     let mut i = 0;
     while i < h {
@@ -43,7 +43,7 @@ fn unzip(t: &[u16], c: &mut [u16], h: usize)
 // The numbers at even places, then those at odd places.
 fn part(c: &mut [u16], h: usize)
     requires { (length c.old ≡ h + h) × (h ≤ 256) }
-    ensures { c.new ≡ (unzipOf c.old).0 ++ (unzipOf c.old).1 }
+    ensures { c.new ≡ (unzip_of c.old).0 ++ (unzip_of c.old).1 }
 {
     let t = field_places::block(c);
     unzip(&t[..h + h], c, h);
@@ -62,7 +62,7 @@ fn split(m: u8, p: &[u16], c: &mut [u16], h: usize)
 // Each of q polynomials of 2h coefficients in two halves.
 pub fn split_level(m: u8, b: u16, h: usize, q: usize, c: &mut [u16])
     requires { (is_width m ≡ true) × (length c.old ≡ q * (h + h)) × (0 < h) × (h ≤ 256) }
-    ensures { c.new ≡ each_block (splitOf m b) (h + h) q c.old }
+    ensures { c.new ≡ each_block (split_of m b) (h + h) q c.old }
 {
     let p = levels::powers(m, b, h + h);
     let mut at = 0;

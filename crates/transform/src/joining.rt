@@ -2,14 +2,14 @@
 ghost use Rattle.std.specs.Prelude.{◌≡◌, true, ◌+◌, ◌*◌, ◌≤◌, ◌<◌, length, replicate};
 ghost use Rattle.field.specs.Field.{is_width};
 ghost use Rattle.levels.specs.Twist.{each_block};
-ghost use Rattle.transform.specs.Values.{butterfly as butterflyOf, spread as spread_of};
+ghost use Rattle.transform.specs.Values.{butterfly as butterfly_of, spread as spread_of};
 
 use levels::{add_each, copy_each};
 
 // u + g·v and u + g·v + v for the two halves u and v of b, by way of p.
 fn butterfly(m: u8, b: &mut [u16], g: &[u16], p: &mut [u16])
     requires { (is_width m ≡ true) × (length b.old ≡ length g.now + length g.now) × (length p.old ≡ length g.now) }
-    ensures { b.new ≡ butterflyOf m g.now b.old }
+    ensures { b.new ≡ butterfly_of m g.now b.old }
 {
     let h = g.len();
     copy_each(p, &b[h..]);
@@ -22,7 +22,7 @@ fn butterfly(m: u8, b: &mut [u16], g: &[u16], p: &mut [u16])
 // The same on each of q parts.
 pub fn join_level(m: u8, g: &[u16], q: usize, b: &mut [u16])
     requires { (is_width m ≡ true) × (length b.old ≡ q * (length g.now + length g.now)) × (length g.now ≤ 4096) }
-    ensures { b.new ≡ each_block (butterflyOf m g.now) (length g.now + length g.now) q b.old }
+    ensures { b.new ≡ each_block (butterfly_of m g.now) (length g.now + length g.now) q b.old }
 {
     let h = g.len();
     let w = h + h;
