@@ -75,8 +75,8 @@ fn check_key<'a>(
     check(m, n, t, support, g)
 }
 
-// Whether it is an exchange key: 25 or 34 on refusal. No square divides g once 25 has passed.
-pub fn check_exchange<'a>(
+// Whether it is an exchange key, checked without long arrays where it is to be lean: 25 or 34 on refusal. No square divides g once 25 has passed.
+pub fn check_exchange_by<'a>(
     m: u8,
     n: u16,
     t: u16,
@@ -96,4 +96,17 @@ pub fn check_exchange<'a>(
         return Verdict::Refused(34);
     }
     x
+}
+
+// The same, not lean.
+pub fn check_exchange<'a>(
+    m: u8,
+    n: u16,
+    t: u16,
+    support: &'a [u16; Key::MOST_PLACES],
+    g: &'a [u16; Key::MOST_ERRORS],
+) -> Verdict
+    ensures { result ≡ verdict_of (first_of (exchange_checks (kept (parts m n t support.now g.now)))) }
+{
+    check_exchange_by(m, n, t, support, g, false)
 }

@@ -29,7 +29,7 @@ fn check<'a>(
 ) -> Verdict
     ensures { result ≡ (let k = kept (parts m n t support.now g.now) in verdict_of (first_of (size_checks (unsound k) k out work))) }
 {
-    let x = irreducible::check_exchange(m, n, t, support, g, false);
+    let x = irreducible::check_exchange(m, n, t, support, g);
     let Verdict::Accepted = x else {
         return x;
     };
@@ -82,9 +82,9 @@ pub fn publish<'a>(
     out: &mut [u8],
     work: &mut [u8],
 ) -> Verdict
-    ensures answer { result ≡ (let k = kept (parts m n t support.now g.now) in verdict_of (publish_number k out.old work.old)) }
-    ensures output { out.new ≡ (let k = kept (parts m n t support.now g.now) in publish_output k out.old work.old) }
-    ensures workspace { let k = kept (parts m n t support.now g.now) in let f = free_bytes k out.old work.old in
+    ensures answer { result ≡ verdict_of (publish_number (kept (parts m n t support.now g.now)) out.old work.old) }
+    ensures output { out.new ≡ publish_output (kept (parts m n t support.now g.now)) out.old work.old }
+    ensures workspace { let f = free_bytes (kept (parts m n t support.now g.now)) out.old work.old in
         drop f work.new ≡ drop f work.old }
 {
     let x = check(m, n, t, support, g, out.len(), work.len());

@@ -93,7 +93,7 @@ pub fn check_published<'a>(
 ) -> Verdict
     ensures { result ≡ verdict_of (first_of (key_checks (not published) (kept (parts m n t support.now g.now)))) }
 {
-    let x = check_exchange(m, n, t, support, g, false);
+    let x = check_exchange(m, n, t, support, g);
     let Verdict::Accepted = x else {
         return x;
     };

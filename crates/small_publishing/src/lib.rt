@@ -27,7 +27,7 @@ fn check<'a>(
 ) -> Verdict
     ensures { result ≡ (let k = kept (parts m n t support.now g.now) in verdict_of (first_of (size_checks_within (small_bytes k) (unsound k) k out work))) }
 {
-    let x = irreducible::check_exchange(m, n, t, support, g, true);
+    let x = irreducible::check_exchange_by(m, n, t, support, g, true);
     let Verdict::Accepted = x else {
         return x;
     };

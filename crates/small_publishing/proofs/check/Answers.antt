@@ -16,7 +16,7 @@ use Rattle.small_publishing.proofs.check.Goals as goal
 
 pub returns-in_default : goal.returns-in_default
 returns-in_default c =
-    let r = c.check_exchange-x.ensures in
+    let r = c.check_exchange_by-x.ensures in
     r ∙ ap verdict_of (check_key _ _ _ _ (verdict_refused _ r c.in_default.is))
 
 pub overflow_mul-rows : goal.overflow_mul-rows
@@ -24,7 +24,7 @@ unfolding kept
 overflow_mul-rows c =
     let a = c.args in
     let k = parts a.m a.n a.t a.support.now a.g.now in
-    let z = verdict_accepted _ c.check_exchange-x.ensures c.in-Accepted.is in
+    let z = verdict_accepted _ c.check_exchange_by-x.ensures c.in-Accepted.is in
     let s : Sizes (kept k) = sizes (kept k) (exchange-clear (kept k) z).0 in
     omega (arith, s.rows, s.columns)
 
@@ -33,7 +33,7 @@ unfolding kept
 overflow_sub-places c =
     let a = c.args in
     let k = parts a.m a.n a.t a.support.now a.g.now in
-    let z = verdict_accepted _ c.check_exchange-x.ensures c.in-Accepted.is in
+    let z = verdict_accepted _ c.check_exchange_by-x.ensures c.in-Accepted.is in
     let s : Sizes (kept k) = sizes (kept k) (exchange-clear (kept k) z).0 in
     omega (arith, s.rows)
 
@@ -42,7 +42,7 @@ unfolding kept
 overflow_mul-rows-2 c =
     let a = c.args in
     let k = parts a.m a.n a.t a.support.now a.g.now in
-    let z = verdict_accepted _ c.check_exchange-x.ensures c.in-Accepted.is in
+    let z = verdict_accepted _ c.check_exchange_by-x.ensures c.in-Accepted.is in
     let s : Sizes (kept k) = sizes (kept k) (exchange-clear (kept k) z).0 in
     let e = sizes-le (k.m * k.t) (k.n - k.m * k.t) c.bytes_for.result (omega (arith, s.rows, s.columns)) (omega (arith, s.columns)) c.bytes_for.ensures in
     omega arith
@@ -52,7 +52,7 @@ unfolding kept
 returns-then-out-rows c =
     let a = c.args in
     let k = parts a.m a.n a.t a.support.now a.g.now in
-    let z = verdict_accepted _ c.check_exchange-x.ensures c.in-Accepted.is in
+    let z = verdict_accepted _ c.check_exchange_by-x.ensures c.in-Accepted.is in
     let e = ap (◌*◌ (k.m * k.t)) c.bytes_for.ensures in
     refuses (check_output _ (kept k) _ _ z (omega arith))
 
@@ -61,7 +61,7 @@ unfolding kept
 overflow_mul-rows-3 c =
     let a = c.args in
     let k = parts a.m a.n a.t a.support.now a.g.now in
-    let z = verdict_accepted _ c.check_exchange-x.ensures c.in-Accepted.is in
+    let z = verdict_accepted _ c.check_exchange_by-x.ensures c.in-Accepted.is in
     let s : Sizes (kept k) = sizes (kept k) (exchange-clear (kept k) z).0 in
     omega (arith, rows_most (kept k) s)
 
@@ -70,7 +70,7 @@ unfolding kept
 overflow_mul-rows-4 c =
     let a = c.args in
     let k = parts a.m a.n a.t a.support.now a.g.now in
-    let z = verdict_accepted _ c.check_exchange-x.ensures c.in-Accepted.is in
+    let z = verdict_accepted _ c.check_exchange_by-x.ensures c.in-Accepted.is in
     let s : Sizes (kept k) = sizes (kept k) (exchange-clear (kept k) z).0 in
     let l = rows_most (kept k) s in
     let e = sizes-le (2 * (k.m * k.t)) (k.m * k.t) c.bytes_for-2.result (omega arith) (omega arith) c.bytes_for-2.ensures in
@@ -81,7 +81,7 @@ unfolding kept capsule_bits
 returns-then-work-rows c =
     let a = c.args in
     let k = parts a.m a.n a.t a.support.now a.g.now in
-    let z = verdict_accepted _ c.check_exchange-x.ensures c.in-Accepted.is in
+    let z = verdict_accepted _ c.check_exchange_by-x.ensures c.in-Accepted.is in
     let e = ap (◌*◌ (k.m * k.t)) c.bytes_for.ensures in
     let f = ap (◌*◌ (2 * (k.m * k.t))) c.bytes_for-2.ensures in
     refuses (check_work (2 * (k.m * k.t) * bytes_for (k.m * k.t)) (kept k) _ _ z (omega arith) (omega arith))
@@ -91,7 +91,7 @@ unfolding kept capsule_bits
 returns c =
     let a = c.args in
     let k = parts a.m a.n a.t a.support.now a.g.now in
-    let r = c.check_exchange-x.ensures in
+    let r = c.check_exchange_by-x.ensures in
     let z = verdict_accepted _ r c.in-Accepted.is in
     let e = ap (◌*◌ (k.m * k.t)) c.bytes_for.ensures in
     let f = ap (◌*◌ (2 * (k.m * k.t))) c.bytes_for-2.ensures in

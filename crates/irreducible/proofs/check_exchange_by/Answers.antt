@@ -9,7 +9,7 @@ use Rattle.key.specs.Keys.{reducible}
 use Rattle.key.specs.Kept.{kept, parts}
 use Rattle.key.proofs.Accepted.{Accepted, accepted}
 use Rattle.irreducible.proofs.Exchange.{exchange-unsound, exchange-reducible, exchange_right}
-use Rattle.irreducible.proofs.check_exchange.Goals as goal
+use Rattle.irreducible.proofs.check_exchange_by.Goals as goal
 
 pub returns-in_default : goal.returns-in_default
 returns-in_default c = refuses (exchange-unsound _ (verdict_refused _ c.check_key-x.ensures c.in_default.is))
