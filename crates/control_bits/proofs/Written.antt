@@ -11,7 +11,7 @@ use Rattle.bits.specs.Bits.{bytes_for, bit_at, pack}
 use Rattle.bits.proofs.Bits.{bit_past, bits_determine}
 use Rattle.bits.proofs.Lists.{map-from-at}
 use Rattle.bits.proofs.Pack.{row_length, length-pack, bytes_pack, bit_pack}
-use Rattle.network.specs.Network.{bits, val, seek, control_bit, switches, control_bits}
+use Rattle.network.specs.Network.{val, seek, control_bit, switches, control_bits}
 use Rattle.network.proofs.Digits.{row_control, switch_lt}
 use Rattle.control_passes.specs.Passes.{Done, Fits}
 

@@ -7,7 +7,6 @@ use Rattle.bits.specs.Bits.{padded}
 use Rattle.key.specs.Keys.{Key, file_of}
 use Rattle.key.specs.Kept.{parts, kept, keep, sizes_of}
 use Rattle.key.specs.declared.shape.Sizes.{Sizes}
-use Rattle.key.specs.declared.kept.Key as arrays
 use Rattle.key.proofs.Filled.{kept-keep}
 use Rattle.network_key.specs.Files.{parse_network, from_network}
 use Rattle.network_key.specs.Converting.{out_of_network, converted}

@@ -1,12 +1,11 @@
 -- What the calls of a form answer and write, in the terms of the load. Assumes nothing.
 use Prim.Native.Nat.{ℕ, ◌+◌, ◌*◌}
-use mathlib.Core.Path.{◌≡◌, refl, sym, ap, ◌∙◌, subst}
+use mathlib.Core.Path.{◌≡◌, refl, sym, ap, ◌∙◌}
 use mathlib.Core.List.{List}
 use Rattle.bits.specs.Bits.{padded}
 use Rattle.field.specs.Numbers.{first_of}
-use Rattle.key.specs.Keys.{parse, file_conditions}
-use Rattle.key.specs.Kept.{keep, sizes_of}
-use Rattle.key.specs.Answers.{sizes}
+use Rattle.key.specs.Keys.{parse}
+use Rattle.key.specs.Kept.{keep}
 use Rattle.key.specs.declared.kept.Key.{Key}
 use Rattle.key.specs.declared.shape.Sizes.{Sizes}
 use Rattle.key.specs.declared.shape.ShapeAnswer.{ShapeAnswer}

@@ -9,7 +9,7 @@ use Rattle.network_key.specs.Files.{network_conditions, to_network, from_network
 use Rattle.network_key.proofs.Convert.{converted, converted_back}
 use Rattle.ledger.specs.Slot.{Outcome}
 use Rattle.ledger.specs.Loading.{Loading, key_file, network_file, loading_conditions, loaded_key}
-use Rattle.ledger.specs.Calls.{Call, load, output_of, no_answer}
+use Rattle.ledger.specs.Calls.{load, output_of, no_answer}
 use Rattle.slot.specs.Replies.{outcome_of}
 use Rattle.slot.specs.Replies as Slots
 use Rattle.slot.proofs.Alike as Alike

@@ -1,10 +1,5 @@
 -- The loop's invariant: k products are left, from r on. Assumes nothing.
-use mathlib.Core.Path.{◌≡◌, refl, ap, ◌∙◌}
-use Prim.Native.Nat.{ℕ, zero, suc, ◌-◌, ◌≤◌, ◌<◌}
-use native.Mathlib.Nat.{not-suc-le-zero}
-use native.Mathlib.Omega.{arith}
-use borrow.Author.Rules.{rules}
-use Rattle.field.specs.Field.{mul}
+use mathlib.Core.Path.{◌≡◌}
 use Rattle.bench_calls.specs.Chain.{chain}
 use Rattle.bench_calls.proofs.bench_chain.Given as goal
 

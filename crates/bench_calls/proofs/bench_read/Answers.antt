@@ -1,6 +1,5 @@
 -- The number of what is answered. Assumes nothing.
 use mathlib.Core.Path.{◌∙◌}
-use borrow.Author.Rules.{rules}
 use Rattle.bench_calls.proofs.Powers.{refusal_read}
 use Rattle.bench_calls.proofs.bench_read.Goals as goal
 

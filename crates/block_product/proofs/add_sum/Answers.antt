@@ -4,7 +4,6 @@ use mathlib.Core.List.{List}
 use Prim.Native.Nat.{ℕ, ◌+◌, ◌-◌, ◌*◌, ◌%◌, ◌^◌, ◌≤◌}
 use native.Mathlib.Nat.{mod-lt}
 use native.Mathlib.Omega.{arith}
-use borrow.Author.Rules.{rules}
 use lib.ListN.{length, take, drop, length-drop}
 use lib.Pow.{pow_pos}
 use lib.Seq.{length-take-le}
@@ -55,4 +54,8 @@ returns c =
     let room : b ≤ length (drop at t) = omega (arith, length-drop at t, end_within a.v a.c b (length t) (omega arith)) in
     let long : length q ≡ b = ap (λ (x : ℕ). length (take x (drop at t))) size ∙ length-take-le b (drop at t) room in
     let same : unpack a.w q ≡ unpack a.w (drop (a.v % 2 ^ a.c * b) t) =
-    unpack-take a.w (at + k.result - at) (drop at t) (omega arith) ∙ ap (λ (x : ℕ). unpack a.w (drop x t)) e in record { sum = ap (unpack a.w) called.ensures ∙ unpack-xor_row a.w a.row.now q (omega arith) ∙ ap (xor_row (unpack a.w a.row.now)) same; rest = ap (drop b) called.ensures ∙ drop-xor_row b a.row.now q (omega arith) }
+    unpack-take a.w (at + k.result - at) (drop at t) (omega arith) ∙ ap (λ (x : ℕ). unpack a.w (drop x t)) e in
+    record {
+      sum = ap (unpack a.w) called.ensures ∙ unpack-xor_row a.w a.row.now q (omega arith) ∙ ap (xor_row (unpack a.w a.row.now)) same;
+      rest = ap (drop b) called.ensures ∙ drop-xor_row b a.row.now q (omega arith);
+    }

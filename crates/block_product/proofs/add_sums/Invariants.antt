@@ -1,15 +1,9 @@
 -- The loop's invariant: the first i rows are done, and what follows is as it was. Assumes nothing.
-use mathlib.Core.Path.{◌≡◌, refl, sym, ap, ap₂, ◌∙◌, subst}
-use mathlib.Core.List.{List, ◌++◌}
-use Prim.Native.Nat.{ℕ, ◌+◌, ◌-◌, ◌*◌, ◌%◌, ◌^◌, ◌≤◌, ◌<◌}
-use native.Mathlib.Nat.{zero-mul, not-suc-le-zero, mul-le-mul_right}
-use native.Mathlib.Omega.{arith}
-use borrow.Author.Rules.{rules}
-use borrow.Rule.Slice.PartMut.{put_mid, same_len_mid}
-use lib.ListN.{length, get_or, take, drop, length-drop}
+use mathlib.Core.Path.{◌≡◌}
+use mathlib.Core.List.{List}
+use Prim.Native.Nat.{ℕ, ◌-◌, ◌*◌, ◌%◌, ◌^◌, ◌≤◌, ◌<◌}
+use lib.ListN.{length, get_or, drop}
 use Rattle.bits.specs.Bits.{bytes_for, unpack, xor_row}
-use Rattle.bits.proofs.Parts.{rows_in, next_row, part_all, part_back}
-use Rattle.block_product.proofs.RowByRow.{rows_next, rest_next}
 use Rattle.block_product.proofs.add_sums.Given as goal
 
 -- row j with its sum added

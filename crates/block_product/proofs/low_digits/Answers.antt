@@ -1,6 +1,5 @@
 -- A mask. Assumes nothing.
 use native.Mathlib.Omega.{arith}
-use borrow.Author.Rules.{rules}
 use lib.Pow.{pow_pos}
 use Rattle.block_product.proofs.Digits.{one_shifted, masked}
 use Rattle.block_product.proofs.low_digits.Goals as goal

@@ -1,10 +1,10 @@
 -- The loop's invariant: the first d rows of the block are in the sums. Assumes nothing.
 use mathlib.Core.Path.{◌≡◌, refl, sym, ap, ◌∙◌}
 use mathlib.Core.List.{List}
-use Prim.Native.Nat.{ℕ, ◌+◌, ◌-◌, ◌*◌, ◌%◌, ◌^◌, ◌≤◌, ◌<◌, min}
+use Prim.Native.Nat.{ℕ, ◌+◌, ◌-◌, ◌*◌, ◌%◌, ◌^◌, min}
 use native.Mathlib.Omega.{arith}
-use lib.ListN.{length, get_or, drop, length-replicate}
-use Rattle.bits.specs.Bits.{bytes_for, unpack, xor_row}
+use lib.ListN.{get_or, drop, length-replicate}
+use Rattle.bits.specs.Bits.{bytes_for, xor_row}
 use Rattle.small_key.specs.Sums.{table_row}
 use Rattle.sum_tables.specs.Apart.{rows_apart}
 use Rattle.block_product.specs.Blocks.{step_of}

@@ -1,14 +1,9 @@
 -- The loop's invariant: the first d rows of the block are in the sums. Assumes nothing.
-use mathlib.Core.Path.{◌≡◌, refl, sym, ap, ◌∙◌}
-use mathlib.Core.List.{List}
-use Prim.Native.Nat.{ℕ, ◌+◌, ◌-◌, ◌*◌, ◌%◌, ◌^◌, ◌≤◌, ◌<◌, min}
-use native.Mathlib.Omega.{arith}
-use lib.ListN.{length, get_or, drop, length-replicate}
-use Rattle.bits.specs.Bits.{bytes_for, unpack, xor_row}
-use Rattle.small_key.specs.Sums.{table_row}
-use Rattle.sum_tables.specs.Apart.{rows_apart}
-use Rattle.block_product.specs.Blocks.{step_of}
-use Rattle.block_product.proofs.Groups.{part_row, part_none, part-next, part_all_rows, bytes_few, group_byte, group_few}
+use mathlib.Core.Path.{◌≡◌}
+use Prim.Native.Nat.{ℕ, ◌+◌, ◌-◌, ◌*◌, ◌≤◌, ◌<◌}
+use lib.ListN.{length, drop}
+use Rattle.bits.specs.Bits.{bytes_for, unpack}
+use Rattle.block_product.proofs.Groups.{part_row}
 use Rattle.block_product.proofs.multiply.Given as goal
 
 abbrev pub invariant-loop-d : goal.invariant-loop-d

@@ -5,7 +5,6 @@ use mathlib.Core.List.{List, ◌++◌}
 use Prim.Native.Nat.{ℕ, ◌+◌, ◌-◌, ◌*◌, ◌≤◌, ◌<◌}
 use native.Mathlib.Nat.{zero-mul, add-mul, not-suc-le-zero, mul-le-mul}
 use native.Mathlib.Omega.{arith}
-use borrow.Author.Rules.{rules}
 use borrow.Rule.Slice.PartMut.{put_mid, same_len_mid}
 use lib.ListN.{length, get_or, take, drop, length-drop}
 use Rattle.bits.specs.Bits.{bytes_for, pack}
@@ -172,8 +171,8 @@ returns c =
     let room : l.at ≤ length out = omega (arith, l.invariant.1, l.invariant.2, c.requires.7 l.first (omega arith)) in
     let fits : k ≤ a.size = omega arith in
     let kept : (z : ℕ) → ((i : ℕ) → i < a.rows - l.first → (z < i * a.size) ⊎ (i * a.size + k ≤ z)) → get_or y z 0 ≡ get_or (drop l.at out) z 0 =
-    λ z h. called.ensures.outside z h ∙ ap (λ (q : List ℕ). get_or q z 0) (part_all l.at out) in record { inside = λ j z h m.
-          ap (λ (q : List ℕ). get_or q (j * a.size + z) 0) e
-          ∙ joined_inside l.first (a.rows - l.first) l.at a.size k a.out.now out y F l.invariant.1 fits room called.ensures.inside kept l.invariant.3 j z (omega arith) m; outside = λ z h.
-          ap (λ (q : List ℕ). get_or q z 0) e
-          ∙ joined_outside l.first (a.rows - l.first) l.at a.size k a.out.now out y F l.invariant.1 fits room called.ensures.inside kept l.invariant.4 z (λ i m. h i (omega arith)) }
+    λ z h. called.ensures.outside z h ∙ ap (λ (q : List ℕ). get_or q z 0) (part_all l.at out) in
+    record {
+      inside = λ j z h m. ap (λ (q : List ℕ). get_or q (j * a.size + z) 0) e ∙ joined_inside l.first (a.rows - l.first) l.at a.size k a.out.now out y F l.invariant.1 fits room called.ensures.inside kept l.invariant.3 j z (omega arith) m;
+      outside = λ z h. ap (λ (q : List ℕ). get_or q z 0) e ∙ joined_outside l.first (a.rows - l.first) l.at a.size k a.out.now out y F l.invariant.1 fits room called.ensures.inside kept l.invariant.4 z (λ i m. h i (omega arith));
+    }

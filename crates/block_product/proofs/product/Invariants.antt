@@ -1,17 +1,10 @@
 -- The loop's invariant: the rows before row `first` are written, and all else is as it was. Assumes nothing.
-use mathlib.Core.Path.{◌≡◌, refl, sym, ap, ◌∙◌}
+use mathlib.Core.Path.{◌≡◌}
 use mathlib.Core.Logic.{◌⊎◌}
-use mathlib.Core.List.{List, ◌++◌}
 use Prim.Native.Nat.{ℕ, ◌+◌, ◌-◌, ◌*◌, ◌≤◌, ◌<◌}
-use native.Mathlib.Nat.{zero-mul, add-mul, not-suc-le-zero, mul-le-mul}
-use native.Mathlib.Omega.{arith}
-use borrow.Author.Rules.{rules}
-use borrow.Rule.Slice.PartMut.{put_mid, same_len_mid}
-use lib.ListN.{length, get_or, take, drop, length-drop}
+use lib.ListN.{length, get_or}
 use Rattle.bits.specs.Bits.{bytes_for, pack}
-use Rattle.bits.proofs.Parts.{part_all, part_back}
 use Rattle.block_product.specs.Blocks.{block_row}
-use Rattle.block_product.proofs.Placing.{joined_inside, joined_outside}
 use Rattle.block_product.proofs.product.Given as goal
 
 abbrev pub invariant-loop-first : goal.invariant-loop-first

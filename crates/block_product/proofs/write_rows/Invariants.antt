@@ -1,17 +1,9 @@
 -- The loop's invariant: the first i rows are written, and all else is as it was. Assumes nothing.
-use mathlib.Core.Path.{◌≡◌, refl, sym, ap, ap₂, ◌∙◌}
+use mathlib.Core.Path.{◌≡◌}
 use mathlib.Core.Logic.{◌⊎◌}
-use mathlib.Core.List.{List, ◌++◌}
 use Prim.Native.Nat.{ℕ, ◌+◌, ◌-◌, ◌*◌, ◌≤◌, ◌<◌}
-use native.Mathlib.Nat.{zero-mul, not-suc-le-zero, mul-le-mul_right}
-use native.Mathlib.Omega.{arith}
-use borrow.Author.Rules.{rules}
-use borrow.Rule.Slice.PartMut.{put_mid, same_len_mid}
-use lib.ListN.{length, get_or, take, drop, length-drop}
-use Rattle.bits.specs.Bits.{bytes_for, unpack, pack, over, row_written}
-use Rattle.bits.proofs.Pack.{length-unpack, length-pack}
-use Rattle.bits.proofs.Parts.{rows_in, next_row, part_all, part_back}
-use Rattle.block_product.proofs.Placing.{row_written_lem, placed_inside, placed_outside}
+use lib.ListN.{length, get_or, drop}
+use Rattle.bits.specs.Bits.{bytes_for, unpack, pack}
 use Rattle.block_product.proofs.write_rows.Given as goal
 
 abbrev pub invariant-loop-i : goal.invariant-loop-i

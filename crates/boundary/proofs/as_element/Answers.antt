@@ -1,7 +1,6 @@
 -- `boundary::as_element` meets its contract. Assumes nothing.
 use mathlib.Core.Path.{sym, ap, ◌∙◌}
 use Prim.Native.Nat.{ℕ}
-use borrow.Author.Rules.{rules}
 use Rattle.field.specs.declared.Answer.{Answer}
 use Rattle.boundary.specs.Boundary.{as_element}
 use Rattle.boundary.proofs.as_element.Goals as goal

@@ -1,7 +1,6 @@
 -- `boundary::as_shape` meets its contract. Assumes nothing.
 use mathlib.Core.Path.{sym, ap, ◌∙◌}
 use Prim.Native.Nat.{ℕ}
-use borrow.Author.Rules.{rules}
 use Rattle.key.specs.Answers.{answer_number}
 use Rattle.boundary.specs.Boundary.{as_shape}
 use Rattle.boundary.proofs.as_shape.Goals as goal

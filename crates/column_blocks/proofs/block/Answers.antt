@@ -3,7 +3,6 @@ use mathlib.Core.Path.{◌≡◌, sym, ap, ap₂, ◌∙◌, subst}
 use mathlib.Core.List.{List}
 use Prim.Native.Nat.{ℕ, ◌+◌, ◌*◌}
 use native.Mathlib.Omega.{arith}
-use borrow.Author.Rules.{rules}
 use lib.ListN.{length, get_or, drop}
 use Rattle.bits.specs.Bits.{pack}
 use Rattle.key.specs.Keys.{key_of}
@@ -51,6 +50,10 @@ returns c =
     (subst (λ (x : ℕ). rows_of x (8 * (k.result + k.result)) w ≡ over_rows (parity_rows (key_of a.m points g)) (rows_of x (8 * (k.result + k.result)) w₀)) count
     left.ensures.rows) in
     let rest : drop (a.rows * step_of a.rows) w ≡ drop (a.rows * step_of a.rows) w₀ =
-    subst (λ (x : ℕ). drop x w ≡ drop x w₀) (ap₂ ◌*◌ count e) left.ensures.rest in record { inside = λ i x h l.
-          made.ensures.inside i x h l
-          ∙ ap (λ (r : List ℕ). get_or (pack r) x 0) (product_tail a.m points g a.rows w₀ w count c.requires.5 written i h); outside = made.ensures.outside; right = λ i h. right_kept a.m points g a.rows w₀ w count c.requires.5 written i h; rest = rest }
+    subst (λ (x : ℕ). drop x w ≡ drop x w₀) (ap₂ ◌*◌ count e) left.ensures.rest in
+    record {
+      inside = λ i x h l. made.ensures.inside i x h l ∙ ap (λ (r : List ℕ). get_or (pack r) x 0) (product_tail a.m points g a.rows w₀ w count c.requires.5 written i h);
+      outside = made.ensures.outside;
+      right = λ i h. right_kept a.m points g a.rows w₀ w count c.requires.5 written i h;
+      rest = rest;
+    }

@@ -6,14 +6,12 @@ use mathlib.Core.List.{List, ◌++◌, map}
 use Prim.Native.Nat.{ℕ, ◌+◌, ◌-◌, ◌*◌, ◌/◌, ◌≤◌, ◌<◌, min}
 use native.Mathlib.Nat.{not-suc-le-zero}
 use native.Mathlib.Omega.{arith}
-use borrow.Author.Rules.{rules}
 use borrow.Rule.Slice.PartMut.{put_mid, same_len_mid}
 use lib.ListN.{length, get_or, take, drop, length-drop}
 use Rattle.bits.specs.Bits.{every, bytes_for, pack}
 use Rattle.bits.proofs.Parts.{rows_in, row_size, part_all, part_back}
 use Rattle.field.specs.Answers.{is_unit}
 use Rattle.key.specs.Keys.{key_of, goppa_at}
-use Rattle.block_product.specs.Blocks.{step_of, right_row}
 use Rattle.block_product.proofs.Groups.{step_is, step_few}
 use Rattle.column_blocks.specs.Tails.{tail_row}
 use Rattle.column_blocks.proofs.Columns.{part, length_part, units_part, tail_right, byte_tail, columns_inside, columns_outside, width, width_few, width_fits, width_size, width_whole, next-whole, next_bytes, byte_before}

@@ -3,7 +3,6 @@ use mathlib.Core.Path.{◌≡◌, ap, ◌∙◌}
 use mathlib.Core.List.{map}
 use Prim.Native.Nat.{ℕ}
 use native.Mathlib.Omega.{arith}
-use borrow.Author.Rules.{rules}
 use lib.ListN.{length, take, length-replicate}
 use Rattle.key.specs.Keys.{key_of, goppa_at}
 use Rattle.column_blocks.proofs.Columns.{each_goppa}

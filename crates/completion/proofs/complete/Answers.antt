@@ -2,7 +2,7 @@
 use mathlib.Core.Path.{◌≡◌, sym, ap, ◌∙◌}
 use mathlib.Core.Bool.{cond}
 use mathlib.Core.List.{List, ◌++◌, append-nil}
-use Prim.Native.Nat.{ℕ, ◌+◌, ◌-◌, ◌^◌, ◌≤◌, ◌<◌}
+use Prim.Native.Nat.{ℕ, ◌+◌, ◌^◌, ◌≤◌, ◌<◌}
 use native.Mathlib.Omega.{arith}
 use lib.ListN.{length, take, replicate, length-set}
 use lib.Seq.{length-take-le}
@@ -10,23 +10,19 @@ use Rattle.bits.specs.Bits.{bit_at}
 use Rattle.bits.proofs.Bits.{bit_lt, bit_zeros}
 use Rattle.field.proofs.Machine.{one_shl_digits}
 use Rattle.network.specs.Network.{unused}
+use Rattle.network.specs.Tables.{Each}
 use Rattle.completion.proofs.Marking.{fresh, marked-at, length_marked}
 use Rattle.completion.proofs.Completing.{pow_small, unused_none, completing_next, completing_left, completing_end}
 use borrow.Author.Rules.{rules}
 use Rattle.completion.proofs.complete.Goals as goal
 
 -- a turn's numbers: v < 2^m, at < 2^m, 2^m ≤ 8192
-inside : (c : tie.In-loop invariant-loop decreases-loop) → (c.before.loop.v < 2 ^ c.before.before.before.before.before.before.args.m)
-    × (c.before.loop.at < 2 ^ c.before.before.before.before.before.before.args.m) × (2 ^ c.before.before.before.before.before.before.args.m ≤ 8192)
-inside c =
-    let a = c.before.before.before.before.before.before.args in
-    let l = c.before.loop in
-    let p = pow_small a.m (omega arith) in
-    let e : length a.values.now ≡ 8192 = search rules in
-    let q = one_shl_digits a.m 64 (omega arith) in
-    let b : l.at < 2 ^ a.m = omega arith in
-    let s : length (take a.n a.values.now) ≡ a.n = length-take-le a.n a.values.now (omega arith) in
-    (completing_left (take a.n a.values.now) a.n (2 ^ a.m) s c.before.before.before.before.before.before.requires.2 l.v (omega arith) (omega arith), b, p)
+inside : (m n at v : ℕ) (xs : List ℕ) → m < 14 → n ≤ 2 ^ m → length xs ≡ 8192 → Each (2 ^ m) (take n xs ++ unused (take n xs) (2 ^ m))
+    → v ≤ 2 ^ m → at ≡ n + length (unused (take n xs) v) → at < 2 ^ m → (v < 2 ^ m) × (at < 2 ^ m) × (2 ^ m ≤ 8192)
+inside m n at v xs h fit l each w e b =
+    let p = pow_small m h in
+    let s : length (take n xs) ≡ n = length-take-le n xs (omega arith) in
+    (completing_left (take n xs) n (2 ^ m) s each v w (omega arith), b, p)
 
 pub slice_bounds-marks-end : goal.slice_bounds-marks-end
 slice_bounds-marks-end c =
@@ -41,13 +37,28 @@ loop-at-init c =
     (omega arith, search rules, omega (arith, ap length (unused_none s)), sym (ap (◌++◌ s) (unused_none s) ∙ append-nil s))
 
 pub overflow_cast-values : goal.overflow_cast-values
-overflow_cast-values c = let i = inside c in omega arith
+overflow_cast-values c =
+    let a = c.args in
+    let l = c.loop-at in
+    let q = one_shl_digits a.m 64 (omega arith) in
+    let i = inside a.m a.n l.at l.v a.values.now c.requires.0 c.requires.1 (search rules) c.requires.2 l.invariant.0 l.invariant.2 (omega arith) in
+    omega arith
 
 pub offset_bounds-values-at : goal.offset_bounds-values-at
-offset_bounds-values-at c = let i = inside c in omega arith
+offset_bounds-values-at c =
+    let a = c.args in
+    let l = c.loop-at in
+    let q = one_shl_digits a.m 64 (omega arith) in
+    let i = inside a.m a.n l.at l.v a.values.now c.requires.0 c.requires.1 (search rules) c.requires.2 l.invariant.0 l.invariant.2 (omega arith) in
+    omega arith
 
 pub bounds-values-at : goal.bounds-values-at
-bounds-values-at c = let i = inside c in omega arith
+bounds-values-at c =
+    let a = c.args in
+    let l = c.loop-at in
+    let q = one_shl_digits a.m 64 (omega arith) in
+    let i = inside a.m a.n l.at l.v a.values.now c.requires.0 c.requires.1 (search rules) c.requires.2 l.invariant.0 l.invariant.2 (omega arith) in
+    omega arith
 
 pub slice_bounds-bit_at-end : goal.slice_bounds-bit_at-end
 slice_bounds-bit_at-end c = sym (ap length c.marks-row.ensures ∙ length_marked _ (replicate 1024 0))
@@ -59,20 +70,36 @@ pub overflow_sub-at : goal.overflow_sub-at
 overflow_sub-at c = rw c.bit_at.ensures (omega (arith, bit_lt c.marks-row.result c.loop-at.v))
 
 pub overflow_add-at : goal.overflow_add-at
-overflow_add-at c = let i = inside c.before.before in omega arith
+overflow_add-at c =
+    let a = c.args in
+    let l = c.loop-at in
+    let q = one_shl_digits a.m 64 (omega arith) in
+    let i = inside a.m a.n l.at l.v a.values.now c.requires.0 c.requires.1 (search rules) c.requires.2 l.invariant.0 l.invariant.2 (omega arith) in
+    omega arith
 
 pub overflow_add-v : goal.overflow_add-v
-overflow_add-v c = let i = inside c.before.before in omega arith
+overflow_add-v c =
+    let a = c.args in
+    let l = c.loop-at in
+    let q = one_shl_digits a.m 64 (omega arith) in
+    let i = inside a.m a.n l.at l.v a.values.now c.requires.0 c.requires.1 (search rules) c.requires.2 l.invariant.0 l.invariant.2 (omega arith) in
+    omega arith
 
 pub loop-at-smaller : goal.loop-at-smaller
-loop-at-smaller c = let i = inside c.before.before in omega arith
+loop-at-smaller c =
+    let a = c.args in
+    let l = c.loop-at in
+    let q = one_shl_digits a.m 64 (omega arith) in
+    let i = inside a.m a.n l.at l.v a.values.now c.requires.0 c.requires.1 (search rules) c.requires.2 l.invariant.0 l.invariant.2 (omega arith) in
+    omega arith
 
 pub loop-at-preserved : goal.loop-at-preserved
 loop-at-preserved c =
     let l = c.loop-at in
     let a = c.args in
     let s : List ℕ = take a.n a.values.now in
-    let i = inside c.before.before in
+    let q = one_shl_digits a.m 64 (omega arith) in
+    let i = inside a.m a.n l.at l.v a.values.now c.requires.0 c.requires.1 (search rules) c.requires.2 l.invariant.0 l.invariant.2 (omega arith) in
     let bit : c.bit_at.result ≡ cond (fresh s l.v) 0 1 =
     c.bit_at.ensures
     ∙ ap (λ (r : List ℕ). bit_at r l.v) c.marks-row.ensures

@@ -1,18 +1,9 @@
 -- Assumes nothing.
-use mathlib.Core.Path.{◌≡◌, sym, ap, ◌∙◌}
-use mathlib.Core.Bool.{cond}
-use mathlib.Core.List.{List, ◌++◌, append-nil}
-use Prim.Native.Nat.{ℕ, ◌+◌, ◌-◌, ◌^◌, ◌≤◌, ◌<◌}
-use native.Mathlib.Omega.{arith}
-use lib.ListN.{length, take, replicate, length-set}
-use lib.Seq.{length-take-le}
-use Rattle.bits.specs.Bits.{bit_at}
-use Rattle.bits.proofs.Bits.{bit_lt, bit_zeros}
-use Rattle.field.proofs.Machine.{one_shl_digits}
+use mathlib.Core.Path.{◌≡◌}
+use mathlib.Core.List.{◌++◌}
+use Prim.Native.Nat.{◌+◌, ◌-◌, ◌^◌, ◌≤◌}
+use lib.ListN.{length, take}
 use Rattle.network.specs.Network.{unused}
-use Rattle.completion.proofs.Marking.{fresh, marked-at, length_marked}
-use Rattle.completion.proofs.Completing.{pow_small, unused_none, completing_next, completing_left, completing_end}
-use borrow.Author.Rules.{rules}
 use Rattle.completion.proofs.complete.Given as goal
 
 abbrev pub invariant-loop-at : goal.invariant-loop-at

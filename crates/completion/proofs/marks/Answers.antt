@@ -1,8 +1,8 @@
 -- Assumes nothing.
-use mathlib.Core.Path.{◌≡◌, refl, sym, ap, ◌∙◌}
-use Prim.Native.Nat.{◌+◌, ◌-◌}
+use mathlib.Core.Path.{refl, sym, ap, ◌∙◌}
+use Prim.Native.Nat.{◌+◌}
 use native.Mathlib.Omega.{arith}
-use lib.ListN.{length, drop, get_or, replicate}
+use lib.ListN.{length, drop, get_or}
 use Rattle.bits.proofs.Bits.{length-set_bit}
 use Rattle.completion.specs.Marks.{marked}
 use Rattle.completion.proofs.Marking.{marked_next, marked_end}
@@ -14,9 +14,6 @@ loop-i-init c = (search rules, refl)
 
 pub slice_bounds-set_bit-end : goal.slice_bounds-set_bit-end
 slice_bounds-set_bit-end c = sym c.loop-i.invariant.0
-
-pub overflow_cast-s : goal.overflow_cast-s
-overflow_cast-s c = omega (arith, c.shared_slice_known-in-loop-i-1.given c.loop-i.i)
 
 pub loop-i-preserved : goal.loop-i-preserved
 loop-i-preserved c =

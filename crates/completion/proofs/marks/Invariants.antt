@@ -1,12 +1,8 @@
 -- Assumes nothing.
-use mathlib.Core.Path.{◌≡◌, refl, sym, ap, ◌∙◌}
-use Prim.Native.Nat.{◌+◌, ◌-◌}
-use native.Mathlib.Omega.{arith}
-use lib.ListN.{length, drop, get_or, replicate}
-use Rattle.bits.proofs.Bits.{length-set_bit}
+use mathlib.Core.Path.{◌≡◌}
+use Prim.Native.Nat.{◌-◌}
+use lib.ListN.{length, drop, replicate}
 use Rattle.completion.specs.Marks.{marked}
-use Rattle.completion.proofs.Marking.{marked_next, marked_end}
-use borrow.Author.Rules.{rules}
 use Rattle.completion.proofs.marks.Given as goal
 
 abbrev pub invariant-loop-i : goal.invariant-loop-i

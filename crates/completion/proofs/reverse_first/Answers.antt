@@ -5,7 +5,6 @@ use Prim.Native.Nat.{ℕ}
 use native.Mathlib.Omega.{arith}
 use lib.ListN.{drop}
 use lib.Seq.{length-take-le, length_front}
-use borrow.Author.Rules.{rules}
 use Rattle.completion.proofs.reverse_first.Goals as goal
 
 pub slice_bounds-reverse_each-end-2 : goal.slice_bounds-reverse_each-end-2

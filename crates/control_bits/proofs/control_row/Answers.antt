@@ -3,7 +3,6 @@ use mathlib.Core.Path.{sym, subst}
 use Prim.Native.Nat.{ℕ, ◌-◌, ◌^◌}
 use native.Mathlib.Omega.{arith}
 use lib.ListN.{take}
-use borrow.Author.Rules.{rules}
 use lib.Seq.{length-take-le}
 use Rattle.network.specs.Network.{val, seek}
 use Rattle.network.specs.Tables.{Each}
@@ -20,11 +19,16 @@ pub control-requires : goal.control-requires
 control-requires c =
     let m = c.args.m in
     let e = shifted m c.requires.le_m.1 in
-    let f = few m c.requires.le_m.1 in record { level = record {
+    let f = few m c.requires.le_m.1 in record {
+      level = record {
         each = subst (λ (n : ℕ). Each (2 ^ m) (take n c.args.values.now)) (sym e) c.requires.m_in_bounds.1;
         some = omega arith;
         small = omega arith;
-      }; work = record { inv_fits = f; p_fits = f; c_fits = f; p2_fits = f; c2_fits = omega (arith, f) }; fits = fits_row m c.requires.le_m.0 c.args.row.now c.requires.row_len; step_nonzero = (omega arith, row_small m c.requires.le_m.0 c.args.row.now c.requires.row_len c.requires.le_m.1) }
+      };
+      work = record { inv_fits = f; p_fits = f; c_fits = f; p2_fits = f; c2_fits = omega (arith, f) };
+      fits = fits_row m c.requires.le_m.0 c.args.row.now c.requires.row_len;
+      step_nonzero = (omega arith, row_small m c.requires.le_m.0 c.args.row.now c.requires.row_len c.requires.le_m.1);
+    }
 
 pub returns : goal.returns
 returns c =

@@ -1,12 +1,9 @@
 -- The loop's invariant: the first x entries of both tables are written. Assumes nothing.
-use mathlib.Core.Path.{◌≡◌, refl, ap, ◌∙◌}
+use mathlib.Core.Path.{◌≡◌}
 use Prim.Native.Nat.{◌-◌, ◌≤◌}
-use native.Mathlib.Omega.{arith}
-use lib.ListN.{length, length-set}
-use borrow.Author.Rules.{rules}
+use lib.ListN.{length}
 use Rattle.network.specs.Network.{turn}
 use Rattle.network.specs.Tables.{Tab, at}
-use Rattle.control_passes.proofs.Tabs.{tab_set}
 use Rattle.control_passes.proofs.begin.Given as goal
 
 abbrev pub invariant-loop-x : goal.invariant-loop-x

@@ -1,10 +1,7 @@
 -- The loop's invariant: the first x numbers are copied. Assumes nothing.
-use mathlib.Core.Path.{◌≡◌, refl}
-use Prim.Native.Nat.{◌-◌, ◌≤◌}
+use mathlib.Core.Path.{refl}
 use native.Mathlib.Omega.{arith}
-use lib.ListN.{length, length-set}
-use borrow.Author.Rules.{rules}
-use Rattle.network.specs.Tables.{Tab, at}
+use lib.ListN.{length-set}
 use Rattle.control_passes.proofs.Tabs.{tab_set}
 use Rattle.control_passes.proofs.copy.Goals as goal
 

@@ -1,11 +1,8 @@
 -- The loop's invariant: the first x numbers are copied. Assumes nothing.
-use mathlib.Core.Path.{◌≡◌, refl}
+use mathlib.Core.Path.{◌≡◌}
 use Prim.Native.Nat.{◌-◌, ◌≤◌}
-use native.Mathlib.Omega.{arith}
-use lib.ListN.{length, length-set}
-use borrow.Author.Rules.{rules}
+use lib.ListN.{length}
 use Rattle.network.specs.Tables.{Tab, at}
-use Rattle.control_passes.proofs.Tabs.{tab_set}
 use Rattle.control_passes.proofs.copy.Given as goal
 
 abbrev pub invariant-loop-x : goal.invariant-loop-x

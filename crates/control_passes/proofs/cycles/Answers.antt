@@ -1,6 +1,5 @@
 -- The three passes give the least members of the cycles. Assumes nothing.
 use native.Mathlib.Omega.{arith}
-use borrow.Author.Rules.{rules}
 use Rattle.control_passes.proofs.Connect.{size, each_len, size_small, size_even, inv_below, p_below, cyc_is}
 use Rattle.control_passes.proofs.cycles.Goals as goal
 

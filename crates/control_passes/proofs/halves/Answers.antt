@@ -1,11 +1,10 @@
 -- The loop's invariant: the first j entries of both halves are written. Assumes nothing.
-use mathlib.Core.Path.{◌≡◌, refl, ap, ◌∙◌}
-use Prim.Native.Nat.{ℕ, ◌+◌, ◌-◌, ◌*◌, ◌/◌, ◌%◌, ◌≤◌, ◌<◌}
+use mathlib.Core.Path.{refl, ap, ◌∙◌}
+use Prim.Native.Nat.{◌+◌, ◌*◌, ◌/◌, ◌%◌, ◌<◌}
 use native.Mathlib.Omega.{arith}
 use lib.ListN.{length, length-set}
-use borrow.Author.Rules.{rules}
 use Rattle.network.specs.Network.{turn}
-use Rattle.network.specs.Tables.{Tab, at}
+use Rattle.network.specs.Tables.{at}
 use Rattle.control_passes.proofs.Tabs.{halves-low, halves_high}
 use Rattle.control_passes.proofs.halves.Goals as goal
 

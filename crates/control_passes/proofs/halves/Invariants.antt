@@ -1,12 +1,9 @@
 -- The loop's invariant: the first j entries of both halves are written. Assumes nothing.
-use mathlib.Core.Path.{◌≡◌, refl, ap, ◌∙◌}
+use mathlib.Core.Path.{◌≡◌}
 use Prim.Native.Nat.{ℕ, ◌+◌, ◌-◌, ◌*◌, ◌/◌, ◌%◌, ◌≤◌, ◌<◌}
-use native.Mathlib.Omega.{arith}
-use lib.ListN.{length, length-set}
-use borrow.Author.Rules.{rules}
+use lib.ListN.{length}
 use Rattle.network.specs.Network.{turn}
 use Rattle.network.specs.Tables.{Tab, at}
-use Rattle.control_passes.proofs.Tabs.{halves-low, halves_high}
 use Rattle.control_passes.proofs.halves.Given as goal
 
 abbrev pub invariant-loop-j : goal.invariant-loop-j

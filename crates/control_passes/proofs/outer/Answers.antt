@@ -1,8 +1,6 @@
 -- The passes one after another, by the laws of `Outside`. Assumes nothing.
 use Prim.Native.Nat.{◌-◌, ◌*◌}
 use native.Mathlib.Omega.{arith}
-use borrow.Author.Rules.{rules}
-use Rattle.network.specs.Network.{last}
 use Rattle.control_passes.proofs.Connect.{size, size_small}
 use Rattle.control_passes.proofs.Outside.{two, room, at_low, first_layer, last_layer, halved}
 use Rattle.control_passes.proofs.outer.Goals as goal
@@ -43,8 +41,11 @@ pub returns : goal.returns
 returns c =
     let k = c.args.k in let pi = c.args.pi.now in let lv = c.requires.level in
     let m = c.cycles.new.c in let tm = c.cycles.ensures in
-    let q = c.settle.new.pi in let tq = c.settle.ensures in record { outer = record {
+    let q = c.settle.new.pi in let tq = c.settle.ensures in record {
+      outer = record {
         between = c.put.new.b;
         first_layer = first_layer k pi lv m tm c.args.off c.args.step _ _ c.put.ensures;
         last_layer = last_layer k pi lv m tm q tq c.args.off c.args.step (2 * (k - 1)) _ _ c.put-2.ensures;
-      }; halved = halved k pi lv m tm q tq c.halves.new.out c.copy.new.dst c.halves.ensures.tab c.halves.ensures.by_index c.copy.ensures }
+      };
+      halved = halved k pi lv m tm q tq c.halves.new.out c.copy.new.dst c.halves.ensures.tab c.halves.ensures.by_index c.copy.ensures;
+    }

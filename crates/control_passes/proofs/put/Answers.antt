@@ -1,11 +1,10 @@
 -- The loop's invariant: the first j bits of the layer are set, and no others. Assumes nothing.
 use mathlib.Core.Path.{◌≡◌, refl, sym, ap, ◌∙◌, subst}
-use Prim.Native.Nat.{ℕ, ◌-◌, ◌*◌, ◌%◌, ◌≤◌, ◌<◌}
+use Prim.Native.Nat.{ℕ, ◌*◌, ◌%◌}
 use native.Mathlib.Omega.{arith}
 use mathlib.Core.List.{List}
 use lib.ListN.{length}
 use borrow.Author.Rules.{rules}
-use mathlib.Core.Logic.{◌≢◌}
 use native.Mathlib.Decide.{ℕ_discrete}
 use Rattle.bits.specs.Bits.{Bytes, bit_at}
 use Rattle.bits.proofs.Bits.{length-set_bit, set_bit-same, set_bit_other, bytes_set_bit}
@@ -18,7 +17,7 @@ mod_two : (x : ℕ) → x % 2 % 2 ≡ x % 2
 mod_two x = omega arith
 
 pub loop-j-init : goal.loop-j-init
-loop-j-init c = (omega arith, refl, (λ i h. absurd (omega arith)), (λ k d. refl), λ k. (c.slice_known-1.given k).fits)
+loop-j-init c = (omega arith, refl, (λ i h. absurd (omega arith)), (λ k d. refl), λ k. search rules)
 
 pub overflow_mul-i : goal.overflow_mul-i
 overflow_mul-i c =

@@ -1,17 +1,11 @@
 -- The loop's invariant: the first j bits of the layer are set, and no others. Assumes nothing.
-use mathlib.Core.Path.{◌≡◌, refl, sym, ap, ◌∙◌, subst}
+use mathlib.Core.Path.{◌≡◌}
 use Prim.Native.Nat.{ℕ, ◌-◌, ◌*◌, ◌%◌, ◌≤◌, ◌<◌}
-use native.Mathlib.Omega.{arith}
-use mathlib.Core.List.{List}
 use lib.ListN.{length}
-use borrow.Author.Rules.{rules}
 use mathlib.Core.Logic.{◌≢◌}
-use native.Mathlib.Decide.{ℕ_discrete}
 use Rattle.bits.specs.Bits.{Bytes, bit_at}
-use Rattle.bits.proofs.Bits.{length-set_bit, set_bit-same, set_bit_other, bytes_set_bit}
 use Rattle.network.specs.Tables.{at}
 use Rattle.control_passes.specs.Passes.{spot}
-use Rattle.control_passes.proofs.Combine.{spot_other, spot_top}
 use Rattle.control_passes.proofs.put.Given as goal
 
 abbrev pub invariant-loop-j : goal.invariant-loop-j

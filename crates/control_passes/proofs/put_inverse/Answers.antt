@@ -1,10 +1,7 @@
 -- The loop's invariant: the first i numbers are inverted. Assumes nothing.
-use mathlib.Core.Path.{◌≡◌, refl}
-use Prim.Native.Nat.{ℕ, ◌-◌, ◌≤◌, ◌<◌}
+use mathlib.Core.Path.{refl}
 use native.Mathlib.Omega.{arith}
-use lib.ListN.{length, length-set}
-use borrow.Author.Rules.{rules}
-use Rattle.network.specs.Tables.{at}
+use lib.ListN.{length-set}
 use Rattle.control_passes.proofs.Tabs.{at_below, invert_step, inverted}
 use Rattle.control_passes.proofs.put_inverse.Goals as goal
 
@@ -19,8 +16,7 @@ bounds-inv-v c = let b = at_below c.requires.each c.loop-i.i (omega arith) in om
 
 pub loop-i-preserved : goal.loop-i-preserved
 loop-i-preserved c =
-    let l = c.loop-i in
-    (
+    let l = c.loop-i in (
       omega arith,
       simp length-set (omega arith),
       invert_step c.args.pi.now l.inv l.i c.wide-v.result c.requires.each (omega arith) (omega arith) c.wide-v.ensures l.invariant.2,

@@ -1,11 +1,8 @@
 -- The loop's invariant: the first i numbers are inverted. Assumes nothing.
-use mathlib.Core.Path.{◌≡◌, refl}
+use mathlib.Core.Path.{◌≡◌}
 use Prim.Native.Nat.{ℕ, ◌-◌, ◌≤◌, ◌<◌}
-use native.Mathlib.Omega.{arith}
-use lib.ListN.{length, length-set}
-use borrow.Author.Rules.{rules}
+use lib.ListN.{length}
 use Rattle.network.specs.Tables.{at}
-use Rattle.control_passes.proofs.Tabs.{at_below, invert_step, inverted}
 use Rattle.control_passes.proofs.put_inverse.Given as goal
 
 abbrev pub invariant-loop-i : goal.invariant-loop-i

@@ -1,13 +1,9 @@
 -- The loop's invariant: p is the 2^i-th iterate, and c the least of the first 2^i. Assumes nothing.
-use mathlib.Core.Path.{◌≡◌, refl, sym, ap, ◌∙◌}
+use mathlib.Core.Path.{◌≡◌}
 use Prim.Native.Nat.{◌-◌, ◌^◌, ◌≤◌}
-use native.Mathlib.Omega.{arith}
 use lib.ListN.{length}
-use borrow.Author.Rules.{rules}
 use Rattle.network.specs.Network.{it, low}
 use Rattle.network.specs.Tables.{Tab, at}
-use Rattle.control_passes.proofs.Tabs.{it_below, round_it, round_low}
-use Rattle.control_passes.proofs.Doubling.{it_one, low_one}
 use Rattle.control_passes.proofs.rounds.Given as goal
 
 abbrev pub invariant-loop-i : goal.invariant-loop-i

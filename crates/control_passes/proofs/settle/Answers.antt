@@ -1,12 +1,11 @@
 -- The loop's invariant: the first x numbers are settled, the others as they were. Assumes nothing.
-use mathlib.Core.Path.{◌≡◌, refl, ap, ap₂, ◌∙◌}
-use Prim.Native.Nat.{ℕ, ◌-◌, ◌*◌, ◌/◌, ◌%◌, ◌≤◌}
+use mathlib.Core.Path.{refl, ap, ap₂, ◌∙◌}
+use Prim.Native.Nat.{◌*◌, ◌/◌, ◌%◌}
 use native.Mathlib.Omega.{arith}
-use lib.ListN.{length, length-set}
+use lib.ListN.{length-set}
 use lib.Seq.{get_or-set_other}
-use borrow.Author.Rules.{rules}
 use Rattle.network.specs.Network.{turn, pairs}
-use Rattle.network.specs.Tables.{Tab, at}
+use Rattle.network.specs.Tables.{at}
 use Rattle.control_passes.proofs.Tabs.{tab_set}
 use Rattle.control_passes.proofs.settle.Goals as goal
 
@@ -36,7 +35,7 @@ overflow_cast-pi c =
 pub loop-x-preserved : goal.loop-x-preserved
 unfolding pairs
 loop-x-preserved c =
-    let l = c.loop-x in 
+    let l = c.loop-x in
     let e = c.wide-y.ensures ∙ l.invariant.3 l.x (omega arith) in (
       omega arith,
       simp length-set (omega arith),

@@ -1,13 +1,9 @@
 -- The loop's invariant: the first x numbers are settled, the others as they were. Assumes nothing.
-use mathlib.Core.Path.{◌≡◌, refl, ap, ap₂, ◌∙◌}
-use Prim.Native.Nat.{ℕ, ◌-◌, ◌*◌, ◌/◌, ◌%◌, ◌≤◌}
-use native.Mathlib.Omega.{arith}
-use lib.ListN.{length, length-set}
-use lib.Seq.{get_or-set_other}
-use borrow.Author.Rules.{rules}
-use Rattle.network.specs.Network.{turn, pairs}
+use mathlib.Core.Path.{◌≡◌}
+use Prim.Native.Nat.{ℕ, ◌-◌, ◌*◌, ◌%◌, ◌≤◌}
+use lib.ListN.{length}
+use Rattle.network.specs.Network.{pairs}
 use Rattle.network.specs.Tables.{Tab, at}
-use Rattle.control_passes.proofs.Tabs.{tab_set}
 use Rattle.control_passes.proofs.settle.Given as goal
 
 abbrev pub invariant-loop-x : goal.invariant-loop-x

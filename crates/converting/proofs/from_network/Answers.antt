@@ -1,7 +1,6 @@
 -- The key is read, then there is room or not. Assumes nothing.
 use mathlib.Core.Path.{sym, ap, ◌∙◌}
 use lib.Seq.{sets}
-use borrow.Author.Rules.{rules}
 use Rattle.key.specs.Answers.{answer_number}
 use Rattle.network_key.specs.Converting.{out_of_network, way_conditions}
 use Rattle.network_file.proofs.Files.{shape_accepted, shape_refused, shape_says, says_fit}

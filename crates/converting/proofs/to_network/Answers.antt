@@ -1,7 +1,6 @@
 -- The file is checked, then there is room or not. Assumes nothing.
 use mathlib.Core.Path.{sym, ap, ◌∙◌}
 use native.Mathlib.Omega.{arith}
-use borrow.Author.Rules.{rules}
 use Rattle.key.specs.Answers.{answer_number}
 use Rattle.key_file.proofs.Files.{shape_refused}
 use Rattle.network_key.specs.Converting.{into_network, converted, way_conditions}

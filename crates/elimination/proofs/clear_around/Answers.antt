@@ -3,7 +3,6 @@ use mathlib.Core.Path.{◌≡◌, ap, ◌∙◌}
 use mathlib.Core.List.{List, ◌++◌, map}
 use Prim.Native.Nat.{ℕ, ◌+◌, ◌-◌, ◌*◌}
 use native.Mathlib.Omega.{arith}
-use borrow.Author.Rules.{rules}
 use borrow.Rule.Slice.PartMut.{put_mid}
 use lib.ListN.{length, take, drop, length-drop}
 use Rattle.bits.specs.Bits.{bytes_for, unpack}
@@ -34,7 +33,10 @@ slice_bounds-clear_rows-count c =
     omega (arith, rows_in a.i a.rows (bytes_for a.n) (omega arith), next_row a.i (bytes_for a.n))
 
 pub slice_bounds-clear_rows-start : goal.slice_bounds-clear_rows-start
-slice_bounds-clear_rows-start c = let e = sub-clear-rows c in search rules
+slice_bounds-clear_rows-start c =
+    let a = c.args in
+    let e : (a.i + 1) * c.bytes_for.result ≡ (a.i + 1) * bytes_for a.n = ap (◌*◌ (a.i + 1)) c.bytes_for.ensures in
+    omega (arith, rows_in a.i a.rows (bytes_for a.n) (omega arith), next_row a.i (bytes_for a.n))
 
 pub clear_rows-requires-2 : goal.clear_rows-requires-2
 clear_rows-requires-2 c =
@@ -59,6 +61,8 @@ returns c =
     let part : take (length w - at) (drop at w) ≡ drop ((a.i + 1) * b) w = part_all at w ∙ ap (λ (k : ℕ). drop k w) e in
     let same : length w ≡ length a.w.now = first.auto.w in
     let behind = second.ensures.w_after ∙ ap (λ (l : List ℕ). map (clear a.i (unpack a.n a.t.now)) (rows_of (a.rows - (a.i + 1)) a.n l)) part in
-    let past = second.ensures.w_unchanged ∙ ap (drop ((a.rows - (a.i + 1)) * b)) part in record { w_after = ap (stage (a.i + 1) a.rows a.n) whole
-          ∙ around-stage a.i a.rows a.n a.t.now a.w.now w z (omega arith) (omega arith) same c.requires.3 first.ensures.w_after first.ensures.w_unchanged behind past; w_unchanged = ap (drop (a.rows * b)) whole
-          ∙ around_past a.i a.rows a.n a.t.now a.w.now w z (omega arith) (omega arith) same c.requires.3 first.ensures.w_after first.ensures.w_unchanged behind past }
+    let past = second.ensures.w_unchanged ∙ ap (drop ((a.rows - (a.i + 1)) * b)) part in
+    record {
+      w_after = ap (stage (a.i + 1) a.rows a.n) whole ∙ around-stage a.i a.rows a.n a.t.now a.w.now w z (omega arith) (omega arith) same c.requires.3 first.ensures.w_after first.ensures.w_unchanged behind past;
+      w_unchanged = ap (drop (a.rows * b)) whole ∙ around_past a.i a.rows a.n a.t.now a.w.now w z (omega arith) (omega arith) same c.requires.3 first.ensures.w_after first.ensures.w_unchanged behind past;
+    }

@@ -2,7 +2,6 @@
 use mathlib.Core.Path.{◌≡◌, sym, ap, ◌∙◌}
 use Prim.Native.Nat.{ℕ, ◌*◌}
 use native.Mathlib.Omega.{arith}
-use borrow.Author.Rules.{rules}
 use lib.ListN.{length, take, drop, replicate, length-drop}
 use lib.Seq.{length-take-le}
 use Rattle.bits.specs.Bits.{bytes_for}
@@ -21,7 +20,9 @@ slice_bounds-copy-count c =
     omega (arith, row_room a.i a.rows a.n c.bytes_for-b.result (length a.w.now) c.bytes_for-b.ensures (omega arith) (omega arith))
 
 pub slice_bounds-copy-start : goal.slice_bounds-copy-start
-slice_bounds-copy-start c = let e = sub-copy c.before in search rules
+slice_bounds-copy-start c =
+    let a = c.args in
+    omega (arith, row_room a.i a.rows a.n c.bytes_for-b.result (length a.w.now) c.bytes_for-b.ensures (omega arith) (omega arith))
 
 pub copy-requires : goal.copy-requires
 copy-requires c =
@@ -39,7 +40,10 @@ slice_bounds-t-end c =
     omega (arith, row_size a.n (omega arith))
 
 pub slice_bounds-clear_around-end : goal.slice_bounds-clear_around-end
-slice_bounds-clear_around-end c = sym (length-take-le c.bytes_for-b.result c.copy.new.dst (slice_bounds-t-end c.before))
+slice_bounds-clear_around-end c =
+    let a = c.args in
+    let e : length c.copy.new.dst ≡ 1024 = c.copy.auto.dst in
+    sym (length-take-le c.bytes_for-b.result c.copy.new.dst (omega (arith, row_size a.n (omega arith))))
 
 pub clear_around-requires : goal.clear_around-requires
 clear_around-requires c =
@@ -55,4 +59,4 @@ clear_around-requires c =
 pub returns : goal.returns
 returns c =
     let both = c.clear_around.ensures in
-    record { w_after = both.0; w_unchanged = both.1 }
+    record { w_after = both.w_after; w_unchanged = both.w_unchanged }

@@ -1,7 +1,6 @@
 -- Two cases: the row has a zero in the column, or t is added. Assumes nothing.
 use mathlib.Core.Path.{◌∙◌}
 use native.Mathlib.Omega.{arith}
-use borrow.Author.Rules.{rules}
 use Rattle.bits.proofs.Bits.{bit_lt}
 use Rattle.elimination.proofs.Clearing.{clear_none, clear_one}
 use Rattle.elimination.proofs.clear_row.Goals as goal

@@ -58,4 +58,8 @@ returns c =
     let l = c.loop-r in
     let a = c.args in
     let e : l.r ≡ a.rows = omega arith in
-    let f : l.at ≡ a.rows * bytes_for a.n = l.invariant.1 ∙ ap (λ (k : ℕ). k * bytes_for a.n) e in record { w_after = subst (λ (k : ℕ). rows_of k a.n l.w ≡ map (clear a.j (unpack a.n a.t.now)) (rows_of k a.n a.w.now)) e l.invariant.4; w_unchanged = subst (λ (k : ℕ). drop k l.w ≡ drop k a.w.now) f l.invariant.5 }
+    let f : l.at ≡ a.rows * bytes_for a.n = l.invariant.1 ∙ ap (λ (k : ℕ). k * bytes_for a.n) e in
+    record {
+      w_after = subst (λ (k : ℕ). rows_of k a.n l.w ≡ map (clear a.j (unpack a.n a.t.now)) (rows_of k a.n a.w.now)) e l.invariant.4;
+      w_unchanged = subst (λ (k : ℕ). drop k l.w ≡ drop k a.w.now) f l.invariant.5;
+    }

@@ -1,18 +1,11 @@
 -- The loop's invariant: the first r rows are cleared, and what follows is as it was. Assumes nothing.
-use mathlib.Core.Path.{◌≡◌, refl, sym, ap, ◌∙◌, subst}
-use mathlib.Core.List.{List, ◌++◌, map}
-use Prim.Native.Nat.{ℕ, ◌+◌, ◌-◌, ◌*◌, ◌≤◌}
-use native.Mathlib.Nat.{zero-mul}
-use native.Mathlib.Omega.{arith}
-use borrow.Author.Rules.{rules}
-use borrow.Rule.Slice.PartMut.{put_mid, same_len_mid}
-use lib.ListN.{length, take, drop}
-use Rattle.bits.specs.Bits.{from, bytes_for, unpack}
-use Rattle.bits.proofs.Parts.{rows_in, next_row, part_all, part_back}
+use mathlib.Core.Path.{◌≡◌}
+use mathlib.Core.List.{map}
+use Prim.Native.Nat.{◌-◌, ◌*◌, ◌≤◌}
+use lib.ListN.{length, drop}
+use Rattle.bits.specs.Bits.{bytes_for, unpack}
 use Rattle.code.specs.PublicKey.{clear}
 use Rattle.code.specs.Lock.{rows_of}
-use Rattle.elimination.specs.Elimination.{clear_front}
-use Rattle.elimination.proofs.Clearing.{clear_next, clear_rest}
 use Rattle.elimination.proofs.clear_rows.Given as goal
 
 abbrev pub invariant-loop-r : goal.invariant-loop-r

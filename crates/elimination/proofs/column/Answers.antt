@@ -4,8 +4,6 @@ use mathlib.Core.Bool.{Bool, true, false}
 use mathlib.Core.List.{List}
 use Prim.Native.Nat.{ℕ, ◌-◌, ◌*◌}
 use native.Mathlib.Omega.{arith}
-use borrow.Author.Rules.{rules}
-use borrow.Author.Tests.{not-true, not-false}
 use lib.ListN.{length, take, drop, length-drop}
 use Rattle.bits.specs.Bits.{bytes_for}
 use Rattle.bits.proofs.Parts.{part_all}
@@ -25,7 +23,9 @@ slice_bounds-lift-count c =
     omega (arith, row_room a.i a.rows a.n c.bytes_for.result (length a.w.now) c.bytes_for.ensures (omega arith) (omega arith))
 
 pub slice_bounds-lift-start : goal.slice_bounds-lift-start
-slice_bounds-lift-start c = let e = sub-lift c in search rules
+slice_bounds-lift-start c =
+    let a = c.args in
+    omega (arith, row_room a.i a.rows a.n c.bytes_for.result (length a.w.now) c.bytes_for.ensures (omega arith) (omega arith))
 
 pub lift-requires : goal.lift-requires
 lift-requires c =
@@ -42,8 +42,11 @@ returns-then-not-lift c =
     let b = c.bytes_for in
     let called = c.lift in
     let y : List ℕ = called.new.w in
-    let none : called.result ≡ false = c.if-not-lift.true in record { w_after = lift_missing a.i a.rows a.n b.result a.w.now y b.ensures c.requires.0 c.requires.1 (called.ensures.w_unchanged none)
-          (called.ensures.w_value ∙ ap (λ (r : Bool). first_row r (a.rows - a.i) a.n y) none); w_unchanged = lift_past a.i a.rows a.n b.result a.w.now y b.ensures c.requires.0 c.requires.1 called.ensures.w_unchanged_2 }
+    let none : called.result ≡ false = c.if-not-lift.true in
+    record {
+      w_after = lift_missing a.i a.rows a.n b.result a.w.now y b.ensures c.requires.0 c.requires.1 (called.ensures.w_unchanged none) (called.ensures.w_value ∙ ap (λ (r : Bool). first_row r (a.rows - a.i) a.n y) none);
+      w_unchanged = lift_past a.i a.rows a.n b.result a.w.now y b.ensures c.requires.0 c.requires.1 called.ensures.w_unchanged_2;
+    }
 
 pub returns : goal.returns
 returns c =
@@ -52,6 +55,8 @@ returns c =
     let called = c.lift in
     let others = c.clear_others in
     let y : List ℕ = called.new.w in
-    let some : called.result ≡ true = c.if-not-lift.false in record { w_after = lift_pivot a.i a.rows a.n b.result a.w.now y b.ensures c.requires.0 c.requires.1 others.new.w
-          (called.ensures.w_value ∙ ap (λ (r : Bool). first_row r (a.rows - a.i) a.n y) some) others.ensures.w_after; w_unchanged = others.ensures.w_unchanged
-          ∙ lift_past a.i a.rows a.n b.result a.w.now y b.ensures c.requires.0 c.requires.1 called.ensures.w_unchanged_2 }
+    let some : called.result ≡ true = c.if-not-lift.false in
+    record {
+      w_after = lift_pivot a.i a.rows a.n b.result a.w.now y b.ensures c.requires.0 c.requires.1 others.new.w (called.ensures.w_value ∙ ap (λ (r : Bool). first_row r (a.rows - a.i) a.n y) some) others.ensures.w_after;
+      w_unchanged = others.ensures.w_unchanged ∙ lift_past a.i a.rows a.n b.result a.w.now y b.ensures c.requires.0 c.requires.1 called.ensures.w_unchanged_2;
+    }

@@ -1,9 +1,9 @@
 -- The loop's invariant: the first i bytes are copied, the others as they were. Assumes nothing.
 use mathlib.Core.Path.{◌≡◌, refl, ap, ◌∙◌}
 use mathlib.Core.List.{List, ◌++◌}
-use Prim.Native.Nat.{ℕ, ◌-◌, ◌≤◌}
+use Prim.Native.Nat.{ℕ}
 use native.Mathlib.Omega.{arith}
-use lib.ListN.{length, get_or, take, drop, set, length-set}
+use lib.ListN.{get_or, take, drop, set, length-set}
 use Rattle.elimination.proofs.Flat.{copied_next}
 use Rattle.elimination.proofs.copy.Goals as goal
 

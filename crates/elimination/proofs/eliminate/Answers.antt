@@ -4,7 +4,6 @@ use mathlib.Core.Bool.{true, false, false≢true}
 use mathlib.Core.List.{List}
 use Prim.Native.Nat.{ℕ, ◌*◌}
 use native.Mathlib.Omega.{arith}
-use borrow.Author.Rules.{rules}
 use lib.ListN.{drop}
 use Rattle.bits.specs.Bits.{bytes_for}
 use Rattle.code.specs.PublicKey.{echelon}
@@ -55,4 +54,10 @@ returns c =
     let w : List ℕ = a.work.now in
     let r = c.reduce in
     let e : a.rows * c.bytes_for.result ≡ a.rows * bytes_for a.n = ap (◌*◌ a.rows) c.bytes_for.ensures in
-    let good : fits a.rows a.n w ≡ true = sizes_fit a.rows a.n w (omega arith) (omega arith) (omega arith) in record { value = r.ensures.value ∙ eliminated a.rows a.n w good; work_after = r.ensures.w_after; work_unchanged = r.ensures.w_unchanged; work_unchanged_2 = (λ f. absurd (false≢true (sym f ∙ good))) }
+    let good : fits a.rows a.n w ≡ true = sizes_fit a.rows a.n w (omega arith) (omega arith) (omega arith) in
+    record {
+      value = r.ensures.value ∙ eliminated a.rows a.n w good;
+      work_after = r.ensures.w_after;
+      work_unchanged = r.ensures.w_unchanged;
+      work_unchanged_2 = (λ f. absurd (false≢true (sym f ∙ good)));
+    }

@@ -1,17 +1,10 @@
 -- The loop's invariant: r rows are passed, and the pivot's number among the others is to be added. Assumes nothing.
-use mathlib.Core.Path.{◌≡◌, sym, ap, ◌∙◌}
-use mathlib.Core.List.{List}
-use Prim.Native.Nat.{ℕ, suc, ◌+◌, ◌-◌, ◌*◌, ◌≤◌}
-use native.Mathlib.Nat.{zero-mul, zero-add, add-zero, sub-zero}
-use native.Mathlib.Omega.{arith}
-use borrow.Author.Rules.{rules}
+use mathlib.Core.Path.{◌≡◌}
+use Prim.Native.Nat.{◌+◌, ◌-◌, ◌*◌, ◌≤◌}
 use lib.ListN.{length, drop}
-use lib.Seq.{drop-drop}
-use Rattle.bits.specs.Bits.{from, bytes_for, bit_at}
-use Rattle.bits.proofs.Parts.{rows_in, next_row, part_all}
+use Rattle.bits.specs.Bits.{bytes_for}
 use Rattle.code.specs.Lock.{rows_of}
 use Rattle.elimination.specs.Elimination.{pivot_row}
-use Rattle.elimination.proofs.Pivots.{pivot_here, pivot_later}
 use Rattle.elimination.proofs.find_pivot.Given as goal
 
 abbrev pub invariant-loop-r : goal.invariant-loop-r

@@ -3,7 +3,6 @@ use mathlib.Core.Path.{◌≡◌, refl, sym, ap, ◌∙◌}
 use mathlib.Core.Bool.{true, false≢true}
 use Prim.Native.Nat.{ℕ, ◌*◌, ◌<◌}
 use native.Mathlib.Omega.{arith}
-use borrow.Author.Rules.{rules}
 use lib.ListN.{length, drop}
 use Rattle.bits.specs.Bits.{bytes_for}
 use Rattle.bits.proofs.Parts.{rows_in, row_size}
@@ -42,4 +41,9 @@ returns c =
     let less : p < a.rows = omega (arith, pivot_le a.rows a.n a.j a.w.now) in
     let e : c.to_front.new.w ≡ to_front (p * b) b a.w.now =
     c.to_front.ensures ∙ ap (λ (k : ℕ). to_front (p * k) k a.w.now) c.bytes_for-b.ensures in
-    let f = rows_in p a.rows b less in record { w_value = lift_some a.rows a.n a.j a.w.now p c.find_pivot-p.ensures less (omega arith) ∙ ap (first_row true a.rows a.n) (sym e); w_unchanged = (λ g. absurd (false≢true (sym g))); w_unchanged_2 = ap (drop (a.rows * b)) e ∙ front_rest (p * b) b (a.rows * b) a.w.now (omega arith) (omega arith) }
+    let f = rows_in p a.rows b less in
+    record {
+      w_value = lift_some a.rows a.n a.j a.w.now p c.find_pivot-p.ensures less (omega arith) ∙ ap (first_row true a.rows a.n) (sym e);
+      w_unchanged = (λ g. absurd (false≢true (sym g)));
+      w_unchanged_2 = ap (drop (a.rows * b)) e ∙ front_rest (p * b) b (a.rows * b) a.w.now (omega arith) (omega arith);
+    }

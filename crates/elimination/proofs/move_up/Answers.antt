@@ -1,8 +1,8 @@
 -- The loop's invariant: what is left, the first i bytes moved up, gives the whole. Assumes nothing.
 use mathlib.Core.Path.{◌≡◌, refl, sym, ap, ◌∙◌}
-use Prim.Native.Nat.{ℕ, ◌+◌, ◌-◌, ◌≤◌}
+use Prim.Native.Nat.{ℕ, ◌+◌, ◌-◌}
 use native.Mathlib.Omega.{arith}
-use lib.ListN.{length, get_or, length-set}
+use lib.ListN.{get_or, length-set}
 use Rattle.elimination.specs.Elimination.{moved_up}
 use Rattle.elimination.proofs.Flat.{moved-next, moved_none}
 use Rattle.elimination.proofs.move_up.Goals as goal

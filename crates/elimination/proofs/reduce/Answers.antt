@@ -1,12 +1,8 @@
 -- The loop's invariant: from column i on, the workspace's rows have the echelon form of all. Assumes nothing.
 use mathlib.Core.Path.{◌≡◌, refl, sym, ap, ◌∙◌, subst}
 use mathlib.Core.Bool.{Bool, true, false, false≢true}
-use Prim.Native.Nat.{ℕ, ◌+◌, ◌-◌, ◌*◌, ◌≤◌}
+use Prim.Native.Nat.{ℕ, ◌+◌, ◌-◌}
 use native.Mathlib.Omega.{arith}
-use borrow.Author.Rules.{rules}
-use borrow.Author.Tests.{not-true, not-false}
-use lib.ListN.{length, drop}
-use Rattle.bits.specs.Bits.{bytes_for}
 use Rattle.code.specs.PublicKey.{Echelon, columns, echelon}
 use Rattle.code.specs.Lock.{rows_of}
 use Rattle.elimination.specs.Elimination.{stage, stepped, next}

@@ -2,7 +2,6 @@
 use mathlib.Core.Path.{ap, ap₂, ◌∙◌}
 use mathlib.Core.List.{List, ◌++◌}
 use Prim.Native.Nat.{ℕ}
-use borrow.Author.Rules.{rules}
 use lib.ListN.{take, drop, replicate}
 use Rattle.bits.proofs.Parts.{part_all}
 use Rattle.elimination.proofs.Flat.{front_put}

@@ -84,4 +84,8 @@ returns c =
     let l = c.loop-r in
     let a = c.args in
     let b : ℕ = bytes_for a.rows in
-    let e : l.r ≡ a.rows = omega arith in record { rows = subst (λ (k : ℕ). rows_of k (pair_bits a.rows) l.w ≡ beside_rows a.rows k a.w.now) e l.invariant.3; rest = subst (λ (k : ℕ). drop (k * (b + b)) l.w ≡ drop (k * (b + b)) a.w.now) e l.invariant.4 }
+    let e : l.r ≡ a.rows = omega arith in
+    record {
+      rows = subst (λ (k : ℕ). rows_of k (pair_bits a.rows) l.w ≡ beside_rows a.rows k a.w.now) e l.invariant.3;
+      rest = subst (λ (k : ℕ). drop (k * (b + b)) l.w ≡ drop (k * (b + b)) a.w.now) e l.invariant.4;
+    }

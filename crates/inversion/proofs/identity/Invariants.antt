@@ -1,17 +1,10 @@
 -- The loop's invariant: the first r rows are done, and what follows is as it was. Assumes nothing.
-use mathlib.Core.Path.{◌≡◌, refl, ap, ◌∙◌, subst}
-use mathlib.Core.List.{List, ◌++◌}
-use Prim.Native.Nat.{ℕ, ◌+◌, ◌-◌, ◌*◌, ◌≤◌, ◌<◌}
-use native.Mathlib.Nat.{zero-mul}
-use native.Mathlib.Omega.{arith}
-use borrow.Author.Rules.{rules}
-use borrow.Rule.Slice.PartMut.{put_mid, same_len_mid}
-use lib.ListN.{length, take, drop, length-drop}
-use Rattle.bits.specs.Bits.{from, bytes_for}
-use Rattle.bits.proofs.Parts.{rows_in, next_row, part_all, part_back}
+use mathlib.Core.Path.{◌≡◌}
+use Prim.Native.Nat.{◌+◌, ◌-◌, ◌*◌, ◌≤◌}
+use lib.ListN.{length, drop}
+use Rattle.bits.specs.Bits.{bytes_for}
 use Rattle.code.specs.Lock.{rows_of}
-use Rattle.inversion.specs.Inversion.{pair_bits, unit_bytes, beside_rows}
-use Rattle.inversion.proofs.Beside.{few_bytes, places_fit, beside-next, beside_rest}
+use Rattle.inversion.specs.Inversion.{pair_bits, beside_rows}
 use Rattle.inversion.proofs.identity.Given as goal
 
 abbrev pub invariant-loop-r : goal.invariant-loop-r

@@ -32,4 +32,9 @@ returns c =
     let w : List ℕ = made.new.w in
     let size : 8 * bytes.result + a.rows ≡ pair_bits a.rows = ap (λ (x : ℕ). 8 * x + a.rows) bytes.ensures in
     let few : a.rows ≤ 4088 = omega arith in
-    let within : a.rows * (bytes_for a.rows + bytes_for a.rows) ≤ length w = omega (arith, made.auto.w) in record { answer = gone.ensures.value ∙ invert_answer a.rows _ a.w.now w size few within made.ensures.rows; reduced = λ t. invert_rows a.rows _ a.w.now w size few within made.ensures.rows gone.new.work (gone.ensures.work_after t); rest = invert_rest a.rows _ a.w.now w size few within made.ensures.rows gone.new.work gone.ensures.work_unchanged ∙ made.ensures.rest }
+    let within : a.rows * (bytes_for a.rows + bytes_for a.rows) ≤ length w = omega (arith, made.auto.w) in
+    record {
+      answer = gone.ensures.value ∙ invert_answer a.rows _ a.w.now w size few within made.ensures.rows;
+      reduced = λ t. invert_rows a.rows _ a.w.now w size few within made.ensures.rows gone.new.work (gone.ensures.work_after t);
+      rest = invert_rest a.rows _ a.w.now w size few within made.ensures.rows gone.new.work gone.ensures.work_unchanged ∙ made.ensures.rest;
+    }

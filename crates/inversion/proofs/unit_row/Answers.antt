@@ -3,7 +3,6 @@ use mathlib.Core.Path.{ap, ◌∙◌}
 use mathlib.Core.List.{List}
 use Prim.Native.Nat.{ℕ}
 use native.Mathlib.Omega.{arith}
-use borrow.Author.Rules.{rules}
 use Rattle.bits.specs.Bits.{set_bit}
 use Rattle.bits.proofs.PutBits.{written_zeros}
 use Rattle.inversion.specs.Inversion.{unit_bytes}

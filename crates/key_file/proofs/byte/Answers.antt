@@ -1,6 +1,5 @@
 -- `key_file::byte` meets its contract. Assumes nothing.
 use mathlib.Core.Path.{refl, sym}
-use borrow.Author.Rules.{rules}
 use lib.ListN.{get_or-eq_default}
 use Rattle.key_file.proofs.byte.Goals as goal
 

@@ -1,9 +1,9 @@
 -- The loop's invariant: the first i numbers are read, the others as they were. Assumes nothing.
 use mathlib.Core.Path.{◌≡◌, refl, ap, ap₂, ◌∙◌}
 use mathlib.Core.List.{List, ◌++◌}
-use Prim.Native.Nat.{ℕ, ◌-◌, ◌≤◌}
+use Prim.Native.Nat.{ℕ}
 use native.Mathlib.Omega.{arith}
-use lib.ListN.{length, drop, set, length-set}
+use lib.ListN.{drop, set, length-set}
 use Rattle.key.specs.Keys.{elements}
 use Rattle.key.proofs.Filled.{filled-start, filled_next}
 use Rattle.key_file.proofs.fill.Goals as goal

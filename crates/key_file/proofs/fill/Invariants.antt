@@ -1,11 +1,9 @@
 -- The loop's invariant: the first i numbers are read, the others as they were. Assumes nothing.
-use mathlib.Core.Path.{◌≡◌, refl, ap, ap₂, ◌∙◌}
-use mathlib.Core.List.{List, ◌++◌}
-use Prim.Native.Nat.{ℕ, ◌-◌, ◌≤◌}
-use native.Mathlib.Omega.{arith}
-use lib.ListN.{length, drop, set, length-set}
+use mathlib.Core.Path.{◌≡◌}
+use mathlib.Core.List.{◌++◌}
+use Prim.Native.Nat.{◌-◌, ◌≤◌}
+use lib.ListN.{length, drop}
 use Rattle.key.specs.Keys.{elements}
-use Rattle.key.proofs.Filled.{filled-start, filled_next}
 use Rattle.key_file.proofs.fill.Given as goal
 
 abbrev pub invariant-loop-i : goal.invariant-loop-i

@@ -1,5 +1,4 @@
 -- The tests in order. Assumes nothing.
-use native.Mathlib.Omega.{arith}
 use Rattle.field.proofs.Verdicts.{refuses, accepts}
 use Rattle.field.proofs.Table.{modulus_none, modulus_some}
 use Rattle.key.proofs.Order.{failed, passed}

@@ -2,7 +2,6 @@
 use mathlib.Core.Path.{sym, ap₂}
 use Prim.Native.Nat.{ℕ, ◌+◌, ◌*◌}
 use native.Mathlib.Omega.{arith}
-use borrow.Author.Rules.{rules}
 use lib.ListN.{get_or-eq_default}
 use Rattle.key.specs.Keys.{pair}
 use Rattle.key_file.proofs.pair.Goals as goal

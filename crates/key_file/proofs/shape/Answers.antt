@@ -1,5 +1,4 @@
 -- The check of the file, then the shape that it says. Assumes nothing.
-use borrow.Author.Rules.{rules}
 use Rattle.field.proofs.Verdicts.{verdict_accepted, verdict_taken}
 use Rattle.key_file.proofs.Files.{file_refused, file_sizes}
 use Rattle.key_file.proofs.shape.Goals as goal

@@ -1,5 +1,4 @@
 -- `key_file::sizes` meets its contract. Assumes nothing.
-use native.Mathlib.Omega.{arith}
 use Rattle.key_file.proofs.Files.{sizes_said}
 use Rattle.key_file.proofs.sizes.Goals as goal
 

@@ -1,6 +1,5 @@
 -- Zeros, and the elements over them. Assumes nothing.
 use mathlib.Core.Path.{◌∙◌}
-use borrow.Author.Rules.{rules}
 use Rattle.key_file.proofs.Files.{stored_fill}
 use Rattle.key_file.proofs.write_support.Goals as goal
 

@@ -1,15 +1,12 @@
 -- Assumes nothing.
 use mathlib.Core.Path.{◌≡◌, refl, sym, ap, ◌∙◌}
-use mathlib.Core.List.{List, [], ◌∷◌, ◌++◌, flat_map}
-use Prim.Native.Nat.{ℕ, suc, ◌+◌, ◌-◌, ◌*◌, ◌≤◌, ◌<◌}
+use mathlib.Core.List.{List, flat_map}
+use Prim.Native.Nat.{ℕ, ◌+◌, ◌*◌}
 use native.Mathlib.Omega.{arith}
-use lib.ListN.{length, drop, length-set}
+use lib.ListN.{length, drop}
 use lib.Seq.{sets, length-sets}
 use Rattle.key.specs.Keys.{two_bytes}
-use Rattle.key_write.proofs.Sets.{sets_two, sets_append, sets_next, sets_end}
-use Rattle.key_write.proofs.put_elements.Reads as reads
-use Rattle.key_write.proofs.put_elements.Lts as lts
-use Rattle.key_write.proofs.put_pair.Reads as put-pair-reads
+use Rattle.key_write.proofs.Sets.{sets_next, sets_end}
 use Rattle.key_write.proofs.put_elements.Goals as goal
 
 pub loop-i-init : goal.loop-i-init

@@ -1,15 +1,10 @@
 -- Assumes nothing.
-use mathlib.Core.Path.{◌≡◌, refl, sym, ap, ◌∙◌}
-use mathlib.Core.List.{List, [], ◌∷◌, ◌++◌, flat_map}
-use Prim.Native.Nat.{ℕ, suc, ◌+◌, ◌-◌, ◌*◌, ◌≤◌, ◌<◌}
-use native.Mathlib.Omega.{arith}
-use lib.ListN.{length, drop, length-set}
-use lib.Seq.{sets, length-sets}
+use mathlib.Core.Path.{◌≡◌}
+use mathlib.Core.List.{flat_map}
+use Prim.Native.Nat.{◌+◌, ◌-◌, ◌*◌, ◌≤◌}
+use lib.ListN.{length, drop}
+use lib.Seq.{sets}
 use Rattle.key.specs.Keys.{two_bytes}
-use Rattle.key_write.proofs.Sets.{sets_two, sets_append, sets_next, sets_end}
-use Rattle.key_write.proofs.put_elements.Reads as reads
-use Rattle.key_write.proofs.put_elements.Lts as lts
-use Rattle.key_write.proofs.put_pair.Reads as put-pair-reads
 use Rattle.key_write.proofs.put_elements.Given as goal
 
 abbrev pub invariant-loop-i : goal.invariant-loop-i

@@ -1,17 +1,12 @@
 -- Assumes nothing.
-use mathlib.Core.Path.{◌≡◌, refl, sym, ap, ◌∙◌}
-use mathlib.Core.List.{List, [], ◌∷◌, ◌++◌, flat_map}
-use Prim.Native.Nat.{ℕ, suc, ◌+◌, ◌-◌, ◌*◌, ◌≤◌, ◌<◌}
+use mathlib.Core.Path.{refl, ap, ◌∙◌}
+use mathlib.Core.List.{List, flat_map}
+use Prim.Native.Nat.{ℕ, ◌+◌, ◌*◌}
 use native.Mathlib.Omega.{arith}
-use lib.ListN.{length, drop, set, length-set}
-use lib.Seq.{sets, length-sets}
+use lib.ListN.{length, set, length-set}
+use lib.Seq.{sets}
 use Rattle.key.specs.Keys.{two_bytes}
 use Rattle.key_write.proofs.Sets.{sets_key}
-use borrow.Author.Rules.{rules}
-use Rattle.key_write.proofs.put_key.Reads as reads
-use Rattle.key_write.proofs.put_key.Lts as lts
-use Rattle.key_write.proofs.put_elements.Reads as put-elements-reads
-use Rattle.key_write.proofs.put_pair.Reads as put-pair-reads
 use Rattle.key_write.proofs.put_key.Goals as goal
 
 pub put_pair-requires : goal.put_pair-requires

@@ -1,5 +1,4 @@
 -- By the form. Assumes nothing.
-use borrow.Author.Rules.{rules}
 use Rattle.loading.proofs.Forms.{key_file_answer, network_file_answer}
 use Rattle.loading.proofs.shape.Goals as goal
 

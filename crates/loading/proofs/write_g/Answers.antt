@@ -1,5 +1,4 @@
 -- By the form. Assumes nothing.
-use borrow.Author.Rules.{rules}
 use Rattle.loading.proofs.Forms.{key_file_g, network_file_g}
 use Rattle.loading.proofs.write_g.Goals as goal
 

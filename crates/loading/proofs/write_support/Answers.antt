@@ -1,5 +1,4 @@
 -- By the form. Assumes nothing.
-use borrow.Author.Rules.{rules}
 use Rattle.loading.proofs.Forms.{key_file_support, network_file_support}
 use Rattle.loading.proofs.write_support.Goals as goal
 

@@ -1,15 +1,11 @@
 -- The loop's invariant: the rows from r on decide. Assumes nothing.
-use mathlib.Core.Path.{◌≡◌, refl, sym, ◌∙◌}
-use Prim.Native.Nat.{◌-◌, ◌*◌, ◌≤◌}
+use mathlib.Core.Path.{refl, sym, ◌∙◌}
 use native.Mathlib.Nat.{zero-mul}
 use native.Mathlib.Omega.{arith}
-use borrow.Author.Rules.{rules}
-use lib.ListN.{length, drop}
-use Rattle.bits.specs.Bits.{from, every, bytes_for, filler_clear}
+use Rattle.bits.specs.Bits.{from, bytes_for}
 use Rattle.bits.proofs.Lists.{every-next, every_stop, every_end, length_from}
 use Rattle.bits.proofs.Parts.{rows_in, next_row}
 use Rattle.key.proofs.Order.{failed, passed}
-use Rattle.code.specs.Lock.{row_of}
 use Rattle.locking.proofs.Rows.{row_filler}
 use Rattle.locking.proofs.fillers_clear.Goals as goal
 

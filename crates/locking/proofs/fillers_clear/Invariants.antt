@@ -1,16 +1,9 @@
 -- The loop's invariant: the rows from r on decide. Assumes nothing.
-use mathlib.Core.Path.{◌≡◌, refl, sym, ◌∙◌}
+use mathlib.Core.Path.{◌≡◌}
 use Prim.Native.Nat.{◌-◌, ◌*◌, ◌≤◌}
-use native.Mathlib.Nat.{zero-mul}
-use native.Mathlib.Omega.{arith}
-use borrow.Author.Rules.{rules}
 use lib.ListN.{length, drop}
 use Rattle.bits.specs.Bits.{from, every, bytes_for, filler_clear}
-use Rattle.bits.proofs.Lists.{every-next, every_stop, every_end, length_from}
-use Rattle.bits.proofs.Parts.{rows_in, next_row}
-use Rattle.key.proofs.Order.{failed, passed}
 use Rattle.code.specs.Lock.{row_of}
-use Rattle.locking.proofs.Rows.{row_filler}
 use Rattle.locking.proofs.fillers_clear.Given as goal
 
 abbrev pub invariant-loop-r : goal.invariant-loop-r

@@ -3,7 +3,6 @@ use mathlib.Core.Path.{sym, ap, ◌∙◌}
 use mathlib.Core.List.{List, map}
 use Prim.Native.Nat.{ℕ, ◌-◌, ◌*◌, ◌≤◌}
 use native.Mathlib.Omega.{arith}
-use borrow.Author.Rules.{rules}
 use Rattle.bits.specs.Bits.{from, put_bits, over}
 use Rattle.bits.proofs.PutBits.{put-over, written_zeros}
 use Rattle.field.proofs.Verdicts.{accepts, verdict_accepted, verdict_refused}
@@ -49,8 +48,8 @@ returns c =
     let number = verdict_accepted _ c.check-x.ensures c.in-Accepted.is in
     let f = lock-fits a.m a.n a.t a.public.now a.pattern.now a.out.now number in
     let small : a.m * a.t ≤ a.n = omega (arith, f.over) in
-    let bits : List ℕ = map (capsule_bit (a.n - a.m * a.t) (a.m * a.t) a.public.now a.pattern.now) (from 0 (a.m * a.t)) in record { value = accepts (sym number); out_after = c.put_capsule.ensures
-          ∙ ap (put_bits bits 0) (c.clear_row.ensures ∙ written_zeros (a.m * a.t) a.out.now f.room)
-          ∙ put-over a.out.now (row_capsule (a.n - a.m * a.t) (a.m * a.t) a.public.now a.pattern.now)
-          ∙ ap (λ (l : List ℕ). over l a.out.now) (sym (lock-bits a.m a.n a.t a.public.now a.pattern.now small))
-          ∙ sym (output_written a.m a.n a.t a.public.now a.pattern.now a.out.now number) }
+    let bits : List ℕ = map (capsule_bit (a.n - a.m * a.t) (a.m * a.t) a.public.now a.pattern.now) (from 0 (a.m * a.t)) in
+    record {
+      value = accepts (sym number);
+      out_after = c.put_capsule.ensures ∙ ap (put_bits bits 0) (c.clear_row.ensures ∙ written_zeros (a.m * a.t) a.out.now f.room) ∙ put-over a.out.now (row_capsule (a.n - a.m * a.t) (a.m * a.t) a.public.now a.pattern.now) ∙ ap (λ (l : List ℕ). over l a.out.now) (sym (lock-bits a.m a.n a.t a.public.now a.pattern.now small)) ∙ sym (output_written a.m a.n a.t a.public.now a.pattern.now a.out.now number);
+    }

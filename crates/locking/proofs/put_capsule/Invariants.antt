@@ -1,19 +1,10 @@
 -- The loop's invariant: the bits from r on are left to write. Assumes nothing.
-use mathlib.Core.Path.{◌≡◌, refl, sym, ap, ap₂, ◌∙◌}
-use mathlib.Core.List.{List, map}
-use Prim.Native.Nat.{ℕ, ◌+◌, ◌-◌, ◌*◌, ◌≤◌}
-use native.Mathlib.Nat.{zero-mul, zero-add}
-use native.Mathlib.Omega.{arith}
-use borrow.Author.Rules.{rules}
-use lib.ListN.{length, take, drop}
-use lib.Seq.{length-take-le}
-use Rattle.bits.specs.Xor.{◌⊕◌}
-use Rattle.bits.specs.Bits.{from, bytes_for, set_bit, put_bits}
-use Rattle.bits.proofs.Lists.{length-map-from, map-from-at}
-use Rattle.bits.proofs.PutBits.{put_next, put_end, length-put_bits}
-use Rattle.bits.proofs.Parts.{rows_in, next_row, row_size}
+use mathlib.Core.Path.{◌≡◌}
+use mathlib.Core.List.{map}
+use Prim.Native.Nat.{◌-◌, ◌*◌, ◌≤◌}
+use lib.ListN.{length, drop}
+use Rattle.bits.specs.Bits.{from, bytes_for, put_bits}
 use Rattle.locking.specs.Locking.{capsule_bit}
-use Rattle.locking.proofs.Rows.{product_tail}
 use Rattle.locking.proofs.put_capsule.Given as goal
 
 abbrev pub invariant-loop-r : goal.invariant-loop-r

@@ -1,8 +1,6 @@
 -- There is room for a row of w bits. Assumes nothing.
 use mathlib.Core.Path.{◌∙◌}
 use Prim.Native.Nat.{ℕ}
-use native.Mathlib.Omega.{arith}
-use borrow.Author.Rules.{rules}
 use lib.ListN.{replicate, length-replicate}
 use Rattle.bits.proofs.Parts.{row_size}
 use Rattle.bits.proofs.PutBits.{written_row}

@@ -1,7 +1,6 @@
 -- What the network sends out, then reversed. Assumes nothing.
 use mathlib.Core.Path.{ap, ◌∙◌}
 use mathlib.Core.List.{map}
-use borrow.Author.Rules.{rules}
 use Rattle.network_key.specs.Files.{reversed}
 use Rattle.network_file.proofs.Digits.{support_reversed}
 use Rattle.network_file.proofs.elements_of.Goals as goal

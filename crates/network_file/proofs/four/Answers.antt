@@ -1,7 +1,6 @@
 -- `network_file::four` meets its contract. Assumes nothing.
 use mathlib.Core.Path.{ap₂}
 use Prim.Native.Nat.{ℕ, ◌+◌, ◌*◌}
-use borrow.Author.Rules.{rules}
 use Rattle.network_key.specs.Files.{four}
 use Rattle.network_file.proofs.four.Goals as goal
 

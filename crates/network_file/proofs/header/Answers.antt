@@ -1,6 +1,5 @@
 -- The tests in order. Assumes nothing.
 use native.Mathlib.Omega.{arith}
-use borrow.Author.Rules.{rules}
 use Rattle.field.proofs.Verdicts.{refuses, accepts}
 use Rattle.field.proofs.Table.{modulus_none, modulus_some, width_pos, width_narrow}
 use Rattle.key.proofs.Order.{failed, passed}

@@ -3,7 +3,6 @@ use mathlib.Core.Path.{ap, ◌∙◌}
 use mathlib.Core.List.{List, ◌++◌}
 use Prim.Native.Nat.{ℕ, ◌+◌, ◌*◌}
 use lib.ListN.{drop, replicate}
-use borrow.Author.Rules.{rules}
 use Rattle.bits.proofs.Parts.{part_all}
 use Rattle.network_key.specs.Files.{support_of}
 use Rattle.network_file.proofs.Files.{says_fit, support_array}

@@ -1,6 +1,5 @@
 -- The header decides, then the elements. Assumes nothing.
 use mathlib.Core.Path.{◌∙◌}
-use borrow.Author.Rules.{rules}
 use Rattle.field.proofs.Verdicts.{verdict_accepted, verdict_taken}
 use Rattle.key.proofs.Conditions.{first-take}
 use Rattle.network_file.proofs.Files.{arrays_decide, network_refused, network-sizes, head_accepted}

@@ -1,12 +1,11 @@
 -- The loop's invariant: the first i numbers are done. Assumes nothing.
-use mathlib.Core.Path.{◌≡◌, refl, ap, ◌∙◌}
+use mathlib.Core.Path.{refl, ap, ◌∙◌}
 use mathlib.Core.List.{List}
-use Prim.Native.Nat.{ℕ, ◌-◌, ◌≤◌}
+use Prim.Native.Nat.{ℕ}
 use native.Mathlib.Omega.{arith}
-use lib.ListN.{length, get_or, set, length-set}
-use borrow.Author.Rules.{rules}
+use lib.ListN.{get_or, set, length-set}
 use Rattle.network_key.specs.Files.{reversed}
-use Rattle.switching.proofs.Places.{mapped_to, mapped_start, mapped_next, mapped_all}
+use Rattle.switching.proofs.Places.{mapped_start, mapped_next, mapped_all}
 use Rattle.network_file.proofs.reverse_each.Goals as goal
 
 pub loop-i-init : goal.loop-i-init

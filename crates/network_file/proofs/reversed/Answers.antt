@@ -1,10 +1,7 @@
 -- The loop's invariant: r has the i lowest digits of x, and y the others. Assumes nothing.
-use mathlib.Core.Path.{◌≡◌, sym, ◌∙◌}
-use Prim.Native.Nat.{◌+◌, ◌-◌, ◌*◌, ◌^◌, ◌≤◌, ◌<◌}
+use mathlib.Core.Path.{sym, ◌∙◌}
 use native.Mathlib.Omega.{arith}
 use lib.Pow.{pow_mono}
-use borrow.Author.Rules.{rules}
-use Rattle.network_key.specs.Files.{reversed}
 use Rattle.network_file.proofs.Digits.{reversed-start, reversed-next, reversed_end, reversed_small, reversed-first}
 use Rattle.network_file.proofs.reversed.Goals as goal
 

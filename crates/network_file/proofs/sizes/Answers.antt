@@ -1,5 +1,4 @@
 -- `network_file::sizes` meets its contract. Assumes nothing.
-use borrow.Author.Rules.{rules}
 use Rattle.network_file.proofs.Files.{sizes_said}
 use Rattle.network_file.proofs.sizes.Goals as goal
 

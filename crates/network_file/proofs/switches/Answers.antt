@@ -1,6 +1,5 @@
 -- `network_file::switches` meets its contract. Assumes nothing.
 use native.Mathlib.Omega.{arith}
-use borrow.Author.Rules.{rules}
 use Rattle.network_file.proofs.Digits.{switches_shifted}
 use Rattle.network_file.proofs.switches.Goals as goal
 

@@ -1,5 +1,4 @@
 -- An accepted file's header is right. Assumes nothing.
-use borrow.Author.Rules.{rules}
 use Rattle.field.proofs.Verdicts.{verdict_accepted, verdict_refused}
 use Rattle.network_file.proofs.Files.{head_accepted}
 use Rattle.network_file.proofs.write_g.Goals as goal

@@ -5,7 +5,6 @@ use Prim.Native.Nat.{ℕ, ◌+◌, ◌/◌}
 use lib.Seq.{sets}
 use Rattle.key.specs.Keys.{two_bytes}
 use Rattle.network_writing.proofs.Head.{sets_four}
-use borrow.Author.Rules.{rules}
 use Rattle.network_writing.proofs.put_four.Goals as goal
 
 pub returns : goal.returns

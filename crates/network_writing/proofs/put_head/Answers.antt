@@ -1,5 +1,5 @@
 -- Assumes nothing.
-use mathlib.Core.Path.{◌≡◌, refl, ap, ◌∙◌}
+use mathlib.Core.Path.{refl, ap, ◌∙◌}
 use mathlib.Core.List.{List, flat_map}
 use Prim.Native.Nat.{ℕ, ◌+◌, ◌*◌}
 use native.Mathlib.Omega.{arith}
@@ -9,33 +9,22 @@ use Rattle.key.specs.Keys.{two_bytes}
 use Rattle.network.specs.Network.{switches}
 use Rattle.network_key.specs.Files.{four_bytes}
 use Rattle.network_writing.proofs.Head.{sets_head, count_small}
-use borrow.Author.Rules.{rules}
 use Rattle.network_writing.proofs.put_head.Goals as goal
-
--- the output's length stays
-size_1 : (c : tie.After-put-pair) → length c.put-pair.new.0 ≡ length c.before.before.before.before.args.out.now
-size_1 c = omega (arith, c.put-pair.auto, length-set c.before.before.before.before.args.out.now 0 c.before.before.before.before.args.m)
-
-size_2 : (c : tie.After-put-pair2) → length c.put-pair2.new.0 ≡ length c.before.before.before.before.before.before.before.before.args.out.now
-size_2 c = omega (arith, c.put-pair2.auto, size_1 c.before.before.before.before)
-
-size_3 : (c : tie.After-put-elements) → length c.put-elements.new.0 ≡ length c.before.before.before.before.before.before.before.before.before.before.before.before.args.out.now
-size_3 c = omega (arith, c.put-elements.auto, size_2 c.before.before.before.before)
 
 pub put_pair-requires : goal.put_pair-requires
 put_pair-requires c = (simp length-set (omega arith), omega arith)
 
 pub put_pair-requires-2 : goal.put_pair-requires-2
-put_pair-requires-2 c = (omega (arith, size_1 c.before.before.before), omega arith)
+put_pair-requires-2 c = (omega (arith, c.put_pair.auto, length-set c.args.out.now 0 c.args.m), omega arith)
 
 pub put_elements-requires : goal.put_elements-requires
-put_elements-requires c = (omega (arith, size_2 c.before.before.before), omega arith)
+put_elements-requires c = (omega (arith, c.put_pair.auto, c.put_pair-2.auto, length-set c.args.out.now 0 c.args.m), omega arith)
 
 pub put_four-requires : goal.put_four-requires
-put_four-requires c = (omega (arith, size_3 c.before.before.before.before), omega arith, rw c.switches.ensures (omega (arith, count_small c.args.m (omega arith))))
+put_four-requires c = (omega (arith, c.put_pair.auto, c.put_pair-2.auto, c.put_elements.auto, length-set c.args.out.now 0 c.args.m), omega arith, rw c.switches.ensures (omega (arith, count_small c.args.m (omega arith))))
 
 pub shape_of-out : goal.shape_of-out
-shape_of-out c = omega (arith, c.put_four.auto, size_3 c.before.before.before.before.before.before.before)
+shape_of-out c = omega (arith, c.put_pair.auto, c.put_pair-2.auto, c.put_elements.auto, c.put_four.auto, length-set c.args.out.now 0 c.args.m)
 
 pub returns : goal.returns
 returns c =

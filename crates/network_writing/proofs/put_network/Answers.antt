@@ -10,26 +10,22 @@ use Rattle.network.specs.Network.{control_bits}
 use Rattle.network.specs.Tables.{Each}
 use Rattle.completion.proofs.Permutation.{narrow, permutation_each}
 use Rattle.network_writing.proofs.Whole.{wide, errors_fit, g_fits, network-written}
-use borrow.Author.Rules.{rules}
 use Rattle.network_writing.proofs.put_network.Goals as goal
-
--- g's elements
-elements : (c : tie.After-g2) → length (take c.before.before.before.before.before.before.before.args.s.t c.before.before.write-g.new.1.1.1.0) ≡ c.before.before.before.before.before.before.before.args.s.t
-elements c =
-    let p = c.before.before.before.before.before.before.before in
-    let g : List ℕ = c.before.before.write-g.new.1.1.1.0 in
-    length-take-le p.args.s.t g (g_fits p.args.file.now p.args.s p.requires.0 g c.before.before.write-g.ensures)
 
 pub slice_bounds-g-end : goal.slice_bounds-g-end
 slice_bounds-g-end c = g_fits c.args.file.now c.args.s c.requires.0 c.write_g.new.g c.write_g.ensures
 
 pub slice_bounds-put_head-end : goal.slice_bounds-put_head-end
-slice_bounds-put_head-end c = sym (elements c)
+slice_bounds-put_head-end c =
+    let a = c.args in
+    let g : List ℕ = c.write_g.new.g in
+    sym (length-take-le a.s.t g (g_fits a.file.now a.s c.requires.0 g c.write_g.ensures))
 
 pub put_head-requires : goal.put_head-requires
 put_head-requires c =
     let a = c.args in
-    let e = elements c in
+    let g : List ℕ = c.write_g.new.g in
+    let e : length (take a.s.t g) ≡ a.s.t = length-take-le a.s.t g (g_fits a.file.now a.s c.requires.0 g c.write_g.ensures) in
     let w = wide a.file.now a.s c.requires.0 in
     let h = errors_fit a.file.now a.s c.requires.0 in
     (omega arith, omega arith, omega arith, narrow a.file.now a.s c.requires.0)

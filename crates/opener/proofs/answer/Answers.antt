@@ -1,7 +1,6 @@
 -- ` open` and the places, or ` refused ` and the number. Assumes nothing.
 use mathlib.Core.Path.{sym, ap}
 use native.Mathlib.Omega.{arith}
-use borrow.Author.Rules.{rules}
 use lib.ListN.{length, length-append}
 use Rattle.bits.specs.Bits.{unpack}
 use Rattle.opener.specs.Report.{refuses, opens, places}

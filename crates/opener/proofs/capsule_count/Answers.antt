@@ -1,6 +1,5 @@
 -- The length divided by a capsule's bytes, rounded up. Assumes nothing.
 use mathlib.Core.Path.{refl}
-use borrow.Author.Rules.{rules}
 use Rattle.code.specs.Publish.{capsule_bits}
 use Rattle.records.proofs.Values.{bytes_some, capsules_counted}
 use Rattle.opener.specs.Prepared.{slot_a}

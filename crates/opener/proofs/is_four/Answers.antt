@@ -1,6 +1,5 @@
 -- The width, then the limits. Assumes nothing.
 use mathlib.Core.Path.{◌∙◌}
-use borrow.Author.Rules.{rules}
 use Rattle.key.specs.Kept.{kept}
 use Rattle.slot.specs.Replies.{view}
 use Rattle.opener.specs.Prepared.{slot_a}

@@ -1,7 +1,6 @@
 -- The words, the number and the newline. Assumes nothing.
 use mathlib.Core.List.{◌++◌}
 use native.Mathlib.Omega.{arith}
-use borrow.Author.Rules.{rules}
 use Rattle.opener.specs.Report.{key_refused, decimal, newline}
 use Rattle.opener.proofs.Written.{joined}
 use Rattle.opener.proofs.Digits.{decimal_short}

@@ -2,7 +2,6 @@
 use mathlib.Core.Path.{sym, ap}
 use mathlib.Core.List.{[]}
 use native.Mathlib.Omega.{arith}
-use borrow.Author.Rules.{rules}
 use Rattle.opener.specs.Report.{too_large}
 use Rattle.opener.specs.Prepared.{key_text}
 use Rattle.opener.specs.declared.KeyAnswer.{KeyAnswer}
@@ -19,11 +18,9 @@ returns-in-Accepted c =
 pub returns-in-Refused : goal.returns-in-Refused
 unfolding key_text
 returns-in-Refused c =
-    let k = c.key_refused in
-    let e = c.answer-1.given in
-    let t = c.known_told-1.given.0.1 in
-    same_printed (ap (λ (x : KeyAnswer). key_text x []) (sym e.1))
-    (printed k.ensures (omega (arith, k.ensures.place, refused_short e.0.0 (omega (arith, t)))))
+    let k = c.in-Refused in
+    let w = c.key_refused.ensures in
+    same_printed (ap (λ (x : KeyAnswer). key_text x []) (sym k.is)) (printed w (omega (arith, w.place, refused_short k.n (omega arith))))
 
 pub returns-in-TooLarge : goal.returns-in-TooLarge
 unfolding key_text too_large

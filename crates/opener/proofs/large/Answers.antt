@@ -1,5 +1,4 @@
 -- The first byte, where there is one. Assumes nothing.
-use borrow.Author.Rules.{rules}
 use Rattle.opener.proofs.Text.{large_empty, large_twelve, large_other}
 use Rattle.opener.proofs.large.Goals as goal
 

@@ -1,7 +1,6 @@
 -- The part that is lent is the capsule. Assumes nothing.
 use mathlib.Core.Path.{◌≡◌, ap}
 use Prim.Native.Nat.{◌+◌, ◌-◌}
-use borrow.Author.Rules.{rules}
 use lib.ListN.{take, drop}
 use Rattle.records.proofs.Cut.{take_within}
 use Rattle.opener.specs.Report.{line}

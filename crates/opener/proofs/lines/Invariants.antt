@@ -1,16 +1,12 @@
 -- The invariant: the lines that are left, written behind the others, give all lines. Assumes nothing.
-use mathlib.Core.Path.{◌≡◌, refl, ◌∙◌}
+use mathlib.Core.Path.{◌≡◌}
 use Prim.Native.Nat.{◌+◌, ◌-◌, ◌≤◌}
-use native.Mathlib.Omega.{arith}
-use lib.ListN.{length, take, drop}
+use lib.ListN.{length}
 use Rattle.records.specs.Records.{capsules_of}
-use Rattle.records.proofs.Values.{bytes_some}
-use Rattle.opener.specs.Report.{line, lines}
+use Rattle.opener.specs.Report.{lines}
 use Rattle.opener.specs.Prepared.{slot_a}
-use Rattle.opener.proofs.Written.{Left, left_start, left_step, left_none}
-use Rattle.opener.proofs.Shape.{four}
-use Rattle.opener.proofs.Capsules.{lines_left, lines_all, lines_next, lines_done, line-room, capsule_few, capsule_bits_lem}
-use Rattle.opener.proofs.Lengths.{lines_short}
+use Rattle.opener.proofs.Written.{Left}
+use Rattle.opener.proofs.Capsules.{lines_left}
 use Rattle.opener.proofs.lines.Given as goal
 
 abbrev pub invariant-loop-i : goal.invariant-loop-i

@@ -1,6 +1,5 @@
 -- The lines, then the total. Assumes nothing.
 use native.Mathlib.Omega.{arith}
-use borrow.Author.Rules.{rules}
 use Rattle.records.specs.Records.{capsules_of}
 use Rattle.opener.specs.Report.{lines, total_line}
 use Rattle.opener.specs.Prepared.{slot_a}
@@ -24,4 +23,8 @@ returns c =
     let o = c.opened_count-opened.ensures in
     let n = c.capsule_count-total.ensures in
     let v = slot_a c.args.station in
-    let i = c.args.input.now in record { text = same_text (opened-parts v i n o) (joined (lines v 1 (capsules_of v.key i)) (total_line _ _) c.lines-at.ensures t); fits = omega (arith, t.place, c.lines-at.ensures.place, lines_short v (four _ c.requires.0) i c.requires.1, total_few v i n o c.requires.1) }
+    let i = c.args.input.now in
+    record {
+      text = same_text (opened-parts v i n o) (joined (lines v 1 (capsules_of v.key i)) (total_line _ _) c.lines-at.ensures t);
+      fits = omega (arith, t.place, c.lines-at.ensures.place, lines_short v (four _ c.requires.0) i c.requires.1, total_few v i n o c.requires.1);
+    }

@@ -1,6 +1,5 @@
 -- One report, and its count of 0. Assumes nothing.
 use mathlib.Core.Path.{ap, ◌∙◌}
-use borrow.Author.Rules.{rules}
 use lib.ListN.{get_or}
 use Rattle.recipients.specs.Names.{byte_of}
 use Rattle.station.specs.declared.Reported.{Reported}

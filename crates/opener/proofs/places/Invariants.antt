@@ -1,13 +1,11 @@
 -- The invariant: the places that are left, written behind the others, give all places. Assumes nothing.
-use mathlib.Core.Path.{◌≡◌, refl, sym, ap, ◌∙◌}
-use mathlib.Core.List.{◌++◌}
-use Prim.Native.Nat.{ℕ, ◌+◌, ◌-◌, ◌≤◌}
-use native.Mathlib.Omega.{arith}
+use mathlib.Core.Path.{◌≡◌}
+use Prim.Native.Nat.{◌-◌, ◌≤◌}
 use lib.ListN.{length}
 use Rattle.bits.specs.Bits.{unpack}
-use Rattle.opener.specs.Report.{place, places}
-use Rattle.opener.proofs.Written.{Left, left_start, left_step, left_none}
-use Rattle.opener.proofs.Text.{places_left, place-room, left_all, left_next, left_done}
+use Rattle.opener.specs.Report.{places}
+use Rattle.opener.proofs.Written.{Left}
+use Rattle.opener.proofs.Text.{places_left}
 use Rattle.opener.proofs.places.Given as goal
 
 abbrev pub invariant-loop-i : goal.invariant-loop-i

@@ -1,6 +1,5 @@
 -- The part that is lent is the first bytes of the file. Assumes nothing.
 use mathlib.Core.Path.{sym, ap, ◌∙◌}
-use borrow.Author.Rules.{rules}
 use Rattle.opener.specs.Prepared.{prepared_whole, prepared}
 use Rattle.opener.proofs.Capsules.{taken, taken_length}
 use Rattle.opener.proofs.prepare.Goals as goal

@@ -1,6 +1,5 @@
 -- The width, then what load and publish hand back. Assumes nothing.
 use mathlib.Core.Path.{◌≡◌, sym, ap, ◌∙◌}
-use borrow.Author.Rules.{rules}
 use Rattle.ledger.specs.Publishing.{systematic}
 use Rattle.ledger.specs.Calls.{publish}
 use Rattle.recipients.specs.Names.{byte_of}
@@ -10,7 +9,7 @@ use Rattle.opener.specs.Report.{room}
 use Rattle.opener.specs.Prepared.{reply_a, key_answer, ready_of}
 use Rattle.opener.specs.declared.KeyAnswer.{KeyAnswer}
 use Rattle.opener.specs.declared.KeyAnswer.TheVariants.{TooLarge}
-use Rattle.opener.proofs.Stages.{zero-accepted, number-accepted, not_accepted, loaded, prepared-large, prepared_refused, prepared_published}
+use Rattle.opener.proofs.Stages.{zero-accepted, number-accepted, loaded, prepared-large, prepared_refused, prepared_published}
 use Rattle.opener.proofs.prepare_whole.Goals as goal
 
 pub returns-then-large : goal.returns-then-large
@@ -25,7 +24,7 @@ returns-in_default c =
     let a = c.args in
     let e = loaded a.file.now c.fresh-station.ensures c.load-loaded.ensures in
     let k = c.key_answer-answer in
-    let h : k.result ≡ key_answer 0 → ⊥ = λ z. not_accepted k.result c.in_default.keys2 (z ∙ sym zero-accepted) in
+    let h : k.result ≡ key_answer 0 → ⊥ = λ z. c.in_default.not-Accepted (z ∙ sym zero-accepted) in
     ap (λ (x : KeyAnswer). record { station = c.load-loaded.result.station; answer = x }) k.ensures
     ∙ ap ready_of e
     ∙ sym (prepared_refused a.file.now (sym c.large.ensures ∙ c.if-large.false) (λ z. h (k.ensures ∙ ap key_answer (ap (λ (r : Reply). r.refused) e ∙ z))))

@@ -1,6 +1,5 @@
 -- Past the end nothing is stored. Assumes nothing.
 use mathlib.Core.Path.{refl, sym}
-use borrow.Author.Rules.{rules}
 use lib.Seq.{set_out}
 use Rattle.opener.proofs.put.Goals as goal
 

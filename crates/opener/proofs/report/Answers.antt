@@ -1,11 +1,10 @@
 -- The text of the key, or the lines. Assumes nothing.
 use mathlib.Core.Path.{sym, ap, ◌∙◌}
-use borrow.Author.Rules.{rules}
 use Rattle.opener.specs.Prepared.{slot_a, key_text, capsule_lines}
 use Rattle.opener.specs.declared.KeyAnswer.{KeyAnswer}
 use Rattle.opener.specs.declared.Ready.{Ready}
 use Rattle.opener.proofs.Written.{same_printed}
-use Rattle.opener.proofs.Stages.{not_accepted, text_other, report-parts}
+use Rattle.opener.proofs.Stages.{text_other, report-parts}
 use Rattle.opener.proofs.report.Goals as goal
 
 pub returns-in_default : goal.returns-in_default
@@ -16,7 +15,7 @@ returns-in_default c =
     let e =
     report-parts a.file.now a.input.now
     ∙ ap (λ (y : Ready). key_text y.answer (capsule_lines (slot_a y.station) a.input.now)) (sym p.ensures)
-    ∙ text_other r.answer (capsule_lines (slot_a r.station) a.input.now) (not_accepted r.answer c.in_default.keys2) in
+    ∙ text_other r.answer (capsule_lines (slot_a r.station) a.input.now) c.in_default.not-Accepted in
     same_printed (sym e) c.key_text.ensures
 
 pub returns : goal.returns

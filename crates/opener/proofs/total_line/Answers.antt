@@ -2,7 +2,6 @@
 use mathlib.Core.List.{◌++◌}
 use Prim.Native.Nat.{◌-◌}
 use native.Mathlib.Omega.{arith}
-use borrow.Author.Rules.{rules}
 use Rattle.opener.specs.Report.{refuses, total_is, are_opened, newline, decimal, total_line}
 use Rattle.opener.proofs.Written.{joined}
 use Rattle.opener.proofs.Text.{total-length}

@@ -1,6 +1,5 @@
 -- The word, then the number. Assumes nothing.
 use native.Mathlib.Omega.{arith}
-use borrow.Author.Rules.{rules}
 use lib.ListN.{length-append}
 use Rattle.opener.specs.Report.{decimal}
 use Rattle.opener.proofs.Written.{joined}

@@ -1,34 +1,19 @@
 -- The invariant: what is left of the text, written behind i bytes, gives the whole text written. Assumes nothing.
-use mathlib.Core.Path.{◌≡◌, refl, sym, ap, ◌∙◌}
+use mathlib.Core.Path.{refl, sym, ap, ◌∙◌}
 use mathlib.Core.List.{List}
-use Prim.Native.Nat.{ℕ, ◌+◌, ◌-◌, ◌≤◌}
+use Prim.Native.Nat.{ℕ, ◌+◌}
 use native.Mathlib.Nat.{add-zero}
 use native.Mathlib.Omega.{arith}
-use borrow.Author.Rules.{rules}
-use lib.ListN.{length, drop}
+use lib.ListN.{drop}
 use lib.Seq.{sets}
 use Rattle.opener.proofs.Written.{sets_next, sets_none}
 use Rattle.opener.proofs.write.Goals as goal
 
--- src/lib.rt:36:5
 pub loop-i-init : goal.loop-i-init
 loop-i-init c =
     let a = c.args in
     (omega arith, refl, ap (λ (k : ℕ). sets a.out.now k a.text.now) (add-zero a.at))
 
--- src/lib.rt:37:13
-pub bounds-text-i : goal.bounds-text-i
-bounds-text-i c = search rules
-
--- src/lib.rt:37:9
-pub put-requires : goal.put-requires
-put-requires c = search rules
-
--- src/lib.rt:36:5
-pub loop-i-smaller : goal.loop-i-smaller
-loop-i-smaller c = search rules
-
--- src/lib.rt:36:5
 pub loop-i-preserved : goal.loop-i-preserved
 loop-i-preserved c =
     let p = c.put in
@@ -41,11 +26,6 @@ loop-i-preserved c =
           ∙ l.invariant.2,
     )
 
--- src/lib.rt:30:1
-pub shape_of-out : goal.shape_of-out
-shape_of-out c = search rules
-
--- src/lib.rt:30:1
 pub returns : goal.returns
 returns c =
     let l = c.loop-i in

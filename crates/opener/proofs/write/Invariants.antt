@@ -1,13 +1,8 @@
 -- The invariant: what is left of the text, written behind i bytes, gives the whole text written. Assumes nothing.
-use mathlib.Core.Path.{◌≡◌, refl, sym, ap, ◌∙◌}
-use mathlib.Core.List.{List}
-use Prim.Native.Nat.{ℕ, ◌+◌, ◌-◌, ◌≤◌}
-use native.Mathlib.Nat.{add-zero}
-use native.Mathlib.Omega.{arith}
-use borrow.Author.Rules.{rules}
+use mathlib.Core.Path.{◌≡◌}
+use Prim.Native.Nat.{◌+◌, ◌-◌, ◌≤◌}
 use lib.ListN.{length, drop}
 use lib.Seq.{sets}
-use Rattle.opener.proofs.Written.{sets_next, sets_none}
 use Rattle.opener.proofs.write.Given as goal
 
 abbrev pub invariant-loop-i : goal.invariant-loop-i

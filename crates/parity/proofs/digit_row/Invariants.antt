@@ -1,16 +1,9 @@
 -- The loop's invariant: the digits from j on are left to write. Assumes nothing.
-use mathlib.Core.Path.{◌≡◌, refl, sym, ap, ◌∙◌}
-use mathlib.Core.List.{List}
-use Prim.Native.Nat.{ℕ, ◌+◌, ◌-◌, ◌/◌, ◌^◌, ◌≤◌}
-use native.Mathlib.Omega.{arith}
-use borrow.Author.Rules.{rules}
-use lib.Bits.{and_le_r, and_mask}
-use lib.ListN.{length, get_or, take, drop}
-use lib.Seq.{length-take-le}
-use Rattle.bits.specs.Bits.{set_bit, put_bits}
+use mathlib.Core.Path.{◌≡◌}
+use Prim.Native.Nat.{◌-◌, ◌≤◌}
+use lib.ListN.{take, drop}
+use Rattle.bits.specs.Bits.{put_bits}
 use Rattle.parity.specs.Rows.{digit_row}
-use Rattle.bits.proofs.PutBits.{put_next, put_end, length-put_bits}
-use Rattle.parity.proofs.DigitRows.{length-digit_row, digit_row-take}
 use Rattle.parity.proofs.digit_row.Given as goal
 
 abbrev pub invariant-loop-j : goal.invariant-loop-j

@@ -91,4 +91,8 @@ pub returns : goal.returns
 returns c =
     let l = c.loop-k in
     let a = c.args in
-    let e : l.k ≡ a.m = omega arith in record { rows = subst (λ (k : ℕ). rows_of k (8 * a.step) l.out ≡ over_rows (digit_rows k (take a.n a.p.now)) (rows_of k (8 * a.step) a.out.now)) e l.invariant.3; rest = subst (λ (k : ℕ). drop k l.out ≡ drop k a.out.now) (l.invariant.1 ∙ ap (λ (k : ℕ). k * a.step) e) l.invariant.4 }
+    let e : l.k ≡ a.m = omega arith in
+    record {
+      rows = subst (λ (k : ℕ). rows_of k (8 * a.step) l.out ≡ over_rows (digit_rows k (take a.n a.p.now)) (rows_of k (8 * a.step) a.out.now)) e l.invariant.3;
+      rest = subst (λ (k : ℕ). drop k l.out ≡ drop k a.out.now) (l.invariant.1 ∙ ap (λ (k : ℕ). k * a.step) e) l.invariant.4;
+    }

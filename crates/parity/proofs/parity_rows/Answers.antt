@@ -3,10 +3,8 @@ use mathlib.Core.Path.{◌≡◌, sym, ap, ◌∙◌}
 use mathlib.Core.List.{List, map}
 use Prim.Native.Nat.{ℕ}
 use native.Mathlib.Omega.{arith}
-use borrow.Author.Rules.{rules}
 use lib.ListN.{length, take, drop, length-drop, length-append, length-map}
 use lib.Seq.{take_at, length-take-le}
-use Rattle.field.specs.Field.{inv}
 use Rattle.field.proofs.Verdicts.{verdict_accepted}
 use Rattle.field.proofs.Units.{inverses_given, inverses_not_refused}
 use Rattle.key.specs.Keys.{key_of}

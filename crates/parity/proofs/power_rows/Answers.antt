@@ -14,7 +14,7 @@ use Rattle.field.proofs.Places.{length-horner_each}
 use Rattle.field.proofs.Table.{width_narrow}
 use Rattle.key.specs.Keys.{key_of}
 use Rattle.code.specs.PublicKey.{Matrix}
-use Rattle.code.specs.Code.{entry, parity_row}
+use Rattle.code.specs.Code.{parity_row}
 use Rattle.code.specs.Lock.{rows_of}
 use Rattle.code.proofs.PackedRows.{bytes_whole}
 use Rattle.parity.specs.Rows.{digit_rows, over_rows}
@@ -116,7 +116,8 @@ returns c =
     let l = c.loop-s in
     let a = c.args in
     let e : l.s ≡ length a.g.now = omega arith in
-    let f : l.s * a.m ≡ a.m * length a.g.now = ap (λ (s : ℕ). s * a.m) e ∙ mul_comm (length a.g.now) a.m in record { rows = ap (λ (k : ℕ). rows_of k (8 * a.step) l.work) (sym f)
-          ∙ l.invariant.5
-          ∙ ap₂ (λ (d : Matrix) (k : ℕ). over_rows d (rows_of k (8 * a.step) a.work.now))
-          (parity_all a.m c.requires.0 a.support.now a.g.now l.s e) f; rest = subst (λ (k : ℕ). drop k l.work ≡ drop k a.work.now) (l.invariant.1 ∙ ap (λ (k : ℕ). k * a.step) f) l.invariant.6 }
+    let f : l.s * a.m ≡ a.m * length a.g.now = ap (λ (s : ℕ). s * a.m) e ∙ mul_comm (length a.g.now) a.m in
+    record {
+      rows = ap (λ (k : ℕ). rows_of k (8 * a.step) l.work) (sym f) ∙ l.invariant.5 ∙ ap₂ (λ (d : Matrix) (k : ℕ). over_rows d (rows_of k (8 * a.step) a.work.now)) (parity_all a.m c.requires.0 a.support.now a.g.now l.s e) f;
+      rest = subst (λ (k : ℕ). drop k l.work ≡ drop k a.work.now) (l.invariant.1 ∙ ap (λ (k : ℕ). k * a.step) f) l.invariant.6;
+    }

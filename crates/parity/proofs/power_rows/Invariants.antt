@@ -1,26 +1,14 @@
 -- The loop's invariant: the rows of the powers below s are written over what was there, what follows is as it was, and p has
 -- α^s / g(α) at the support's places. Assumes nothing.
-use mathlib.Core.Path.{◌≡◌, refl, sym, ap, ap₂, ◌∙◌, subst}
-use mathlib.Core.List.{List, ◌++◌, map}
-use Prim.Native.Nat.{ℕ, ◌+◌, ◌-◌, ◌*◌, ◌≤◌}
-use native.Mathlib.Nat.{zero-mul, mul_comm, mul-le-mul}
-use native.Mathlib.Omega.{arith}
-use borrow.Rule.Slice.PartMut.{same_len_mid}
-use lib.ListN.{length, take, drop, length-drop, length-map}
+use mathlib.Core.Path.{◌≡◌}
+use mathlib.Core.List.{map}
+use Prim.Native.Nat.{◌-◌, ◌*◌, ◌≤◌}
+use lib.ListN.{length, take, drop}
 use Rattle.bits.specs.Bits.{from}
-use Rattle.bits.proofs.Lists.{length_from}
-use Rattle.bits.proofs.Parts.{next_row, part_all, part_back}
-use Rattle.field.proofs.Places.{length-horner_each}
-use Rattle.field.proofs.Table.{width_narrow}
 use Rattle.key.specs.Keys.{key_of}
-use Rattle.code.specs.PublicKey.{Matrix}
 use Rattle.code.specs.Code.{entry, parity_row}
 use Rattle.code.specs.Lock.{rows_of}
-use Rattle.code.proofs.PackedRows.{bytes_whole}
-use Rattle.parity.specs.Rows.{digit_rows, over_rows}
-use Rattle.parity.proofs.RowsOver.{part_rest, over-placed}
-use Rattle.parity.proofs.DigitRows.{group_next, group_in}
-use Rattle.parity.proofs.Entries.{entries_next, parity-start, parity-next, parity_all}
+use Rattle.parity.specs.Rows.{over_rows}
 use Rattle.parity.proofs.power_rows.Given as goal
 
 abbrev pub invariant-loop-s : goal.invariant-loop-s

@@ -6,7 +6,6 @@ use native.Mathlib.Numerals.{add-one}
 use native.Mathlib.Omega.{arith}
 use lib.ListN.{get_or}
 use Rattle.keccak.specs.Lanes.{constants, round_lanes, rounds_lanes, permuted}
-use borrow.Author.Rules.{rules}
 use Rattle.permutation.proofs.permute.Goals as goal
 
 -- a round, and none left

@@ -1,12 +1,7 @@
 -- The loop's invariant: the rounds from i on give what all give. Assumes nothing.
-use mathlib.Core.Path.{◌≡◌, refl, ap, ◌∙◌}
-use mathlib.Core.List.{List}
-use Prim.Native.Nat.{ℕ, suc, ◌+◌, ◌-◌, ◌≤◌, ◌<◌}
-use native.Mathlib.Numerals.{add-one}
-use native.Mathlib.Omega.{arith}
-use lib.ListN.{get_or}
-use Rattle.keccak.specs.Lanes.{constants, round_lanes, rounds_lanes, permuted}
-use borrow.Author.Rules.{rules}
+use mathlib.Core.Path.{◌≡◌}
+use Prim.Native.Nat.{◌-◌, ◌≤◌}
+use Rattle.keccak.specs.Lanes.{rounds_lanes}
 use Rattle.permutation.proofs.permute.Given as goal
 
 abbrev pub invariant-loop-i : goal.invariant-loop-i

@@ -5,7 +5,6 @@ use mathlib.Core.List.{List}
 use lib.ListN.{get_or, set}
 use Rattle.bits.specs.Xor.{◌⊕◌}
 use Rattle.keccak.specs.Lanes.{chi_lanes, rho_pi_lanes, round_lanes}
-use borrow.Author.Rules.{rules}
 use Rattle.permutation.proofs.round.Goals as goal
 
 pub returns : goal.returns

@@ -3,7 +3,6 @@ use mathlib.Core.Bool.{false≢true}
 use Prim.Native.Nat.{◌≤◌}
 use native.Mathlib.Omega.{arith}
 use native.Mathlib.Nat.{mul-le-mul}
-use borrow.Author.Rules.{rules}
 use Rattle.field.proofs.Table.{width_narrow}
 use Rattle.point_sums.proofs.dense.Goals as goal
 

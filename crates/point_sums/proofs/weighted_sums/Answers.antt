@@ -2,7 +2,6 @@
 use mathlib.Core.Path.{ap, ◌∙◌}
 use Prim.Native.Nat.{ℕ}
 use native.Mathlib.Omega.{arith}
-use borrow.Author.Rules.{rules}
 use Rattle.bits.specs.Bits.{padded}
 use Rattle.field.proofs.Table.{modulus_none, modulus_some}
 use Rattle.point_sums.specs.Weighted.{weighted_sums}

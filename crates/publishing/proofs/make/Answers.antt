@@ -3,8 +3,6 @@ use mathlib.Core.Path.{◌≡◌, sym, ap, ◌∙◌}
 use mathlib.Core.List.{List}
 use Prim.Native.Nat.{ℕ, ◌*◌, ◌≤◌}
 use native.Mathlib.Omega.{arith}
-use borrow.Author.Rules.{rules}
-use borrow.Author.Tests.{not-true, not-false}
 use lib.ListN.{length}
 use Rattle.bits.specs.Bits.{bytes_for, over}
 use Rattle.field.proofs.Verdicts.{refuses, accepts}
@@ -76,5 +74,9 @@ returns c =
     q.ensures.rows ∙ ap parity_rows (key_of-kept k f.0) in
     let el = c.eliminate in
     let e = sym el.ensures.value ∙ c.if-not-eliminate.false in
-    let d = el.ensures.work_after c.if-not-eliminate.false in record { answer = accepts (independent_made (kept k) z w room rows e); output = c.write_rows.ensures
-            ∙ ap (λ (t : List ℕ). over t c.args.out.now) (columns-written (kept k) z w room rows e el.new.work d); rest = el.ensures.work_unchanged ∙ q.ensures.rest }
+    let d = el.ensures.work_after c.if-not-eliminate.false in
+    record {
+      answer = accepts (independent_made (kept k) z w room rows e);
+      output = c.write_rows.ensures ∙ ap (λ (t : List ℕ). over t c.args.out.now) (columns-written (kept k) z w room rows e el.new.work d);
+      rest = el.ensures.work_unchanged ∙ q.ensures.rest;
+    }

@@ -1,6 +1,5 @@
 -- The checks before 23, then T. Assumes nothing.
 use mathlib.Core.Path.{refl, sym, ap, ◌∙◌}
-use borrow.Author.Rules.{rules}
 use Rattle.field.specs.Verdicts.{verdict_of}
 use Rattle.field.proofs.Verdicts.{verdict_accepted, verdict_refused}
 use Rattle.key.specs.Kept.{kept, parts}
@@ -24,4 +23,9 @@ returns c =
     let a = c.args in
     let k = parts a.m a.n a.t a.support.now a.g.now in
     let m = c.make in
-    let clear = verdict_accepted _ c.check-x.ensures c.in-Accepted.is in record { answer = m.ensures.answer ∙ ap verdict_of (sym (number-made _ (kept k) a.out.now a.work.now clear)); output = m.ensures.output ∙ output_made _ (kept k) a.out.now a.work.now clear; workspace = free_made _ (kept k) a.out.now a.work.now clear m.new.work m.ensures.rest }
+    let clear = verdict_accepted _ c.check-x.ensures c.in-Accepted.is in
+    record {
+      answer = m.ensures.answer ∙ ap verdict_of (sym (number-made _ (kept k) a.out.now a.work.now clear));
+      output = m.ensures.output ∙ output_made _ (kept k) a.out.now a.work.now clear;
+      workspace = free_made _ (kept k) a.out.now a.work.now clear m.new.work m.ensures.rest;
+    }

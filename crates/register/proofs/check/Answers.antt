@@ -1,7 +1,5 @@
 -- `register::check` meets its contract. Assumes nothing.
 use mathlib.Core.Path.{sym, ◌∙◌}
-use borrow.Author.Rules.{rules}
-use borrow.Author.Tests.{not-true, not-false}
 use Rattle.field.proofs.Verdicts.{refuses, accepts}
 use Rattle.field.proofs.Table.{modulus_none, modulus_some}
 use Rattle.poly.proofs.Answers.{number_no_width, number_long, number_element, number_none}

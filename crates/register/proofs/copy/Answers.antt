@@ -1,11 +1,10 @@
 -- The loop's invariant: the first i coefficients are copied. Assumes nothing.
-use mathlib.Core.Path.{◌≡◌, refl, ap, ◌∙◌}
+use mathlib.Core.Path.{refl, ap, ◌∙◌}
 use mathlib.Core.List.{List}
-use Prim.Native.Nat.{ℕ, ◌-◌, ◌≤◌}
+use Prim.Native.Nat.{ℕ}
 use native.Mathlib.Omega.{arith}
-use borrow.Author.Rules.{rules}
-use lib.ListN.{length, get_or, set, length-set}
-use Rattle.register.proofs.Loops.{copied_to, copied_none, copied_next, copied_all}
+use lib.ListN.{get_or, set, length-set}
+use Rattle.register.proofs.Loops.{copied_none, copied_next, copied_all}
 use Rattle.register.proofs.copy.Goals as goal
 
 pub loop-i-init : goal.loop-i-init

@@ -1,11 +1,8 @@
 -- The loop's invariant: the first i coefficients are copied. Assumes nothing.
-use mathlib.Core.Path.{◌≡◌, refl, ap, ◌∙◌}
-use mathlib.Core.List.{List}
-use Prim.Native.Nat.{ℕ, ◌-◌, ◌≤◌}
-use native.Mathlib.Omega.{arith}
-use borrow.Author.Rules.{rules}
-use lib.ListN.{length, get_or, set, length-set}
-use Rattle.register.proofs.Loops.{copied_to, copied_none, copied_next, copied_all}
+use mathlib.Core.Path.{◌≡◌}
+use Prim.Native.Nat.{◌-◌, ◌≤◌}
+use lib.ListN.{length}
+use Rattle.register.proofs.Loops.{copied_to}
 use Rattle.register.proofs.copy.Given as goal
 
 abbrev pub invariant-loop-i : goal.invariant-loop-i

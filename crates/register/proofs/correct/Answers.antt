@@ -1,6 +1,5 @@
 -- The correction by its two multiples. Assumes nothing.
 use mathlib.Core.Path.{refl, ◌∙◌}
-use borrow.Author.Rules.{rules}
 use Rattle.register.specs.Registered.{figure}
 use Rattle.register.proofs.Across.{corrected_by}
 use Rattle.register.proofs.correct.Goals as goal

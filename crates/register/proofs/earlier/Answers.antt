@@ -1,10 +1,7 @@
 -- The loop's invariant: the places from 1 to i - 1 are done. Assumes nothing.
-use mathlib.Core.Path.{◌≡◌}
-use Prim.Native.Nat.{ℕ, ◌+◌, ◌-◌, ◌≤◌}
+use Prim.Native.Nat.{ℕ}
 use native.Mathlib.Omega.{arith}
-use borrow.Author.Rules.{rules}
-use lib.ListN.{length, length-set, length-replicate}
-use Rattle.poly.specs.Parts.{Earlier}
+use lib.ListN.{length-set, length-replicate}
 use Rattle.poly.proofs.Steps.{earlier_step}
 use Rattle.register.proofs.earlier.Goals as goal
 

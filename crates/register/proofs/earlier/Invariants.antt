@@ -1,11 +1,8 @@
 -- The loop's invariant: the places from 1 to i - 1 are done. Assumes nothing.
 use mathlib.Core.Path.{◌≡◌}
-use Prim.Native.Nat.{ℕ, ◌+◌, ◌-◌, ◌≤◌}
-use native.Mathlib.Omega.{arith}
-use borrow.Author.Rules.{rules}
-use lib.ListN.{length, length-set, length-replicate}
+use Prim.Native.Nat.{◌+◌, ◌-◌, ◌≤◌}
+use lib.ListN.{length}
 use Rattle.poly.specs.Parts.{Earlier}
-use Rattle.poly.proofs.Steps.{earlier_step}
 use Rattle.register.proofs.earlier.Given as goal
 
 abbrev pub invariant-loop-i : goal.invariant-loop-i

@@ -1,6 +1,6 @@
 -- The loop's invariant: the first j multiples are made. Assumes nothing.
 use mathlib.Core.Path.{◌≡◌, sym, ap, ◌∙◌}
-use Prim.Native.Nat.{ℕ, suc, ◌-◌, ◌*◌, ◌/◌, ◌%◌, ◌^◌, ◌≤◌}
+use Prim.Native.Nat.{ℕ, suc, ◌-◌, ◌*◌, ◌/◌, ◌%◌, ◌^◌}
 use native.Mathlib.Omega.{arith}
 use lib.Bits.{and_mask}
 use lib.Pow.{pow_pos}
@@ -13,7 +13,7 @@ use Rattle.field.specs.Field.{mul}
 use Rattle.field.proofs.Machine.{masked_lt, one_shl, low-digits}
 use Rattle.field.proofs.Table.{width_narrow, width_pos}
 use Rattle.field.proofs.PointTable.{mul-first, doubled-mul}
-use Rattle.register.proofs.Loops.{Made, made-first, made-next, made_all}
+use Rattle.register.proofs.Loops.{made-first, made-next, made_all}
 use Rattle.register.proofs.multiples.Goals as goal
 
 pub overflow_shl-mask : goal.overflow_shl-mask

@@ -1,5 +1,4 @@
 -- The inverse is not refused, since c_0 is a unit. Assumes nothing.
-use borrow.Author.Rules.{rules}
 use Rattle.field.proofs.Units.{inverse_given, inverse_not_refused}
 use Rattle.register.proofs.Across.{divided_by}
 use Rattle.register.proofs.quotient.Goals as goal

@@ -1,15 +1,12 @@
 -- The loop's invariant: a multiple of the figure's register after n turns. Assumes nothing.
-use mathlib.Core.Path.{◌≡◌, refl, ◌∙◌}
-use Prim.Native.Nat.{◌-◌, ◌≤◌}
+use mathlib.Core.Path.{refl, ◌∙◌}
+use Prim.Native.Nat.{◌≤◌}
 use native.Mathlib.Omega.{arith}
-use borrow.Author.Rules.{rules}
-use lib.ListN.{length}
 use Rattle.field.proofs.Arrays.{every-elements}
 use Rattle.poly.specs.Register.{start, longest}
-use Rattle.poly.proofs.Steps.{after}
 use Rattle.register.specs.Registered.{figure}
 use Rattle.register.proofs.Answers.{found}
-use Rattle.register.proofs.Across.{Multiple, start_multiple, after_small, c_past, b_past, after_turn, after_divided}
+use Rattle.register.proofs.Across.{start_multiple, after_small, c_past, b_past, after_turn, after_divided}
 use Rattle.register.proofs.run.Goals as goal
 
 pub loop-n-init : goal.loop-n-init
@@ -39,8 +36,7 @@ turn-k-requires c =
 
 pub loop-n-preserved : goal.loop-n-preserved
 loop-n-preserved c =
-    let l = c.loop-n in
-    (
+    let l = c.loop-n in (
       omega arith,
       c.turn-k.auto.c ∙ l.invariant.1,
       c.turn-k.auto.b ∙ l.invariant.2,

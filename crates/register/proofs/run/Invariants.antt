@@ -1,15 +1,10 @@
 -- The loop's invariant: a multiple of the figure's register after n turns. Assumes nothing.
-use mathlib.Core.Path.{◌≡◌, refl, ◌∙◌}
+use mathlib.Core.Path.{◌≡◌}
 use Prim.Native.Nat.{◌-◌, ◌≤◌}
-use native.Mathlib.Omega.{arith}
-use borrow.Author.Rules.{rules}
 use lib.ListN.{length}
-use Rattle.field.proofs.Arrays.{every-elements}
-use Rattle.poly.specs.Register.{start, longest}
 use Rattle.poly.proofs.Steps.{after}
 use Rattle.register.specs.Registered.{figure}
-use Rattle.register.proofs.Answers.{found}
-use Rattle.register.proofs.Across.{Multiple, start_multiple, after_small, c_past, b_past, after_turn, after_divided}
+use Rattle.register.proofs.Across.{Multiple}
 use Rattle.register.proofs.run.Given as goal
 
 abbrev pub invariant-loop-n : goal.invariant-loop-n

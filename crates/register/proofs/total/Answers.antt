@@ -1,14 +1,8 @@
 -- The loop's invariant: d, with the places from i to l, is the whole sum. Assumes nothing.
-use mathlib.Core.Path.{◌≡◌, sym, ◌∙◌}
-use mathlib.Core.List.{map}
-use Prim.Native.Nat.{◌+◌, ◌-◌, ◌≤◌}
+use mathlib.Core.Path.{sym, ◌∙◌}
 use native.Mathlib.Omega.{arith}
-use borrow.Author.Rules.{rules}
-use lib.ListN.{get_or}
 use Rattle.bits.specs.Xor.{◌⊕◌}
-use Rattle.bits.specs.Bits.{from}
-use Rattle.poly.specs.Polynomials.{sum}
-use Rattle.poly.proofs.Steps.{rest, rest_start, rest_step, rest_none}
+use Rattle.poly.proofs.Steps.{rest_start, rest_step, rest_none}
 use Rattle.register.proofs.total.Goals as goal
 
 pub loop-i-init : goal.loop-i-init

@@ -1,14 +1,12 @@
 -- The loop's invariant: d, with the places from i to l, is the whole sum. Assumes nothing.
-use mathlib.Core.Path.{◌≡◌, sym, ◌∙◌}
+use mathlib.Core.Path.{◌≡◌}
 use mathlib.Core.List.{map}
 use Prim.Native.Nat.{◌+◌, ◌-◌, ◌≤◌}
-use native.Mathlib.Omega.{arith}
-use borrow.Author.Rules.{rules}
 use lib.ListN.{get_or}
 use Rattle.bits.specs.Xor.{◌⊕◌}
 use Rattle.bits.specs.Bits.{from}
 use Rattle.poly.specs.Polynomials.{sum}
-use Rattle.poly.proofs.Steps.{rest, rest_start, rest_step, rest_none}
+use Rattle.poly.proofs.Steps.{rest}
 use Rattle.register.proofs.total.Given as goal
 
 abbrev pub invariant-loop-i : goal.invariant-loop-i

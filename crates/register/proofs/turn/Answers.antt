@@ -1,7 +1,6 @@
 -- A turn by its three cases. Assumes nothing.
 use mathlib.Core.Path.{sym, ◌∙◌}
 use native.Mathlib.Omega.{arith}
-use borrow.Author.Rules.{rules}
 use Rattle.register.specs.Registered.{figure}
 use Rattle.register.proofs.Across.{across_skip, across_fix, across_grow}
 use Rattle.register.proofs.turn.Goals as goal

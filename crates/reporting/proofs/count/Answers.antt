@@ -1,11 +1,10 @@
 -- The invariant: the counts of the bytes passed. Assumes nothing.
 use mathlib.Core.Path.{◌≡◌, sym, ap, ◌∙◌}
-use Prim.Native.Nat.{ℕ, ◌-◌, ◌≤◌, ◌<◌}
+use Prim.Native.Nat.{ℕ, ◌<◌}
 use native.Mathlib.Omega.{arith}
 use mir.Syntax.{w8}
 use mir.Val.{Fits}
-use borrow.Author.Rules.{rules}
-use lib.ListN.{length, take}
+use lib.ListN.{take}
 use lib.Seq.{length-take-le, take_all}
 use Rattle.records.specs.Records.{counts_of}
 use Rattle.records.proofs.Counts.{counts_none, counts_most, counts_next}
@@ -19,27 +18,27 @@ pub loop-p-init : goal.loop-p-init
 loop-p-init c = (omega arith, sym counts_none)
 
 pub offset_bounds-counts-v : goal.offset_bounds-counts-v
-offset_bounds-counts-v c = omega (arith, byte c.wide-v.ensures (c.shared_slice_known-in-loop-p-1.given _))
+offset_bounds-counts-v c = omega (arith, byte c.wide-v.ensures (c.type_inv.records _))
 
 pub bounds-counts-v : goal.bounds-counts-v
-bounds-counts-v c = omega (arith, byte c.wide-v.ensures (c.shared_slice_known-in-loop-p-1.given _))
+bounds-counts-v c = omega (arith, byte c.wide-v.ensures (c.type_inv.records _))
 
 pub overflow_add-counts : goal.overflow_add-counts
 overflow_add-counts c =
     let l = c.loop-p in
     let s = c.args.records.now in
-    let b : c.wide-v.result < 256 = byte c.wide-v.ensures (c.shared_slice_known-in-loop-p-1.given _) in
+    let b : c.wide-v.result < 256 = byte c.wide-v.ensures (c.type_inv.records _) in
     rw l.invariant.1 (omega (arith, counts_most (take l.p s) c.wide-v.result b, length-take-le l.p s l.invariant.0))
 
 pub bounds-counts-v-in-loop-p : goal.bounds-counts-v-in-loop-p
-bounds-counts-v-in-loop-p c = omega (arith, byte c.wide-v.ensures (c.shared_slice_known-in-loop-p-1.given _))
+bounds-counts-v-in-loop-p c = omega (arith, byte c.wide-v.ensures (c.type_inv.records _))
 
 pub loop-p-preserved : goal.loop-p-preserved
 loop-p-preserved c =
     let l = c.loop-p in
     let s = c.args.records.now in (
       omega arith,
-      rw (l.invariant.1, c.wide-v.ensures) (counts_next s l.p (omega arith) (omega (arith, c.shared_slice_known-in-loop-p-1.given l.p))),
+      rw (l.invariant.1, c.wide-v.ensures) (counts_next s l.p (omega arith) (omega (arith, c.type_inv.records l.p))),
     )
 
 pub returns : goal.returns

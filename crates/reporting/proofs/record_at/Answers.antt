@@ -1,6 +1,5 @@
 -- The part that is lent is the capsule. Assumes nothing.
 use mathlib.Core.Path.{ap, ◌∙◌}
-use borrow.Author.Rules.{rules}
 use Rattle.key.specs.Kept.{kept, parts}
 use Rattle.records.specs.Records.{record_of}
 use Rattle.records.proofs.Cut.{take_within}

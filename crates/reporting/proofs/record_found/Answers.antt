@@ -1,6 +1,5 @@
 -- The row's number, then what is found. Assumes nothing.
 use native.Mathlib.Omega.{arith}
-use borrow.Author.Rules.{rules}
 use borrow.Author.Tests.{not-true, not-false}
 use Rattle.key.specs.Kept.{parts}
 use Rattle.reporting.proofs.Found.{row_number, record_row, record_not_refused, record_none, record_some}
@@ -24,11 +23,11 @@ returns-then-not-e c =
     let a = c.args in
     let k = parts a.m a.n a.t a.support.now a.g.now in
     let e = row_number k a.capsule.now c.capsule_bits.ensures c.check_row.ensures c.number-number.ensures in
-    record_none k a.capsule.now c.requires (omega (arith, e, c.if-number-ne0.false)) _ c.open_checked-e.ensures c.if-not-e.true
+    record_none k a.capsule.now c.requires (omega (arith, e, c.if-number-ne0.false)) _ c.open_checked-e.ensures (not-true _ c.if-not-e.true)
 
 pub returns : goal.returns
 returns c =
     let a = c.args in
     let k = parts a.m a.n a.t a.support.now a.g.now in
     let e = row_number k a.capsule.now c.capsule_bits.ensures c.check_row.ensures c.number-number.ensures in
-    record_some k a.capsule.now c.requires (omega (arith, e, c.if-number-ne0.false)) _ c.open_checked-e.ensures c.if-not-e.false
+    record_some k a.capsule.now c.requires (omega (arith, e, c.if-number-ne0.false)) _ c.open_checked-e.ensures (not-false _ c.if-not-e.false)

@@ -1,15 +1,12 @@
 -- The invariant: the first i records stand at the buffer's start. Assumes nothing.
-use mathlib.Core.Path.{◌≡◌, refl, ◌∙◌}
-use Prim.Native.Nat.{◌-◌, ◌≤◌}
+use mathlib.Core.Path.{refl, ◌∙◌}
 use native.Mathlib.Nat.{le_of_lt}
 use native.Mathlib.Omega.{arith}
-use borrow.Author.Rules.{rules}
-use lib.ListN.{length, take, length-set}
-use Rattle.bits.specs.Bits.{over}
+use lib.ListN.{length-set}
 use Rattle.bits.proofs.Padded.{over-start}
 use Rattle.key.specs.Kept.{kept, parts}
 use Rattle.code.specs.Publish.{capsule_bits}
-use Rattle.records.specs.Records.{capsules_of, records_of}
+use Rattle.records.specs.Records.{records_of}
 use Rattle.reporting.proofs.Written.{counted, start-within, written_next, written_all}
 use Rattle.reporting.proofs.write_records.Goals as goal
 

@@ -1,16 +1,10 @@
 -- The invariant: the first i records stand at the buffer's start. Assumes nothing.
-use mathlib.Core.Path.{◌≡◌, refl, ◌∙◌}
+use mathlib.Core.Path.{◌≡◌}
 use Prim.Native.Nat.{◌-◌, ◌≤◌}
-use native.Mathlib.Nat.{le_of_lt}
-use native.Mathlib.Omega.{arith}
-use borrow.Author.Rules.{rules}
-use lib.ListN.{length, take, length-set}
+use lib.ListN.{length, take}
 use Rattle.bits.specs.Bits.{over}
-use Rattle.bits.proofs.Padded.{over-start}
 use Rattle.key.specs.Kept.{kept, parts}
-use Rattle.code.specs.Publish.{capsule_bits}
 use Rattle.records.specs.Records.{capsules_of, records_of}
-use Rattle.reporting.proofs.Written.{counted, start-within, written_next, written_all}
 use Rattle.reporting.proofs.write_records.Given as goal
 
 abbrev pub invariant-loop-i : goal.invariant-loop-i

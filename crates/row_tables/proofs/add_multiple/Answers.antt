@@ -1,13 +1,13 @@
 -- The loop's invariant: the first i places are done; where the four rows start. Assumes nothing.
-use mathlib.Core.Path.{◌≡◌, refl, ap, ◌∙◌}
-use Prim.Native.Nat.{ℕ, ◌-◌, ◌/◌, ◌≤◌}
+use mathlib.Core.Path.{refl, ap, ◌∙◌}
+use Prim.Native.Nat.{ℕ, ◌/◌}
 use native.Mathlib.Omega.{arith}
 use mathlib.Core.List.{List}
 use lib.Bits.{mask_lt}
-use lib.ListN.{length, get_or, set, length-set}
+use lib.ListN.{get_or, set, length-set}
 use Rattle.bits.specs.Xor.{◌⊕◌}
 use Rattle.row_tables.specs.RowTable.{combination}
-use Rattle.row_tables.proofs.RowTable.{Starts, starts, added_to, added-start, added_next, added_all, combination-from}
+use Rattle.row_tables.proofs.RowTable.{starts, added-start, added_next, added_all, combination-from}
 use Rattle.row_tables.proofs.add_multiple.Goals as goal
 
 pub start-p-requires : goal.start-p-requires

@@ -1,9 +1,7 @@
 -- The loop's invariant: q rows are made, and the other columns are as they were. Assumes nothing.
 use mathlib.Core.Path.{◌≡◌, refl, sym, ◌∙◌, subst}
-use mathlib.Core.Logic.{◌⊎◌}
-use Prim.Native.Nat.{ℕ, ◌+◌, ◌-◌, ◌%◌, ◌≤◌, ◌<◌}
+use Prim.Native.Nat.{ℕ}
 use native.Mathlib.Omega.{arith}
-use borrow.Author.Rules.{rules}
 use lib.ListN.{length, get_or}
 use Rattle.row_tables.specs.Making.{earlier_rows, digit_places, Columns}
 use Rattle.row_tables.proofs.Making.{earlier_lt, digit_lt, put_by, columns-start, columns-next, outside, outside_first}

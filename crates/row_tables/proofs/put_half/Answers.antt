@@ -1,6 +1,6 @@
 -- The loop's invariant: i numbers are put. Assumes nothing.
 use mathlib.Core.Path.{◌≡◌, subst}
-use Prim.Native.Nat.{ℕ, ◌-◌, ◌≤◌}
+use Prim.Native.Nat.{ℕ}
 use native.Mathlib.Omega.{arith}
 use Rattle.bits.specs.Xor.{◌⊕◌}
 use Rattle.row_tables.specs.Making.{Put}

@@ -1,10 +1,6 @@
 -- The loop's invariant: i numbers are put. Assumes nothing.
-use mathlib.Core.Path.{◌≡◌, subst}
-use Prim.Native.Nat.{ℕ, ◌-◌, ◌≤◌}
-use native.Mathlib.Omega.{arith}
-use Rattle.bits.specs.Xor.{◌⊕◌}
+use Prim.Native.Nat.{◌-◌, ◌≤◌}
 use Rattle.row_tables.specs.Making.{Put}
-use Rattle.row_tables.proofs.Making.{put_none, put_next}
 use Rattle.row_tables.proofs.put_half.Given as goal
 
 abbrev pub invariant-loop-i : goal.invariant-loop-i

@@ -3,7 +3,6 @@ use mathlib.Core.Path.{refl, sym, ◌∙◌}
 use mathlib.Core.Logic.{inl}
 use Prim.Native.Nat.{◌+◌, ◌*◌}
 use native.Mathlib.Omega.{arith}
-use borrow.Author.Rules.{rules}
 use Rattle.row_tables.proofs.Making.{columns-kept, table_all}
 use Rattle.row_tables.proofs.RowTable.{table_in_all, table_in_none}
 use Rattle.row_tables.proofs.put_table.Goals as goal

@@ -1,6 +1,6 @@
 -- The loop's invariant: i numbers are 0. Assumes nothing.
 use mathlib.Core.Path.{◌≡◌, subst}
-use Prim.Native.Nat.{ℕ, ◌-◌, ◌≤◌}
+use Prim.Native.Nat.{ℕ}
 use native.Mathlib.Omega.{arith}
 use Rattle.row_tables.specs.Making.{Zeroed}
 use Rattle.row_tables.proofs.Making.{zeroed_none, zeroed_next}

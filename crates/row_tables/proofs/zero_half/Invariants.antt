@@ -1,9 +1,6 @@
 -- The loop's invariant: i numbers are 0. Assumes nothing.
-use mathlib.Core.Path.{◌≡◌, subst}
-use Prim.Native.Nat.{ℕ, ◌-◌, ◌≤◌}
-use native.Mathlib.Omega.{arith}
+use Prim.Native.Nat.{◌-◌, ◌≤◌}
 use Rattle.row_tables.specs.Making.{Zeroed}
-use Rattle.row_tables.proofs.Making.{zeroed_none, zeroed_next}
 use Rattle.row_tables.proofs.zero_half.Given as goal
 
 abbrev pub invariant-loop-i : goal.invariant-loop-i

@@ -1,7 +1,5 @@
 -- The key and the mark, the capsule, then the secret. Assumes nothing.
 use mathlib.Core.Path.{sym, ap, ◌∙◌}
-use borrow.Author.Rules.{rules}
-use borrow.Author.Tests.{not-true, not-false}
 use Rattle.field.specs.Verdicts.{verdict_of}
 use Rattle.field.proofs.Verdicts.{refuses, verdict_accepted, verdict_refused}
 use Rattle.key.specs.Kept.{kept}

@@ -2,7 +2,6 @@
 use mathlib.Core.Path.{◌∙◌}
 use Prim.Native.Nat.{◌≤◌}
 use native.Mathlib.Omega.{arith}
-use borrow.Author.Rules.{rules}
 use Rattle.bits.proofs.Parts.{row_size}
 use Rattle.session_key.proofs.Texts.{taken_fits}
 use Rattle.session_key.proofs.Derived.{key_row}

@@ -1,7 +1,6 @@
 -- The checks, what is found, then the key. Assumes nothing.
 use mathlib.Core.Path.{◌∙◌}
 use mathlib.Core.Bool.{not}
-use borrow.Author.Rules.{rules}
 use Rattle.field.proofs.Verdicts.{verdict_accepted, verdict_taken}
 use Rattle.key.specs.Kept.{kept, parts}
 use Rattle.session_key.proofs.Checks.{sizes}

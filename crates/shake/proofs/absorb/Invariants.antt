@@ -1,13 +1,9 @@
 -- The loop's invariant: the blocks from byte `at` on, absorbed into a, give what all give. Assumes nothing.
-use mathlib.Core.Path.{◌≡◌, sym, ap, ◌∙◌}
-use Prim.Native.Nat.{◌+◌, ◌-◌, ◌≤◌}
-use native.Mathlib.Omega.{arith}
+use mathlib.Core.Path.{◌≡◌}
+use Prim.Native.Nat.{◌-◌, ◌≤◌}
 use lib.ListN.{length}
-use Rattle.bits.proofs.Parts.{part_all}
-use Rattle.keccak.specs.Lanes.{permuted, absorbed, absorbed_all, last_block}
-use Rattle.keccak.proofs.Padding.{last_count}
-use Rattle.shake.proofs.Loops.{rest_count, absorbed_from, absorb-start, absorb-next, absorb_end}
-use borrow.Author.Rules.{rules}
+use Rattle.keccak.specs.Lanes.{absorbed_all}
+use Rattle.shake.proofs.Loops.{absorbed_from}
 use Rattle.shake.proofs.absorb.Given as goal
 
 abbrev pub invariant-loop-at : goal.invariant-loop-at

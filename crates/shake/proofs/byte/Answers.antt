@@ -1,13 +1,12 @@
 -- A byte is the number of its eight bits. Assumes nothing.
 use native.Mathlib.Omega.{arith}
 use Rattle.keccak.proofs.Words.{byte_word}
-use borrow.Author.Rules.{rules}
 use Rattle.shake.proofs.byte.Goals as goal
 
 pub overflow_cast-result : goal.overflow_cast-result
-overflow_cast-result c = omega (arith, c.shared_slice_known-1.given c.args.at)
+overflow_cast-result c = omega (arith, c.type_inv.s c.args.at)
 
 pub returns : goal.returns
 returns c =
     let a = c.args in
-    byte_word a.s.now a.at (omega (arith, c.shared_slice_known-1.given a.at))
+    byte_word a.s.now a.at (omega (arith, c.type_inv.s a.at))

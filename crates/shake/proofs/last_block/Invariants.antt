@@ -1,14 +1,8 @@
 -- The loop's invariant: the first i bytes of the rest, and zeros. Assumes nothing.
-use mathlib.Core.Path.{◌≡◌, refl, sym, ap, ap₂, ◌∙◌}
-use Prim.Native.Nat.{ℕ, ◌-◌, ◌≤◌}
-use native.Mathlib.Omega.{arith}
-use mathlib.Core.List.{List}
-use lib.ListN.{length, take, get_or, set, length-set}
-use Rattle.bits.specs.Bits.{padded, set_bit}
-use Rattle.bits.proofs.Padded.{padded-start, padded-next}
-use Rattle.keccak.specs.Lanes.{last_block}
-use lib.Seq.{take_all}
-use borrow.Author.Rules.{rules}
+use mathlib.Core.Path.{◌≡◌}
+use Prim.Native.Nat.{◌-◌, ◌≤◌}
+use lib.ListN.{length, take}
+use Rattle.bits.specs.Bits.{padded}
 use Rattle.shake.proofs.last_block.Given as goal
 
 abbrev pub invariant-loop-i : goal.invariant-loop-i

@@ -4,7 +4,6 @@ use Prim.Native.Nat.{ℕ, ◌*◌, ◌%◌, ◌^◌}
 use native.Mathlib.Omega.{arith}
 use lib.Bits.{bit_or}
 use Rattle.keccak.proofs.Words.{word_join}
-use borrow.Author.Rules.{rules}
 use Rattle.shake.proofs.pair.Goals as goal
 
 pub returns : goal.returns

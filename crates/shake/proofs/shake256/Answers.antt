@@ -4,7 +4,6 @@ use Prim.Native.Nat.{ℕ}
 use lib.ListN.{length}
 use Rattle.keccak.specs.Lanes.{squeezed}
 use Rattle.keccak.proofs.Sponge.{shake_same}
-use borrow.Author.Rules.{rules}
 use Rattle.shake.proofs.shake256.Goals as goal
 
 pub returns : goal.returns

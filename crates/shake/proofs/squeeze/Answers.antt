@@ -1,6 +1,6 @@
 -- The loop's invariant: the bytes before `at`, and what a still gives, are the whole output. Assumes nothing.
 use mathlib.Core.Path.{◌≡◌, refl, ap, ap₂, ◌∙◌}
-use Prim.Native.Nat.{ℕ, ◌+◌, ◌-◌, ◌≤◌}
+use Prim.Native.Nat.{ℕ, ◌+◌, ◌-◌}
 use native.Mathlib.Omega.{arith}
 use mathlib.Core.List.{List, ◌++◌}
 use lib.ListN.{length, take, drop, length-take}
@@ -8,7 +8,6 @@ use Rattle.keccak.specs.Lanes.{squeezed}
 use Rattle.shake.proofs.Loops.{rest_count, squeeze-next, squeeze_end}
 use native.Mathlib.Nat.{sub-zero}
 use borrow.Rule.Slice.PartMut.{put_mid, same_len_mid}
-use borrow.Author.Rules.{rules}
 use Rattle.shake.proofs.squeeze.Goals as goal
 
 pub loop-out-init : goal.loop-out-init

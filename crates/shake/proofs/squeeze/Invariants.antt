@@ -1,14 +1,9 @@
 -- The loop's invariant: the bytes before `at`, and what a still gives, are the whole output. Assumes nothing.
-use mathlib.Core.Path.{◌≡◌, refl, ap, ap₂, ◌∙◌}
-use Prim.Native.Nat.{ℕ, ◌+◌, ◌-◌, ◌≤◌}
-use native.Mathlib.Omega.{arith}
-use mathlib.Core.List.{List, ◌++◌}
-use lib.ListN.{length, take, drop, length-take}
+use mathlib.Core.Path.{◌≡◌}
+use Prim.Native.Nat.{◌-◌, ◌≤◌}
+use mathlib.Core.List.{◌++◌}
+use lib.ListN.{length, take}
 use Rattle.keccak.specs.Lanes.{squeezed}
-use Rattle.shake.proofs.Loops.{rest_count, squeeze-next, squeeze_end}
-use native.Mathlib.Nat.{sub-zero}
-use borrow.Rule.Slice.PartMut.{put_mid, same_len_mid}
-use borrow.Author.Rules.{rules}
 use Rattle.shake.proofs.squeeze.Given as goal
 
 abbrev pub invariant-loop-out : goal.invariant-loop-out

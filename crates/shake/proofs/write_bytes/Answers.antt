@@ -1,13 +1,12 @@
 -- The loop's invariant: the bytes before `at` are those of k lanes. Assumes nothing.
-use mathlib.Core.Path.{◌≡◌, refl, ap, ◌∙◌}
-use Prim.Native.Nat.{ℕ, ◌+◌, ◌-◌, ◌*◌, ◌≤◌}
+use mathlib.Core.Path.{refl, ap, ◌∙◌}
+use Prim.Native.Nat.{ℕ, ◌+◌, ◌-◌}
 use native.Mathlib.Omega.{arith}
-use lib.ListN.{length, take, drop, length-take}
+use lib.ListN.{length, drop, length-take}
 use Rattle.bits.specs.Bits.{from}
 use Rattle.keccak.specs.Lanes.{state_bytes}
 use Rattle.shake.proofs.Loops.{rest_count, write_next, write_end}
 use borrow.Rule.Slice.PartMut.{same_len_mid}
-use borrow.Author.Rules.{rules}
 use Rattle.shake.proofs.write_bytes.Goals as goal
 
 pub loop-out-init : goal.loop-out-init

@@ -1,13 +1,8 @@
 -- The loop's invariant: the bytes before `at` are those of k lanes. Assumes nothing.
-use mathlib.Core.Path.{◌≡◌, refl, ap, ◌∙◌}
-use Prim.Native.Nat.{ℕ, ◌+◌, ◌-◌, ◌*◌, ◌≤◌}
-use native.Mathlib.Omega.{arith}
-use lib.ListN.{length, take, drop, length-take}
-use Rattle.bits.specs.Bits.{from}
+use mathlib.Core.Path.{◌≡◌}
+use Prim.Native.Nat.{◌-◌, ◌*◌, ◌≤◌}
+use lib.ListN.{length, take}
 use Rattle.keccak.specs.Lanes.{state_bytes}
-use Rattle.shake.proofs.Loops.{rest_count, write_next, write_end}
-use borrow.Rule.Slice.PartMut.{same_len_mid}
-use borrow.Author.Rules.{rules}
 use Rattle.shake.proofs.write_bytes.Given as goal
 
 abbrev pub invariant-loop-out : goal.invariant-loop-out

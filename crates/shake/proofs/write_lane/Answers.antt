@@ -1,15 +1,14 @@
 -- The loop's invariant: the first i bytes are the lane's. Assumes nothing.
 use mathlib.Core.Path.{◌≡◌, refl, sym, ap, ap₂, ◌∙◌}
 use mathlib.Core.List.{List}
-use Prim.Native.Nat.{ℕ, ◌-◌, ◌≤◌}
+use Prim.Native.Nat.{ℕ}
 use native.Mathlib.Omega.{arith}
-use lib.ListN.{length, take, set, length-set}
+use lib.ListN.{length, set, length-set}
 use lib.Seq.{take_all}
 use Rattle.bits.specs.Bits.{over}
 use Rattle.bits.proofs.Padded.{over-start, over-next}
 use Rattle.keccak.specs.Lanes.{lane_bytes}
 use Rattle.shake.proofs.Loops.{over_all, lane_bytes_count, lane_byte_at}
-use borrow.Author.Rules.{rules}
 use Rattle.shake.proofs.write_lane.Goals as goal
 
 pub loop-i-init : goal.loop-i-init

@@ -1,15 +1,9 @@
 -- The loop's invariant: the first i bytes are the lane's. Assumes nothing.
-use mathlib.Core.Path.{◌≡◌, refl, sym, ap, ap₂, ◌∙◌}
-use mathlib.Core.List.{List}
-use Prim.Native.Nat.{ℕ, ◌-◌, ◌≤◌}
-use native.Mathlib.Omega.{arith}
-use lib.ListN.{length, take, set, length-set}
-use lib.Seq.{take_all}
+use mathlib.Core.Path.{◌≡◌}
+use Prim.Native.Nat.{◌-◌, ◌≤◌}
+use lib.ListN.{length, take}
 use Rattle.bits.specs.Bits.{over}
-use Rattle.bits.proofs.Padded.{over-start, over-next}
 use Rattle.keccak.specs.Lanes.{lane_bytes}
-use Rattle.shake.proofs.Loops.{over_all, lane_bytes_count, lane_byte_at}
-use borrow.Author.Rules.{rules}
 use Rattle.shake.proofs.write_lane.Given as goal
 
 abbrev pub invariant-loop-i : goal.invariant-loop-i

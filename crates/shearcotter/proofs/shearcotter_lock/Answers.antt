@@ -1,6 +1,5 @@
 -- What lock answers, taken apart: its number, or 0. Assumes nothing.
 use mathlib.Core.Path.{sym, ◌∙◌}
-use borrow.Author.Rules.{rules}
 use Rattle.field.proofs.Verdicts.{verdict_accepted, verdict_number}
 use Rattle.shearcotter.proofs.shearcotter_lock.Goals as goal
 

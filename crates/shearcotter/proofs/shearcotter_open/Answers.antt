@@ -1,5 +1,4 @@
 -- The station's reply, with the caller's own station. Assumes nothing.
-use borrow.Author.Rules.{rules}
 use Rattle.ledger.specs.Questions.{open_capsule}
 use Rattle.shearcotter.proofs.Own.{own_left}
 use Rattle.shearcotter.proofs.shearcotter_open.Goals as goal
@@ -7,4 +6,4 @@ use Rattle.shearcotter.proofs.shearcotter_open.Goals as goal
 pub returns : goal.returns
 returns c =
     let a = c.args in
-    record { reply = own_left a.own a.name (open_capsule a.capsule.now a.out.now) r.«open».ensures.0; output = r.«open».ensures.1 }
+    record { reply = own_left a.own a.name (open_capsule a.capsule.now a.out.now) c.open-opened.ensures.reply; output = c.open-opened.ensures.output }

@@ -1,5 +1,4 @@
 -- The station's reply, with the caller's own keys. Assumes nothing.
-use borrow.Author.Rules.{rules}
 use Rattle.ledger.specs.Publishing.{systematic}
 use Rattle.shearcotter.proofs.Own.{own_keys}
 use Rattle.shearcotter.proofs.shearcotter_publish.Goals as goal
@@ -7,4 +6,8 @@ use Rattle.shearcotter.proofs.shearcotter_publish.Goals as goal
 pub returns : goal.returns
 returns c =
     let a = c.args in
-    (own_keys a.own a.name (systematic a.out.now a.work.now) c.publish-published.ensures.reply, c.publish-published.ensures.1)
+    record {
+      reply = own_keys a.own a.name (systematic a.out.now a.work.now) c.publish-published.ensures.reply;
+      output = c.publish-published.ensures.output;
+      workspace = c.publish-published.ensures.workspace;
+    }

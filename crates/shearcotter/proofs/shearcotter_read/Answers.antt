@@ -1,5 +1,4 @@
 -- The station's reply, with the caller's own station. Assumes nothing.
-use borrow.Author.Rules.{rules}
 use Rattle.ledger.specs.Questions.{read_word}
 use Rattle.shearcotter.proofs.Own.{own_left}
 use Rattle.shearcotter.proofs.shearcotter_read.Goals as goal
@@ -7,4 +6,4 @@ use Rattle.shearcotter.proofs.shearcotter_read.Goals as goal
 pub returns : goal.returns
 returns c =
     let a = c.args in
-    record { reply = own_left a.own a.name (read_word a.word.now a.out.now) r.«read».ensures.0; output = r.«read».ensures.1 }
+    record { reply = own_left a.own a.name (read_word a.word.now a.out.now) c.read-found.ensures.reply; output = c.read-found.ensures.output }

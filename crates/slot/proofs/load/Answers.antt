@@ -1,7 +1,6 @@
 -- The state, then the file. Assumes nothing.
 use mathlib.Core.Path.{sym, ap, ◌∙◌}
 use mathlib.Core.Bool.{not}
-use borrow.Author.Tests.{not-true, not-false}
 use Rattle.key.specs.Answers.{shape_answer}
 use Rattle.ledger.specs.Calls.{load}
 use Rattle.loading.specs.Forms.{loading_of}

@@ -1,6 +1,5 @@
 -- The state, then the lower call. Assumes nothing.
 use mathlib.Core.Path.{refl, sym, ap, ◌∙◌}
-use borrow.Author.Rules.{rules}
 use Rattle.field.specs.Verdicts.{verdict_of}
 use Rattle.field.proofs.Verdicts.{refuses}
 use Rattle.ledger.specs.Publishing.{systematic, public_buffer, work_buffer, needed_bytes}
@@ -25,4 +24,9 @@ returns c =
     let a = c.args in
     let s = slot_in a.state a.m a.n a.t a.support.now a.g.now in
     let f = systematic a.out.now a.work.now in
-    let k = sym c.is_empty.ensures ∙ c.if-is_empty.false in record { answer = c.publish.ensures.answer ∙ ap verdict_of (publish_number_lem s f k); output = c.publish.ensures.output ∙ publish_output_lem s f k; workspace = publish_work s f k _ _ c.publish.ensures.workspace }
+    let k = sym c.is_empty.ensures ∙ c.if-is_empty.false in
+    record {
+      answer = c.publish.ensures.answer ∙ ap verdict_of (publish_number_lem s f k);
+      output = c.publish.ensures.output ∙ publish_output_lem s f k;
+      workspace = publish_work s f k _ _ c.publish.ensures.workspace;
+    }

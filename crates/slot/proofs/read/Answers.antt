@@ -1,6 +1,5 @@
 -- The state, then the lower call. Assumes nothing.
 use mathlib.Core.Path.{sym, ap, ◌∙◌}
-use borrow.Author.Rules.{rules}
 use Rattle.reading.specs.Answers.{answer_of}
 use Rattle.ledger.specs.Questions.{read_word, answer_buffer}
 use Rattle.ledger.specs.Calls.{ask, output_of}
@@ -22,4 +21,8 @@ pub returns : goal.returns
 returns c =
     let a = c.args in
     let s = slot_in a.state a.m a.n a.t a.support.now a.g.now in
-    let k = sym c.is_empty.ensures ∙ c.if-is_empty.false in record { answer = p.«read».ensures.0 ∙ read_answer s a.word.now a.out.now k; output = p.«read».ensures.1 ∙ read_output_lem s a.word.now a.out.now k }
+    let k = sym c.is_empty.ensures ∙ c.if-is_empty.false in
+    record {
+      answer = c.«read».ensures.answer ∙ read_answer s a.word.now a.out.now k;
+      output = c.«read».ensures.output ∙ read_output_lem s a.word.now a.out.now k;
+    }

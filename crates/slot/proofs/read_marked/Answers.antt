@@ -1,6 +1,5 @@
 -- The state, then the lower call. Assumes nothing.
 use mathlib.Core.Path.{sym, ap, ◌∙◌}
-use borrow.Author.Rules.{rules}
 use Rattle.reading.specs.Answers.{answer_of}
 use Rattle.ledger.specs.Questions.{read_marked, answer_buffer}
 use Rattle.ledger.specs.Calls.{ask, output_of}
@@ -22,4 +21,8 @@ pub returns : goal.returns
 returns c =
     let a = c.args in
     let s = slot_in a.state a.m a.n a.t a.support.now a.g.now in
-    let k = sym c.is_empty.ensures ∙ c.if-is_empty.false in record { answer = c.read_marked.ensures.answer ∙ marked-answer s a.word.now a.marks.now a.out.now k; output = c.read_marked.ensures.output ∙ marked_output_lem s a.word.now a.marks.now a.out.now k }
+    let k = sym c.is_empty.ensures ∙ c.if-is_empty.false in
+    record {
+      answer = c.read_marked.ensures.answer ∙ marked-answer s a.word.now a.marks.now a.out.now k;
+      output = c.read_marked.ensures.output ∙ marked_output_lem s a.word.now a.marks.now a.out.now k;
+    }

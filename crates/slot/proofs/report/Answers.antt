@@ -1,6 +1,5 @@
 -- The state, then the lower call. Assumes nothing.
 use mathlib.Core.Path.{refl, sym, ◌∙◌}
-use borrow.Author.Rules.{rules}
 use Rattle.reporting.specs.Answers.{report_answer}
 use Rattle.slot.specs.Parts.{slot_in}
 use Rattle.ledger.specs.Questions.{answer_size}
@@ -21,4 +20,8 @@ unfolding report_answer
 returns c =
     let a = c.args in
     let s = slot_in a.state a.m a.n a.t a.support.now a.g.now in
-    let k = sym c.is_empty.ensures ∙ c.if-is_empty.false in record { answer = c.report.ensures.answer ∙ report_lower s a.capsules.now a.records.now k _ c.is_published-published.ensures; output = c.report.ensures.output ∙ report_output_lem s a.capsules.now a.records.now k _ c.is_published-published.ensures }
+    let k = sym c.is_empty.ensures ∙ c.if-is_empty.false in
+    record {
+      answer = c.report.ensures.answer ∙ report_lower s a.capsules.now a.records.now k _ c.is_published-published.ensures;
+      output = c.report.ensures.output ∙ report_output_lem s a.capsules.now a.records.now k _ c.is_published-published.ensures;
+    }

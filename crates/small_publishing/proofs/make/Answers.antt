@@ -1,10 +1,8 @@
 -- The first n and t numbers are those of the lent parts. Assumes nothing.
 use mathlib.Core.Path.{◌≡◌, sym, ap, ◌∙◌, subst}
 use mathlib.Core.Bool.{not}
-use Prim.Native.Nat.{ℕ, ◌-◌, ◌*◌, ◌≤◌}
+use Prim.Native.Nat.{ℕ, ◌*◌, ◌≤◌}
 use native.Mathlib.Omega.{arith}
-use borrow.Author.Rules.{rules}
-use borrow.Author.Tests.{not-true, not-false}
 use lib.ListN.{length, drop}
 use Rattle.bits.specs.Bits.{over}
 use Rattle.field.proofs.Verdicts.{refuses, accepts}
@@ -56,7 +54,12 @@ returns-then-not-make_rows c =
     let long = kept-sizes k f.0 in
     let made = c.make_rows in
     let key = key_of-kept k f.0 in
-    let rest : drop (k.m * k.t * step_of (k.m * k.t)) made.new.work ≡ drop (k.m * k.t * step_of (k.m * k.t)) a.work.now = rw long.1 at made.ensures.rest in record { answer = refuses (refused_by_lem (dependent (kept k)) (sym c.if-not-make_rows.true ∙ made.ensures.answer ∙ ap (λ x. not (dependent x)) key)); output = made.ensures.output ∙ ap (λ x. over (written (public_key x)) a.out.now) key; rest = subst (λ (x : ℕ). drop x made.new.work ≡ drop x a.work.now) (sym (small_is (kept k))) rest }
+    let rest : drop (k.m * k.t * step_of (k.m * k.t)) made.new.work ≡ drop (k.m * k.t * step_of (k.m * k.t)) a.work.now = rw long.1 at made.ensures.rest in
+    record {
+      answer = refuses (refused_by_lem (dependent (kept k)) (sym c.if-not-make_rows.true ∙ made.ensures.answer ∙ ap (λ x. not (dependent x)) key));
+      output = made.ensures.output ∙ ap (λ x. over (written (public_key x)) a.out.now) key;
+      rest = subst (λ (x : ℕ). drop x made.new.work ≡ drop x a.work.now) (sym (small_is (kept k))) rest;
+    }
 
 pub returns : goal.returns
 unfolding kept
@@ -68,4 +71,9 @@ returns c =
     let long = kept-sizes k f.0 in
     let made = c.make_rows in
     let key = key_of-kept k f.0 in
-    let rest : drop (k.m * k.t * step_of (k.m * k.t)) made.new.work ≡ drop (k.m * k.t * step_of (k.m * k.t)) a.work.now = rw long.1 at made.ensures.rest in record { answer = accepts (accepted_by (dependent (kept k)) (sym c.if-not-make_rows.false ∙ made.ensures.answer ∙ ap (λ x. not (dependent x)) key)); output = made.ensures.output ∙ ap (λ x. over (written (public_key x)) a.out.now) key; rest = subst (λ (x : ℕ). drop x made.new.work ≡ drop x a.work.now) (sym (small_is (kept k))) rest }
+    let rest : drop (k.m * k.t * step_of (k.m * k.t)) made.new.work ≡ drop (k.m * k.t * step_of (k.m * k.t)) a.work.now = rw long.1 at made.ensures.rest in
+    record {
+      answer = accepts (accepted_by (dependent (kept k)) (sym c.if-not-make_rows.false ∙ made.ensures.answer ∙ ap (λ x. not (dependent x)) key));
+      output = made.ensures.output ∙ ap (λ x. over (written (public_key x)) a.out.now) key;
+      rest = subst (λ (x : ℕ). drop x made.new.work ≡ drop x a.work.now) (sym (small_is (kept k))) rest;
+    }

@@ -1,12 +1,9 @@
 -- [A|I] reduced, and B times the other columns. Assumes nothing.
 use mathlib.Core.Path.{◌≡◌, refl, sym, ap, ap₂, ◌∙◌, subst}
 use mathlib.Core.List.{List, flat_map}
-use mathlib.Core.Option.{some}
 use Prim.Native.Nat.{ℕ, ◌+◌, ◌-◌, ◌*◌}
 use native.Mathlib.Nat.{zero-add}
 use native.Mathlib.Omega.{arith}
-use borrow.Author.Rules.{rules}
-use borrow.Author.Tests.{not-true, not-false}
 use lib.ListN.{length, get_or, take, drop, length-drop}
 use lib.Seq.{length-take-le}
 use Rattle.bits.specs.Bits.{from, bytes_for, pack, over}
@@ -83,7 +80,12 @@ returns-then-not-reduce c =
     let rest : drop (r * step_of r) w₁ ≡ drop (r * step_of r) w₀ = subst (λ (x : ℕ). drop (r * x) w₁ ≡ drop (r * x) w₀) e left.ensures.rest in
     let gone = c.reduce in
     let w₂ : List ℕ = gone.new.w in
-    let none-there = no_rows a.m s g r refl f.less w₁ w₂ columns (sym gone.ensures.answer ∙ c.if-not-reduce.true) in record { answer = no_answer_lem (key_of a.m s g) none-there; output = nothing_written (key_of a.m s g) none-there a.out.now; rest = subst (λ (x : ℕ). drop (r * x) w₂ ≡ drop (r * x) w₁) (sym (step_is r)) gone.ensures.rest ∙ rest }
+    let none-there = no_rows a.m s g r refl f.less w₁ w₂ columns (sym gone.ensures.answer ∙ c.if-not-reduce.true) in
+    record {
+      answer = no_answer_lem (key_of a.m s g) none-there;
+      output = nothing_written (key_of a.m s g) none-there a.out.now;
+      rest = subst (λ (x : ℕ). drop (r * x) w₂ ≡ drop (r * x) w₁) (sym (step_is r)) gone.ensures.rest ∙ rest;
+    }
 
 pub overflow_sub-support : goal.overflow_sub-support
 overflow_sub-support c =
@@ -159,4 +161,9 @@ returns c =
     (λ i x h l.
     done.ensures.inside i x h l
     ∙ ap (λ (p : List ℕ). get_or (pack (tail_row a.m p g r w₂ i)) x 0) (part_all r s) ∙ ap (λ (y : ℕ). get_or (row y) x 0) (sym (zero-add i)))
-    done.ensures.outside in record { answer = answered (key_of a.m s g) _ public; output = out ∙ ap (λ (l : List ℕ). over l a.out.now) (written_rows a.m s g r refl f.less w₁ w₂ columns public); rest = done.ensures.rest ∙ subst (λ (x : ℕ). drop (r * x) w₂ ≡ drop (r * x) w₁) (sym (step_is r)) gone.ensures.rest ∙ rest }
+    done.ensures.outside in
+    record {
+      answer = answered (key_of a.m s g) _ public;
+      output = out ∙ ap (λ (l : List ℕ). over l a.out.now) (written_rows a.m s g r refl f.less w₁ w₂ columns public);
+      rest = done.ensures.rest ∙ subst (λ (x : ℕ). drop (r * x) w₂ ≡ drop (r * x) w₁) (sym (step_is r)) gone.ensures.rest ∙ rest;
+    }

@@ -1,20 +1,12 @@
 -- The loop's invariant: the table of the first z rows. Assumes nothing.
-use mathlib.Core.Path.{◌≡◌, refl, sym, ap, ◌∙◌, subst}
-use mathlib.Core.List.{List, map}
-use Prim.Native.Nat.{ℕ, ◌+◌, ◌-◌, ◌*◌, ◌^◌, ◌≤◌}
-use native.Mathlib.Nat.{zero-mul}
-use native.Mathlib.Omega.{arith}
-use borrow.Author.Rules.{rules}
-use lib.ListN.{length, take, drop, length-drop}
-use lib.Seq.{length-take-le}
-use Rattle.bits.specs.Bits.{from, bytes_for, unpack}
-use Rattle.bits.proofs.Parts.{rows_in, next_row}
-use Rattle.bits.proofs.Pack.{unpack-take}
-use Rattle.bits.proofs.PutBits.{written_zeros}
+use mathlib.Core.Path.{◌≡◌}
+use mathlib.Core.List.{map}
+use Prim.Native.Nat.{◌-◌, ◌*◌, ◌^◌, ◌≤◌}
+use lib.ListN.{length}
+use Rattle.bits.specs.Bits.{from, bytes_for}
 use Rattle.code.specs.Lock.{rows_of}
 use Rattle.small_key.specs.Sums.{table_row}
 use Rattle.sum_tables.specs.Apart.{rows_apart}
-use Rattle.sum_tables.proofs.Doubling.{first-room, table_start, table_next, half_fits, half_next, half_room}
 use Rattle.sum_tables.proofs.table.Given as goal
 
 abbrev pub invariant-loop-z : goal.invariant-loop-z

@@ -1,13 +1,11 @@
 -- The loop's invariant: the first i positions are done. Assumes nothing.
-use mathlib.Core.Path.{◌≡◌, refl, ap, ◌∙◌}
+use mathlib.Core.Path.{◌≡◌}
 use mathlib.Core.List.{List}
 use Prim.Native.Nat.{ℕ, ◌+◌, ◌-◌, ◌^◌, ◌≤◌}
-use native.Mathlib.Omega.{arith}
-use lib.ListN.{length, get_or, set, length-set}
-use borrow.Author.Rules.{rules}
+use lib.ListN.{length}
 use Rattle.bits.specs.Bits.{bit_at}
 use Rattle.network.specs.Network.{exchange}
-use Rattle.switching.proofs.Places.{mapped_to, mapped_start, mapped_next, mapped_all}
+use Rattle.switching.proofs.Places.{mapped_to}
 use Rattle.switching.proofs.layer.Given as goal
 
 -- a position's source

@@ -1,12 +1,9 @@
 -- The loop's invariant: the first i places are numbered. Assumes nothing.
-use mathlib.Core.Path.{◌≡◌, refl, ap, ◌∙◌}
-use mathlib.Core.List.{List, ◌++◌}
-use Prim.Native.Nat.{ℕ, ◌-◌, ◌≤◌}
-use native.Mathlib.Omega.{arith}
-use lib.ListN.{length, drop, set, length-set}
-use borrow.Author.Rules.{rules}
+use mathlib.Core.Path.{◌≡◌}
+use mathlib.Core.List.{◌++◌}
+use Prim.Native.Nat.{◌-◌, ◌≤◌}
+use lib.ListN.{length, drop}
 use Rattle.bits.specs.Bits.{from}
-use Rattle.switching.proofs.Places.{numbered_start, numbered_next, numbered_all}
 use Rattle.switching.proofs.positions.Given as goal
 
 abbrev pub invariant-loop-i : goal.invariant-loop-i

@@ -1,13 +1,10 @@
 -- The loop's invariant: l layers are left. Assumes nothing.
-use mathlib.Core.Path.{◌≡◌, refl, ap, ap₂, ◌∙◌}
+use mathlib.Core.Path.{◌≡◌}
 use mathlib.Core.List.{List, map}
-use Prim.Native.Nat.{ℕ, ◌+◌, ◌-◌, ◌*◌, ◌^◌, ◌≤◌}
-use native.Mathlib.Omega.{arith}
+use Prim.Native.Nat.{ℕ, ◌+◌, ◌*◌, ◌^◌, ◌≤◌}
 use lib.ListN.{length}
-use borrow.Author.Rules.{rules}
 use Rattle.bits.specs.Bits.{bit_at}
-use Rattle.network.specs.Network.{exchange, sent, network}
-use Rattle.switching.proofs.Back.{next_left, none_left, base_shifted, base_small}
+use Rattle.network.specs.Network.{sent, network}
 use Rattle.switching.proofs.send.Given as goal
 
 -- the settings

@@ -1,18 +1,12 @@
 -- The loop's invariant: the first k sums, and the powers k. Assumes nothing.
-use mathlib.Core.Path.{◌≡◌, refl, sym, ap, ap₂, ◌∙◌}
-use mathlib.Core.List.{List, map}
-use Prim.Native.Nat.{ℕ, ◌-◌, ◌*◌, ◌≤◌, ◌<◌}
-use native.Mathlib.Omega.{arith}
-use borrow.Author.Rules.{rules}
-use lib.ListN.{length, take, set, length-set}
+use mathlib.Core.Path.{◌≡◌}
+use mathlib.Core.List.{map}
+use Prim.Native.Nat.{◌-◌, ◌*◌, ◌≤◌, ◌<◌}
+use lib.ListN.{length, take}
 use Rattle.bits.specs.Bits.{padded}
-use Rattle.bits.proofs.Padded.{padded-start, padded-next}
 use Rattle.field.specs.Answers.{inverse_number}
-use Rattle.field.proofs.Verdicts.{accepts, verdict_accepted}
 use Rattle.key.specs.Keys.{goppa_at, key_of}
-use Rattle.decoding.proofs.Divisors.{sums_refused, sums_accepted}
-use Rattle.bench_calls.specs.Weights.{sum_by_squares}
-use Rattle.bench_calls.proofs.Powers.{powers, powers_start, powers_next, sums, length_all, sum-at, sums_all_lem, values_units, squares_verdict, squares_value}
+use Rattle.bench_calls.proofs.Powers.{powers, sums}
 use Rattle.bench_calls.proofs.sums.each_sum.Given as goal
 
 abbrev pub invariant-loop-k : goal.invariant-loop-k

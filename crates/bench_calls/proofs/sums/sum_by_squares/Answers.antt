@@ -2,7 +2,6 @@
 use mathlib.Core.Path.{ap, ◌∙◌}
 use mathlib.Core.List.{List}
 use Prim.Native.Nat.{ℕ}
-use borrow.Author.Rules.{rules}
 use Rattle.field.specs.Poly.{horner_each}
 use Rattle.field.proofs.Verdicts.{verdict_accepted}
 use Rattle.field.proofs.Units.{inverses_given}

@@ -6,7 +6,7 @@ use Rattle.decoding.proofs.decoding.word_points.Goals as goal
 
 pub returns-then-support-gt-MOST_PLACES : goal.returns-then-support-gt-MOST_PLACES
 unfolding points_of
-returns-then-support-gt-MOST_PLACES c = rw (lt-leb _ _ c.if-support-gt-MOST_PLACES.true) (refl, refl)
+returns-then-support-gt-MOST_PLACES c = rw (lt-leb _ _ c.if-support-gt-MOST_PLACES.true) (record { all = refl; number = refl })
 
 pub chosen-requires : goal.chosen-requires
 chosen-requires c = c.if-support-gt-MOST_PLACES.false

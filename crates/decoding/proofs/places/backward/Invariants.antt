@@ -1,15 +1,9 @@
 -- The loop's invariant: the first i coefficients are written. Assumes nothing.
-use mathlib.Core.Path.{◌≡◌, refl, sym, ap, ap₂, ◌∙◌}
-use mathlib.Core.List.{List}
-use Prim.Native.Nat.{ℕ, ◌-◌, ◌≤◌}
-use native.Mathlib.Omega.{arith}
-use borrow.Author.Rules.{rules}
-use lib.ListN.{length, take, set, length-set}
-use lib.Seq.{take_all}
+use mathlib.Core.Path.{◌≡◌}
+use Prim.Native.Nat.{◌-◌, ◌≤◌}
+use lib.ListN.{length, take}
 use Rattle.bits.specs.Bits.{padded}
 use Rattle.decoder.specs.Decoding.{backward}
-use Rattle.bits.proofs.Padded.{padded-start, padded-next}
-use Rattle.decoding.proofs.Located.{length-backward, backward-at}
 use Rattle.decoding.proofs.places.backward.Given as goal
 
 abbrev pub invariant-loop-i : goal.invariant-loop-i

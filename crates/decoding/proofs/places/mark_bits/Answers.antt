@@ -1,9 +1,8 @@
 -- The loop's invariant: the marks from i on are left to write. Assumes nothing.
 use mathlib.Core.Path.{◌≡◌, refl, sym, ap, ◌∙◌}
 use mathlib.Core.List.{List, map}
-use Prim.Native.Nat.{ℕ, ◌+◌, ◌-◌, ◌≤◌}
+use Prim.Native.Nat.{ℕ, ◌+◌}
 use native.Mathlib.Omega.{arith}
-use borrow.Author.Rules.{rules}
 use lib.ListN.{length, drop, length-map}
 use Rattle.bits.specs.Bits.{set_bit, put_bits}
 use Rattle.bits.proofs.Lists.{map_at}

@@ -1,13 +1,9 @@
 -- The loop's invariant: the marks from i on are left to write. Assumes nothing.
-use mathlib.Core.Path.{◌≡◌, refl, sym, ap, ◌∙◌}
-use mathlib.Core.List.{List, map}
-use Prim.Native.Nat.{ℕ, ◌+◌, ◌-◌, ◌≤◌}
-use native.Mathlib.Omega.{arith}
-use borrow.Author.Rules.{rules}
-use lib.ListN.{length, drop, length-map}
-use Rattle.bits.specs.Bits.{set_bit, put_bits}
-use Rattle.bits.proofs.Lists.{map_at}
-use Rattle.bits.proofs.PutBits.{put_next, put_end, length-put_bits}
+use mathlib.Core.Path.{◌≡◌}
+use mathlib.Core.List.{map}
+use Prim.Native.Nat.{◌-◌, ◌≤◌}
+use lib.ListN.{length, drop}
+use Rattle.bits.specs.Bits.{put_bits}
 use Rattle.decoding.specs.Parts.{mark}
 use Rattle.decoding.proofs.places.mark_bits.Given as goal
 

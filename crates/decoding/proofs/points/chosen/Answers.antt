@@ -1,8 +1,7 @@
 -- The loop's invariant: the points found so far, with those of the places from i on, are all. Assumes nothing.
 use mathlib.Core.Path.{◌≡◌, sym, ap, ◌∙◌}
-use Prim.Native.Nat.{ℕ, ◌+◌, ◌-◌, ◌≤◌, ◌<◌}
+use Prim.Native.Nat.{ℕ, ◌+◌, ◌<◌}
 use native.Mathlib.Omega.{arith}
-use borrow.Author.Rules.{rules}
 use lib.ListN.{length, get_or, take, set, length-set, length-replicate}
 use lib.Seq.{length-take-le}
 use Rattle.bits.specs.Bits.{unpack}

@@ -1,10 +1,6 @@
 -- The loop's invariant: the places from i on decide. Assumes nothing.
-use mathlib.Core.Path.{◌≡◌, refl, ◌∙◌}
-use Prim.Native.Nat.{◌-◌}
+use mathlib.Core.Path.{refl, ◌∙◌}
 use native.Mathlib.Omega.{arith}
-use borrow.Author.Rules.{rules}
-use lib.ListN.{length, drop}
-use Rattle.poly.specs.Polynomials.{same}
 use Rattle.decoding.proofs.Scan.{same_next, same_stop, same_end}
 use Rattle.decoding.proofs.sums.same.Goals as goal
 

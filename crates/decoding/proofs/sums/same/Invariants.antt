@@ -1,11 +1,8 @@
 -- The loop's invariant: the places from i on decide. Assumes nothing.
-use mathlib.Core.Path.{◌≡◌, refl, ◌∙◌}
+use mathlib.Core.Path.{◌≡◌}
 use Prim.Native.Nat.{◌-◌}
-use native.Mathlib.Omega.{arith}
-use borrow.Author.Rules.{rules}
 use lib.ListN.{length, drop}
 use Rattle.poly.specs.Polynomials.{same}
-use Rattle.decoding.proofs.Scan.{same_next, same_stop, same_end}
 use Rattle.decoding.proofs.sums.same.Given as goal
 
 abbrev pub invariant-loop-i : goal.invariant-loop-i

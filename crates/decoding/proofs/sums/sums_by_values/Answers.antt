@@ -1,7 +1,6 @@
 -- The inverses of g's values, squared, are the weights. Assumes nothing.
 use mathlib.Core.Path.{ap, ◌∙◌}
 use mathlib.Core.List.{map}
-use borrow.Author.Rules.{rules}
 use Rattle.field.specs.Field.{inv}
 use Rattle.field.proofs.Verdicts.{verdict_accepted}
 use Rattle.field.proofs.Units.{inverses_given}

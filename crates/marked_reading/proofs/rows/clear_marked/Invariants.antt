@@ -1,14 +1,8 @@
 -- The loop's invariant: the bits that the first i bytes of the marks name are 0. Assumes nothing.
-use mathlib.Core.Path.{◌≡◌, refl, sym, ap, ◌∙◌}
-use mathlib.Core.List.{List}
-use Prim.Native.Nat.{ℕ, ◌-◌, ◌≤◌}
-use native.Mathlib.Omega.{arith}
-use native.Mathlib.Numerals.{add-one}
-use borrow.Author.Rules.{rules}
-use lib.ListN.{length, get_or, take, set, length-set}
-use Rattle.bits.specs.Xor.{◌⊕◌}
-use Rattle.bits.proofs.Each.{each_with-nil, each_with-suc, each_with-take}
-use Rattle.marked_reading.specs.Parts.{steady_byte, cleared}
+use mathlib.Core.Path.{◌≡◌}
+use Prim.Native.Nat.{◌-◌, ◌≤◌}
+use lib.ListN.{length, take}
+use Rattle.marked_reading.specs.Parts.{cleared}
 use Rattle.marked_reading.proofs.rows.clear_marked.Given as goal
 
 abbrev pub invariant-loop-i : goal.invariant-loop-i

@@ -1,6 +1,5 @@
 -- The weight of the cleared copy. Assumes nothing.
 use mathlib.Core.Path.{ap, ◌∙◌}
-use borrow.Author.Rules.{rules}
 use Rattle.bits.specs.Bits.{ones, weight}
 use Rattle.marks.specs.Marked.{differences}
 use Rattle.marked_reading.proofs.Cleared.{unpack-cleared}

@@ -2,7 +2,6 @@
 use mathlib.Core.Path.{ap, ◌∙◌}
 use mathlib.Core.List.{List}
 use Prim.Native.Nat.{ℕ}
-use borrow.Author.Rules.{rules}
 use Rattle.bits.specs.Bits.{xor_row}
 use Rattle.marked_reading.specs.Parts.{cleared, filled_row}
 use Rattle.marked_reading.proofs.rows.with_marked.Goals as goal

@@ -3,7 +3,6 @@ use mathlib.Core.Path.{ap, ◌∙◌}
 use mathlib.Core.List.{List}
 use Prim.Native.Nat.{ℕ, ◌+◌, ◌*◌, ◌≤◌}
 use native.Mathlib.Omega.{arith}
-use borrow.Author.Rules.{rules}
 use borrow.Author.Tests.{not-true, not-false}
 use mir.Val.{Fits}
 use mir.Syntax.{w16, w64}
@@ -12,7 +11,7 @@ use Rattle.marked_reading.proofs.Readings.{differences-le, marks_le, differences
 use Rattle.marked_reading.proofs.tries.as_differences.Goals as goal
 
 pub returns-then-not-e : goal.returns-then-not-e
-returns-then-not-e c = differences_none _ _ _ _ _ _ c.if-not-e.true
+returns-then-not-e c = differences_none _ _ _ _ _ _ (not-true _ c.if-not-e.true)
 
 pub overflow_mul-d : goal.overflow_mul-d
 overflow_mul-d c =
@@ -32,7 +31,7 @@ returns-then-t-d c =
     let a = c.args in
     let p = c.xor_row-2.ensures ∙ ap (λ (p : List ℕ). xor_row p a.word.now) c.xor_row.ensures in
     c.nothing.ensures
-    ∙ differences_many _ _ a.filled.now a.word.now _ a.e c.if-not-e.false
+    ∙ differences_many _ _ a.filled.now a.word.now _ a.e (not-false _ c.if-not-e.false)
     p c.differences-d.ensures c.weight-s.ensures c.if-t-d.true
 
 pub overflow_cast-ones : goal.overflow_cast-ones
@@ -45,5 +44,5 @@ pub returns : goal.returns
 returns c =
     let a = c.args in
     let p = c.xor_row-2.ensures ∙ ap (λ (p : List ℕ). xor_row p a.word.now) c.xor_row.ensures in
-    differences_few _ _ a.filled.now a.word.now _ a.e c.if-not-e.false
+    differences_few _ _ a.filled.now a.word.now _ a.e (not-false _ c.if-not-e.false)
     p c.differences-d.ensures c.weight-s.ensures c.if-t-d.false

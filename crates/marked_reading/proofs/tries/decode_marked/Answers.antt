@@ -1,6 +1,5 @@
 -- The first try, or the other. Assumes nothing.
 use mathlib.Core.Path.{◌∙◌}
-use borrow.Author.Rules.{rules}
 use Rattle.key.specs.Kept.{kept, parts}
 use Rattle.marked_reading.proofs.Readings.{first_refused, first_found_lem, other_found}
 use Rattle.marked_reading.proofs.tries.decode_marked.Goals as goal

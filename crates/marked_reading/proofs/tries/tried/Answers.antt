@@ -1,6 +1,5 @@
 -- The word filled, decoded, then the differences. Assumes nothing.
 use mathlib.Core.Path.{◌∙◌}
-use borrow.Author.Rules.{rules}
 use Rattle.key.specs.Kept.{parts}
 use Rattle.marked_reading.proofs.Readings.{try_found_lem}
 use Rattle.marked_reading.proofs.tries.tried.Goals as goal

@@ -1,7 +1,7 @@
 -- The loop's invariant: the first i numbers, and zeros behind them. Assumes nothing.
 use mathlib.Core.Path.{◌≡◌, ap, ◌∙◌}
 use mathlib.Core.List.{List}
-use Prim.Native.Nat.{ℕ, ◌-◌, ◌≤◌}
+use Prim.Native.Nat.{ℕ}
 use native.Mathlib.Omega.{arith}
 use lib.ListN.{length, take, get_or, set}
 use borrow.Author.Rules.{rules}

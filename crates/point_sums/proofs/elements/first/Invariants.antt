@@ -1,12 +1,8 @@
 -- The loop's invariant: the first i numbers, and zeros behind them. Assumes nothing.
-use mathlib.Core.Path.{◌≡◌, ap, ◌∙◌}
-use mathlib.Core.List.{List}
-use Prim.Native.Nat.{ℕ, ◌-◌, ◌≤◌}
-use native.Mathlib.Omega.{arith}
-use lib.ListN.{length, take, get_or, set}
-use borrow.Author.Rules.{rules}
+use mathlib.Core.Path.{◌≡◌}
+use Prim.Native.Nat.{◌-◌, ◌≤◌}
+use lib.ListN.{take}
 use Rattle.bits.specs.Bits.{padded}
-use Rattle.bits.proofs.Padded.{padded-start, padded-next}
 use Rattle.point_sums.proofs.elements.first.Given as goal
 
 abbrev pub invariant-loop-i : goal.invariant-loop-i

@@ -1,6 +1,5 @@
 -- The first k of the sums over all elements, by the scattered weights. Assumes nothing.
 use mathlib.Core.Path.{ap, ◌∙◌}
-use borrow.Author.Rules.{rules}
 use Rattle.bits.specs.Bits.{padded}
 use Rattle.point_sums.proofs.Scattered.{scattered_sums}
 use Rattle.point_sums.proofs.elements.over_elements.Goals as goal

@@ -1,14 +1,12 @@
 -- The loop's invariant: with the weights from i on added, d is the whole. Assumes nothing.
-use mathlib.Core.Path.{◌≡◌, sym, ◌∙◌}
-use Prim.Native.Nat.{ℕ, ◌-◌, ◌≤◌}
+use mathlib.Core.Path.{sym, ◌∙◌}
+use Prim.Native.Nat.{ℕ}
 use native.Mathlib.Omega.{arith}
-use lib.ListN.{length, drop, get_or, length-set, length-replicate}
+use lib.ListN.{get_or, length-set, length-replicate}
 use lib.Pow.{pow_pos}
-use borrow.Author.Rules.{rules}
 use Rattle.bits.specs.Xor.{◌⊕◌}
 use Rattle.field.proofs.Machine.{one_shl, low-digits}
 use Rattle.field.proofs.Table.{width_narrow}
-use Rattle.point_sums.specs.Parts.{added_at, scattered}
 use Rattle.point_sums.proofs.Scattered.{place-lt, added-start, added_next, added_all}
 use Rattle.point_sums.proofs.elements.scatter.Goals as goal
 

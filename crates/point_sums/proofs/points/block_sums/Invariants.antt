@@ -1,13 +1,8 @@
 -- The loop's invariant: the first j sums are added, and p has the terms of the sum j. Assumes nothing.
-use mathlib.Core.Path.{◌≡◌, refl, ap, ◌∙◌}
-use Prim.Native.Nat.{◌-◌, ◌≤◌, ◌<◌}
-use native.Mathlib.Omega.{arith}
-use lib.ListN.{length, length-set}
-use borrow.Author.Rules.{rules}
-use Rattle.bits.specs.Xor.{◌⊕◌}
-use Rattle.field.specs.PointTable.{combine_each}
-use Rattle.poly.specs.Polynomials.{sum}
-use Rattle.point_sums.proofs.Blocks.{terms, terms_start, terms_total, terms_next, added_to, added-start, added_next, added_all}
+use mathlib.Core.Path.{◌≡◌}
+use Prim.Native.Nat.{◌-◌, ◌≤◌}
+use lib.ListN.{length}
+use Rattle.point_sums.proofs.Blocks.{terms, added_to}
 use Rattle.point_sums.proofs.points.block_sums.Given as goal
 
 abbrev pub invariant-loop-j : goal.invariant-loop-j

@@ -1,12 +1,11 @@
 -- The loop's invariant: the low digits of the first i numbers, and zeros behind them. Assumes nothing.
-use mathlib.Core.Path.{◌≡◌, sym, ap, ap₂, ◌∙◌}
+use mathlib.Core.Path.{sym, ap, ap₂, ◌∙◌}
 use mathlib.Core.List.{List, map}
-use Prim.Native.Nat.{ℕ, ◌-◌, ◌%◌, ◌^◌, ◌≤◌}
+use Prim.Native.Nat.{ℕ, ◌%◌, ◌^◌}
 use native.Mathlib.Omega.{arith}
-use lib.ListN.{length, take, get_or, set, length-map}
+use lib.ListN.{get_or, set, length-map}
 use lib.Pow.{pow_pos}
 use lib.Seq.{take_all}
-use borrow.Author.Rules.{rules}
 use Rattle.bits.specs.Bits.{padded}
 use Rattle.bits.proofs.Lists.{map_at}
 use Rattle.bits.proofs.Padded.{padded-start, padded-next}

@@ -1,12 +1,10 @@
 -- The loop's invariant: the sums over the first points, up to `at`. Assumes nothing.
 use mathlib.Core.Path.{◌≡◌, sym, ap, ◌∙◌}
-use Prim.Native.Nat.{ℕ, ◌+◌, ◌-◌, ◌≤◌}
+use Prim.Native.Nat.{ℕ, ◌+◌, ◌-◌}
 use native.Mathlib.Omega.{arith}
-use lib.ListN.{length, take, length-replicate}
+use lib.ListN.{length, length-replicate}
 use borrow.Rule.Slice.PartMut.{mid_of, mid_len}
-use borrow.Author.Rules.{rules}
 use Rattle.bits.specs.Bits.{padded}
-use Rattle.point_sums.specs.Weighted.{weighted_sums}
 use Rattle.point_sums.proofs.Weighted.{sums_none, sums_block, sums_all_lem}
 use Rattle.point_sums.proofs.points.over_points.Goals as goal
 

@@ -1,13 +1,9 @@
 -- The loop's invariant: the sums over the first points, up to `at`. Assumes nothing.
-use mathlib.Core.Path.{◌≡◌, sym, ap, ◌∙◌}
-use Prim.Native.Nat.{ℕ, ◌+◌, ◌-◌, ◌≤◌}
-use native.Mathlib.Omega.{arith}
-use lib.ListN.{length, take, length-replicate}
-use borrow.Rule.Slice.PartMut.{mid_of, mid_len}
-use borrow.Author.Rules.{rules}
+use mathlib.Core.Path.{◌≡◌}
+use Prim.Native.Nat.{◌-◌, ◌≤◌}
+use lib.ListN.{length, take}
 use Rattle.bits.specs.Bits.{padded}
 use Rattle.point_sums.specs.Weighted.{weighted_sums}
-use Rattle.point_sums.proofs.Weighted.{sums_none, sums_block, sums_all_lem}
 use Rattle.point_sums.proofs.points.over_points.Given as goal
 
 abbrev pub invariant-loop-at : goal.invariant-loop-at

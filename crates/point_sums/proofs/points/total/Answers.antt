@@ -1,12 +1,8 @@
 -- The loop's invariant: d, with the numbers from i on, is the whole sum. Assumes nothing.
-use mathlib.Core.Path.{◌≡◌, sym, ◌∙◌}
-use Prim.Native.Nat.{◌-◌, ◌≤◌}
+use mathlib.Core.Path.{sym, ◌∙◌}
 use native.Mathlib.Omega.{arith}
-use lib.ListN.{length}
-use borrow.Author.Rules.{rules}
 use Rattle.bits.specs.Xor.{◌⊕◌}
-use Rattle.poly.specs.Polynomials.{sum}
-use Rattle.point_sums.proofs.Blocks.{rest, rest_start, rest_next, rest_end}
+use Rattle.point_sums.proofs.Blocks.{rest_start, rest_next, rest_end}
 use Rattle.point_sums.proofs.points.total.Goals as goal
 
 pub loop-i-init : goal.loop-i-init

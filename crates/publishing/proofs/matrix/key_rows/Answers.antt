@@ -42,6 +42,8 @@ returns c =
     let lg : length a.g.now ≡ 128 = search rules in
     let s = length-take-le a.n a.support.now (omega arith) in
     let g = length-take-le a.t a.g.now (omega arith) in
-    let q = c.support_rows in record { rows = ap₂ (λ (t n : ℕ). rows_of (a.m * t) n q.new.work) (sym g) (sym s) ∙ q.ensures.rows; rest = ap₂ (λ (t n : ℕ). drop (a.m * t * bytes_for n) q.new.work) (sym g) (sym s)
-          ∙ q.ensures.rest
-          ∙ ap₂ (λ (t n : ℕ). drop (a.m * t * bytes_for n) a.work.now) g s }
+    let q = c.support_rows in
+    record {
+      rows = ap₂ (λ (t n : ℕ). rows_of (a.m * t) n q.new.work) (sym g) (sym s) ∙ q.ensures.rows;
+      rest = ap₂ (λ (t n : ℕ). drop (a.m * t * bytes_for n) q.new.work) (sym g) (sym s) ∙ q.ensures.rest ∙ ap₂ (λ (t n : ℕ). drop (a.m * t * bytes_for n) a.work.now) g s;
+    }

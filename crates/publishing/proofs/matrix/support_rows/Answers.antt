@@ -1,15 +1,13 @@
 -- Rows that lie one directly behind another are the first bits of rows of whole bytes. Assumes nothing.
 use mathlib.Core.Path.{◌≡◌, sym, ap, ◌∙◌}
-use mathlib.Core.List.{List, map}
-use Prim.Native.Nat.{ℕ, ◌*◌, ◌≤◌}
+use mathlib.Core.List.{map}
+use Prim.Native.Nat.{ℕ, ◌*◌}
 use native.Mathlib.Omega.{arith}
-use borrow.Author.Rules.{rules}
 use lib.ListN.{length, take, drop}
 use Rattle.bits.specs.Bits.{bytes_for}
 use Rattle.bits.proofs.Parts.{row_size}
 use Rattle.poly.proofs.AtPoints.{length_values}
 use Rattle.key.proofs.Values.{values_goppa}
-use Rattle.code.specs.PublicKey.{Matrix}
 use Rattle.code.specs.Lock.{rows_of}
 use Rattle.code.proofs.PackedRows.{rows_take, length_rows}
 use Rattle.parity.proofs.Entries.{parity_front}
@@ -38,7 +36,8 @@ returns c =
     let a = c.args in
     let n : ℕ = length a.support.now in
     let rows : ℕ = a.m * length a.g.now in
-    let size : c.bytes_for-size.result ≡ bytes_for n = c.bytes_for-size.ensures in record { rows = rows_take rows n q.new.work
-          ∙ ap (λ (k : ℕ). map (take n) (rows_of rows (8 * k) q.new.work)) (sym size)
-          ∙ ap (map (take n)) q.ensures.rows
-          ∙ parity_front a.m c.requires.0 a.support.now a.g.now _ (length_rows rows _ _); rest = ap (λ (k : ℕ). drop (rows * k) q.new.work) (sym size) ∙ q.ensures.rest ∙ ap (λ (k : ℕ). drop (rows * k) a.work.now) size }
+    let size : c.bytes_for-size.result ≡ bytes_for n = c.bytes_for-size.ensures in
+    record {
+      rows = rows_take rows n q.new.work ∙ ap (λ (k : ℕ). map (take n) (rows_of rows (8 * k) q.new.work)) (sym size) ∙ ap (map (take n)) q.ensures.rows ∙ parity_front a.m c.requires.0 a.support.now a.g.now _ (length_rows rows _ _);
+      rest = ap (λ (k : ℕ). drop (rows * k) q.new.work) (sym size) ∙ q.ensures.rest ∙ ap (λ (k : ℕ). drop (rows * k) a.work.now) size;
+    }

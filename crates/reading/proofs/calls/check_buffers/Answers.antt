@@ -1,7 +1,6 @@
 -- The row, then the output. Assumes nothing.
 use mathlib.Core.Path.{ap, ◌∙◌}
 use native.Mathlib.Omega.{arith}
-use borrow.Author.Rules.{rules}
 use Rattle.field.specs.Verdicts.{verdict_of}
 use Rattle.field.proofs.Verdicts.{refuses, verdict_accepted, verdict_refused}
 use Rattle.reading.proofs.Refusals.{wrong_row, short_output, buffers_right}

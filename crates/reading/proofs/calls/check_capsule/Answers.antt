@@ -1,7 +1,6 @@
 -- The key and the mark, then the buffers. Assumes nothing.
 use Prim.Native.Nat.{ℕ}
 use mathlib.Core.Path.{ap, ◌∙◌}
-use borrow.Author.Rules.{rules}
 use Rattle.field.specs.Numbers.{first_of}
 use Rattle.field.specs.Verdicts.{verdict_of}
 use Rattle.field.proofs.Verdicts.{verdict_accepted, verdict_refused}

@@ -1,6 +1,5 @@
 -- The two tests in order. Assumes nothing.
 use mathlib.Core.Path.{sym, ◌∙◌}
-use borrow.Author.Rules.{rules}
 use Rattle.field.proofs.Verdicts.{refuses, accepts}
 use Rattle.key.proofs.Order.{failed, passed}
 use Rattle.reading.proofs.Refusals.{wrong_length_lem, wrong_filler, row_right}

@@ -1,7 +1,6 @@
 -- The checks, the opening, then the output. Assumes nothing.
 use mathlib.Core.Path.{◌∙◌}
 use mathlib.Core.Bool.{not}
-use borrow.Author.Rules.{rules}
 use Rattle.field.proofs.Verdicts.{verdict_accepted, verdict_taken}
 use Rattle.key.specs.Kept.{parts}
 use Rattle.reading.proofs.Answered.{open_refusal, open_given}

@@ -1,7 +1,6 @@
 -- A refusal, else what is found, where it has t ones. Assumes nothing.
 use mathlib.Core.Path.{◌∙◌}
 use native.Mathlib.Omega.{arith}
-use borrow.Author.Rules.{rules}
 use Rattle.reading.proofs.Answered.{exactly_refused, exactly_other, exactly-found}
 use Rattle.reading.proofs.calls.open_checked.Goals as goal
 

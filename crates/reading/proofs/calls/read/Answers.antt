@@ -1,6 +1,5 @@
 -- The checks, the reading, then the output. Assumes nothing.
 use mathlib.Core.Path.{◌∙◌}
-use borrow.Author.Rules.{rules}
 use Rattle.field.proofs.Verdicts.{verdict_accepted, verdict_taken}
 use Rattle.key.specs.Kept.{parts}
 use Rattle.reading.proofs.Answered.{read_refusal, read_given}

@@ -1,6 +1,5 @@
 -- `register::Registered::of` meets its contract. Assumes nothing.
 use mathlib.Core.Path.{◌∙◌}
-use borrow.Author.Rules.{rules}
 use Rattle.field.proofs.Verdicts.{verdict_accepted, verdict_taken}
 use Rattle.poly.proofs.Answers.{accepted}
 use Rattle.register.proofs.Answers.{refused, answered}

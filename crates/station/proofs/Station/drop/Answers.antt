@@ -1,7 +1,5 @@
 -- The name, then the slot's call. Assumes nothing.
 use mathlib.Core.Path.{sym, ap, ◌∙◌}
-use borrow.Author.Rules.{rules}
-use borrow.Author.Tests.{not-true, not-false}
 use Rattle.ledger.specs.Calls.{drop_key}
 use Rattle.station.specs.declared.Station.{Station}
 use Rattle.station.proofs.Picked.{slot_state}

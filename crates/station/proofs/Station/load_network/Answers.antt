@@ -1,7 +1,5 @@
 -- The name, then the slot's call, then the key in its place. Assumes nothing.
 use mathlib.Core.Path.{sym, ap, ◌∙◌}
-use borrow.Author.Rules.{rules}
-use borrow.Author.Tests.{not-true, not-false}
 use Rattle.ledger.specs.Loading.{network_file}
 use Rattle.ledger.specs.Calls.{load}
 use Rattle.loading.specs.Forms.{loading_of}

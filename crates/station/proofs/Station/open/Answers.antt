@@ -1,7 +1,5 @@
 -- The name, then the slot's call. Assumes nothing.
 use mathlib.Core.Path.{sym, ap, ◌∙◌}
-use borrow.Author.Rules.{rules}
-use borrow.Author.Tests.{not-true, not-false}
 use Rattle.ledger.specs.Questions.{open_capsule, answer_buffer}
 use Rattle.ledger.specs.Calls.{ask, output_of}
 use Rattle.slot.specs.Replies.{Handed, handed}
@@ -25,8 +23,11 @@ returns-in_default c =
     let k = sym c.is_name.ensures ∙ c.if-not-is_name.false in
     let t = slot_parts a.name a.self c.byte.ensures c.byte-2.ensures c.number.ensures c.number-2.ensures c.places.ensures c.coefficients.ensures in
     let q = open_capsule a.capsule.now a.out.now in
-    let h = ap (λ (s : Slot). handed s (ask q)) t in record { reply = c.refuse-in_default.ensures
-          ∙ answer_refused a.self a.name q k (o.«open».ensures.0 ∙ ap answered_of h) c.answer_number.ensures c.in_default.is; output = o.«open».ensures.1 ∙ ap (λ (r : Handed). r.output) h ∙ output_known a.self a.name (ask q) k }
+    let h = ap (λ (s : Slot). handed s (ask q)) t in record {
+      reply = c.refuse-in_default.ensures
+          ∙ answer_refused a.self a.name q k (c.open-answer.ensures.answer ∙ ap answered_of h) c.answer_number.ensures c.in_default.is;
+      output = c.open-answer.ensures.output ∙ ap (λ (r : Handed). r.output) h ∙ output_known a.self a.name (ask q) k;
+    }
 
 pub returns : goal.returns
 returns c =
@@ -34,4 +35,8 @@ returns c =
     let k = sym c.is_name.ensures ∙ c.if-not-is_name.false in
     let t = slot_parts a.name a.self c.byte.ensures c.byte-2.ensures c.number.ensures c.number-2.ensures c.places.ensures c.coefficients.ensures in
     let q = open_capsule a.capsule.now a.out.now in
-    let h = ap (λ (s : Slot). handed s (ask q)) t in record { reply = answer-ones a.self a.name q k (o.«open».ensures.0 ∙ ap answered_of h) c.in-Ones.is; output = o.«open».ensures.1 ∙ ap (λ (r : Handed). r.output) h ∙ output_known a.self a.name (ask q) k }
+    let h = ap (λ (s : Slot). handed s (ask q)) t in
+    record {
+      reply = answer-ones a.self a.name q k (c.open-answer.ensures.answer ∙ ap answered_of h) c.in-Ones.is;
+      output = c.open-answer.ensures.output ∙ ap (λ (r : Handed). r.output) h ∙ output_known a.self a.name (ask q) k;
+    }

@@ -1,7 +1,5 @@
 -- The name, then the slot's call. Assumes nothing.
 use mathlib.Core.Path.{refl, sym, ap, ◌∙◌}
-use borrow.Author.Rules.{rules}
-use borrow.Author.Tests.{not-true, not-false}
 use Rattle.ledger.specs.Publishing.{small, public_buffer}
 use Rattle.ledger.specs.Calls.{publish, output_of}
 use Rattle.field.specs.Verdicts.{verdict_of}
@@ -26,7 +24,12 @@ returns-in_default c =
     let t = slot_parts a.name a.self c.byte.ensures c.byte-2.ensures c.number.ensures c.number-2.ensures c.places.ensures c.coefficients.ensures in
     let p = small a.out.now a.work.now in
     let h = ap (λ (s : Slot). handed s (publish p)) t in
-    let v = c.publish_small-answer.ensures.answer ∙ ap (λ (r : Handed). verdict_of r.reply.refused) h in record { reply = c.refuse-in_default.ensures ∙ publish_refused a.self a.name p k v c.number-in_default.ensures c.in_default.is; output = c.publish_small-answer.ensures.output ∙ ap (λ (r : Handed). r.output) h ∙ output_known a.self a.name (publish p) k; workspace = same_rest _ _ (ap (λ (r : Handed). r.free) h ∙ free_known a.self a.name (publish p) k) c.publish_small-answer.ensures.workspace }
+    let v = c.publish_small-answer.ensures.answer ∙ ap (λ (r : Handed). verdict_of r.reply.refused) h in
+    record {
+      reply = c.refuse-in_default.ensures ∙ publish_refused a.self a.name p k v c.number-in_default.ensures c.in_default.is;
+      output = c.publish_small-answer.ensures.output ∙ ap (λ (r : Handed). r.output) h ∙ output_known a.self a.name (publish p) k;
+      workspace = same_rest _ _ (ap (λ (r : Handed). r.free) h ∙ free_known a.self a.name (publish p) k) c.publish_small-answer.ensures.workspace;
+    }
 
 pub returns : goal.returns
 returns c =
@@ -35,4 +38,9 @@ returns c =
     let t = slot_parts a.name a.self c.byte.ensures c.byte-2.ensures c.number.ensures c.number-2.ensures c.places.ensures c.coefficients.ensures in
     let p = small a.out.now a.work.now in
     let h = ap (λ (s : Slot). handed s (publish p)) t in
-    let v = c.publish_small-answer.ensures.answer ∙ ap (λ (r : Handed). verdict_of r.reply.refused) h in record { reply = c.mark.ensures ∙ publish_marked a.self a.name p k v c.in-Accepted.is; output = c.publish_small-answer.ensures.output ∙ ap (λ (r : Handed). r.output) h ∙ output_known a.self a.name (publish p) k; workspace = same_rest _ _ (ap (λ (r : Handed). r.free) h ∙ free_known a.self a.name (publish p) k) c.publish_small-answer.ensures.workspace }
+    let v = c.publish_small-answer.ensures.answer ∙ ap (λ (r : Handed). verdict_of r.reply.refused) h in
+    record {
+      reply = c.mark.ensures ∙ publish_marked a.self a.name p k v c.in-Accepted.is;
+      output = c.publish_small-answer.ensures.output ∙ ap (λ (r : Handed). r.output) h ∙ output_known a.self a.name (publish p) k;
+      workspace = same_rest _ _ (ap (λ (r : Handed). r.free) h ∙ free_known a.self a.name (publish p) k) c.publish_small-answer.ensures.workspace;
+    }

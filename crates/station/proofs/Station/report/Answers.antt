@@ -1,7 +1,5 @@
 -- The name, then the slot's call. Assumes nothing.
 use mathlib.Core.Path.{sym, ap, ◌∙◌}
-use borrow.Author.Rules.{rules}
-use borrow.Author.Tests.{not-true, not-false}
 use Rattle.reporting.specs.declared.Counted.{Counted}
 use Rattle.ledger.specs.Questions.{report, answer_buffer, answer_size}
 use Rattle.ledger.specs.Calls.{ask, output_of, no_answer}
@@ -27,5 +25,8 @@ returns c =
     let k = sym c.is_name.ensures ∙ c.if-not-is_name.false in
     let t = slot_parts a.name a.self c.byte.ensures c.byte-2.ensures c.number.ensures c.number-2.ensures c.places.ensures c.coefficients.ensures in
     let q = report a.capsules.now a.records.now in
-    let h = ap (λ (s : Slot). handed s (ask q)) t in record { reply = ap (λ (r : Counted). record { station = a.self; refused = r.refused; counts = r.counts }) (c.report-counted.ensures.answer ∙ ap counted_of h)
-          ∙ reported_left a.self a.name q k; output = c.report-counted.ensures.output ∙ ap (λ (r : Handed). r.output) h ∙ output_known a.self a.name (ask q) k }
+    let h = ap (λ (s : Slot). handed s (ask q)) t in record {
+      reply = ap (λ (r : Counted). record { station = a.self; refused = r.refused; counts = r.counts }) (c.report-counted.ensures.answer ∙ ap counted_of h)
+          ∙ reported_left a.self a.name q k;
+      output = c.report-counted.ensures.output ∙ ap (λ (r : Handed). r.output) h ∙ output_known a.self a.name (ask q) k;
+    }

@@ -1,6 +1,5 @@
 -- The name, then the slot's call. Assumes nothing.
 use mathlib.Core.Path.{sym, ap, ◌∙◌}
-use borrow.Author.Tests.{not-true, not-false}
 use Rattle.session_key.specs.declared.SessionKey.{SessionKey}
 use Rattle.ledger.specs.Questions.{derive_session_key, answer_size}
 use Rattle.ledger.specs.Calls.{ask, no_answer}

@@ -1,12 +1,6 @@
 -- `transform::everywhere::depth` meets its contract. Assumes nothing.
-use mathlib.Core.Path.{◌≡◌, refl, sym, ap, ap₂, ◌∙◌}
-use Prim.Native.Nat.{ℕ, suc, ◌+◌, ◌-◌, ◌^◌, ◌≤◌, ◌<◌}
-use native.Mathlib.Omega.{arith}
-use borrow.Author.Rules.{rules}
-use lib.Pow.{pow_mono}
-use native.Mathlib.Nat.{pow-suc}
-use native.Mathlib.Decide.{dec_le}
-use lib.Pow.{pow_pos}
+use mathlib.Core.Path.{◌≡◌}
+use Prim.Native.Nat.{ℕ, ◌-◌, ◌^◌, ◌≤◌}
 use Rattle.transform.proofs.everywhere.depth.Given as goal
 
 abbrev pub invariant-loop-w : goal.invariant-loop-w

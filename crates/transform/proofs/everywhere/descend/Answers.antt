@@ -1,9 +1,8 @@
 -- `transform::everywhere::descend` meets its contract. Assumes nothing.
 use mathlib.Core.Path.{◌≡◌, refl, sym, ap, ◌∙◌}
-use Prim.Native.Nat.{ℕ, ◌+◌, ◌-◌, ◌≤◌}
+use Prim.Native.Nat.{ℕ, ◌+◌}
 use native.Mathlib.Omega.{arith}
 use lib.ListN.{length}
-use borrow.Author.Rules.{rules}
 use Rattle.levels.proofs.TwoPowers.{two_below}
 use Rattle.transform.specs.Values.{parts_of}
 use Rattle.transform.proofs.AllLevels.{parts-length}

@@ -1,13 +1,8 @@
 -- `transform::everywhere::descend` meets its contract. Assumes nothing.
-use mathlib.Core.Path.{◌≡◌, refl, sym, ap, ◌∙◌}
-use Prim.Native.Nat.{ℕ, ◌+◌, ◌-◌, ◌≤◌}
-use native.Mathlib.Omega.{arith}
+use mathlib.Core.Path.{◌≡◌}
+use Prim.Native.Nat.{◌-◌, ◌≤◌}
 use lib.ListN.{length}
-use borrow.Author.Rules.{rules}
-use Rattle.levels.proofs.TwoPowers.{two_below}
 use Rattle.transform.specs.Values.{parts_of}
-use Rattle.transform.proofs.AllLevels.{parts-length}
-use Rattle.transform.proofs.Wholes.{split-length, split_small, parts_next}
 use Rattle.transform.proofs.everywhere.descend.Given as goal
 
 abbrev pub invariant-loop-j : goal.invariant-loop-j

@@ -4,7 +4,6 @@ use mathlib.Core.List.{List}
 use Prim.Native.Nat.{ℕ, ◌+◌, ◌^◌, ◌≤◌, ◌<◌}
 use native.Mathlib.Omega.{arith}
 use lib.ListN.{length, take, replicate, length-replicate}
-use borrow.Author.Rules.{rules}
 use Rattle.bits.specs.Bits.{padded}
 use Rattle.field.proofs.Table.{width_narrow}
 use Rattle.levels.specs.Levels.{two_of}

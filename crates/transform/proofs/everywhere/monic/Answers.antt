@@ -1,5 +1,4 @@
 -- `transform::everywhere::monic` meets its contract. Assumes nothing.
-use borrow.Author.Rules.{rules}
 use Rattle.transform.proofs.Whole.{monic_block}
 use Rattle.transform.proofs.everywhere.monic.Goals as goal
 

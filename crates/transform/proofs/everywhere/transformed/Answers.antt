@@ -1,7 +1,6 @@
 -- `transform::everywhere::transformed` meets its contract. Assumes nothing.
 use mathlib.Core.Path.{◌∙◌}
 use native.Mathlib.Omega.{arith}
-use borrow.Author.Rules.{rules}
 use Rattle.field.proofs.Table.{width_narrow}
 use Rattle.levels.proofs.Filled.{levels_tops, levels_factors}
 use Rattle.levels.proofs.TwoPowers.{two_below}

@@ -3,7 +3,6 @@ use mathlib.Core.Path.{refl, ◌∙◌}
 use native.Mathlib.Nat.{min-le_right}
 use native.Mathlib.Omega.{arith}
 use lib.ListN.{length}
-use borrow.Author.Rules.{rules}
 use Rattle.poly.proofs.AtPoints.{each_values}
 use Rattle.transform.proofs.Whole.{gathered_values}
 use Rattle.transform.proofs.gathering.values.Goals as goal

@@ -1,11 +1,8 @@
 -- `transform::halves::expand` meets its contract. Assumes nothing.
-use mathlib.Core.Path.{◌≡◌, refl, ap, ◌∙◌}
-use Prim.Native.Nat.{ℕ, ◌-◌, ◌≤◌}
-use native.Mathlib.Omega.{arith}
+use mathlib.Core.Path.{◌≡◌}
+use Prim.Native.Nat.{◌≤◌}
 use lib.ListN.{length}
-use borrow.Author.Rules.{rules}
 use Rattle.transform.proofs.Loops.{expanded_from}
-use Rattle.transform.proofs.Loops.{expand_start, expand_next, expand_all, length_expanded_from}
 use Rattle.transform.proofs.halves.expand.Given as goal
 
 abbrev pub invariant-loop-i : goal.invariant-loop-i

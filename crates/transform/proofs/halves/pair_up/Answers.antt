@@ -1,9 +1,7 @@
 -- `transform::halves::pair_up` meets its contract. Assumes nothing.
-use mathlib.Core.Path.{◌≡◌, refl, ◌∙◌}
-use Prim.Native.Nat.{◌-◌, ◌≤◌}
+use mathlib.Core.Path.{refl, ◌∙◌}
 use native.Mathlib.Omega.{arith}
-use lib.ListN.{length, length-set}
-use borrow.Author.Rules.{rules}
+use lib.ListN.{length-set}
 use Rattle.transform.proofs.Loops.{paired_to, paired-next, paired_all}
 use Rattle.bits.specs.Xor.{◌⊕◌}
 use Rattle.transform.proofs.halves.pair_up.Goals as goal

@@ -1,11 +1,8 @@
 -- `transform::halves::pair_up` meets its contract. Assumes nothing.
-use mathlib.Core.Path.{◌≡◌, refl, ◌∙◌}
+use mathlib.Core.Path.{◌≡◌}
 use Prim.Native.Nat.{◌-◌, ◌≤◌}
-use native.Mathlib.Omega.{arith}
-use lib.ListN.{length, length-set}
-use borrow.Author.Rules.{rules}
-use Rattle.transform.proofs.Loops.{paired_to, paired-next, paired_all}
-use Rattle.bits.specs.Xor.{◌⊕◌}
+use lib.ListN.{length}
+use Rattle.transform.proofs.Loops.{paired_to}
 use Rattle.transform.proofs.halves.pair_up.Given as goal
 
 abbrev pub invariant-loop-k : goal.invariant-loop-k

@@ -1,8 +1,6 @@
 -- `transform::halves::split` meets its contract. Assumes nothing.
 use mathlib.Core.Path.{ap, ◌∙◌}
-use Prim.Native.Nat.{◌-◌}
 use lib.ListN.{length}
-use borrow.Author.Rules.{rules}
 use Rattle.levels.proofs.Twists.{length-twisted_by}
 use Rattle.transform.proofs.Wholes.{split_form}
 use Rattle.transform.proofs.Lengths.{length-expanded}

@@ -1,11 +1,10 @@
 -- `transform::halves::unzip` meets its contract. Assumes nothing.
 use mathlib.Core.Path.{◌≡◌, refl, sym, ap, ap₂, ◌∙◌}
-use Prim.Native.Nat.{ℕ, suc, ◌+◌, ◌-◌, ◌*◌, ◌≤◌}
+use Prim.Native.Nat.{ℕ, suc, ◌+◌, ◌*◌}
 use native.Mathlib.Omega.{arith}
 use mathlib.Core.List.{List}
-use lib.ListN.{length, take, drop, get_or, set, length-set}
-use borrow.Author.Rules.{rules}
-use Rattle.transform.proofs.Loops.{both_to, both_start, both_next, both_all, unzip-at}
+use lib.ListN.{take, drop, get_or, set, length-set}
+use Rattle.transform.proofs.Loops.{both_start, both_next, both_all, unzip-at}
 use Rattle.transform.specs.Halves.{unzip}
 use Rattle.transform.proofs.Lengths.{length-unzip}
 use lib.ListN.{length-drop, take-append-drop}

@@ -1,11 +1,9 @@
 -- `transform::joining::fill` meets its contract. Assumes nothing.
-use mathlib.Core.Path.{◌≡◌, refl, sym, ap₂, ◌∙◌}
-use Prim.Native.Nat.{ℕ, ◌-◌, ◌≤◌}
+use mathlib.Core.Path.{refl, sym, ap₂, ◌∙◌}
+use Prim.Native.Nat.{ℕ}
 use native.Mathlib.Omega.{arith}
 use mathlib.Core.List.{List}
-use lib.ListN.{length, take, set, length-set}
-use borrow.Author.Rules.{rules}
-use Rattle.bits.specs.Bits.{over}
+use lib.ListN.{length, set, length-set}
 use Rattle.bits.proofs.Padded.{over-start, over-next}
 use lib.ListN.{replicate}
 use Rattle.transform.proofs.Loops.{fill_all}

@@ -1,11 +1,10 @@
 -- `transform::joining::spread` meets its contract. Assumes nothing.
 use mathlib.Core.Path.{◌≡◌, refl, sym, ap, ◌∙◌}
-use Prim.Native.Nat.{ℕ, ◌+◌, ◌-◌, ◌*◌, ◌≤◌}
+use Prim.Native.Nat.{ℕ, ◌+◌, ◌*◌}
 use native.Mathlib.Omega.{arith}
 use lib.ListN.{length}
-use borrow.Author.Rules.{rules}
 use Rattle.levels.proofs.Blocks.{block_in}
-use Rattle.transform.proofs.Loops.{spread_to, spread-start, spread-next, spread_all}
+use Rattle.transform.proofs.Loops.{spread-start, spread-next, spread_all}
 use native.Mathlib.Nat.{zero-mul}
 use Rattle.bits.proofs.Parts.{next_row}
 use Rattle.transform.proofs.Loops.{length_spread_to}

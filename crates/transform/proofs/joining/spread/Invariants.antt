@@ -1,14 +1,8 @@
 -- `transform::joining::spread` meets its contract. Assumes nothing.
-use mathlib.Core.Path.{◌≡◌, refl, sym, ap, ◌∙◌}
-use Prim.Native.Nat.{ℕ, ◌+◌, ◌-◌, ◌*◌, ◌≤◌}
-use native.Mathlib.Omega.{arith}
+use mathlib.Core.Path.{◌≡◌}
+use Prim.Native.Nat.{◌-◌, ◌*◌, ◌≤◌}
 use lib.ListN.{length}
-use borrow.Author.Rules.{rules}
-use Rattle.levels.proofs.Blocks.{block_in}
-use Rattle.transform.proofs.Loops.{spread_to, spread-start, spread-next, spread_all}
-use native.Mathlib.Nat.{zero-mul}
-use Rattle.bits.proofs.Parts.{next_row}
-use Rattle.transform.proofs.Loops.{length_spread_to}
+use Rattle.transform.proofs.Loops.{spread_to}
 use Rattle.transform.proofs.joining.spread.Given as goal
 
 abbrev pub invariant-loop-k : goal.invariant-loop-k
