@@ -1,7 +1,7 @@
 -- Factors of a separable polynomial g and the idempotents modulo g: g has a factor of degree 1 to t - 1 exactly where the
 -- residues fixed by squaring, or by squaring k times, are not constants alone. Assumes nothing.
 use mathlib.Core.Path.{◌≡◌, refl, sym, ◌∙◌, ap, ap₂, subst}
-use Prim.Native.Nat.{ℕ, zero, suc, ◌≤◌, ◌<◌}
+use Prim.Native.Nat.{ℕ, zero, suc, ◌<◌}
 use native.Mathlib.Omega.{arith}
 use Rattle.algebra.proofs.Ring.{Ring, ring, add_cancel, mul-zero, one-mul, zero-add, add_move}
 use Rattle.algebra.proofs.Identities.{unit_cancel}

@@ -10,7 +10,7 @@ use Rattle.algebra.proofs.Field.{Field, inv-mul}
 use Rattle.algebra.proofs.Points.{All, all_map, pow}
 use Rattle.algebra.proofs.Series as S
 use Rattle.algebra.proofs.Series.{Series, operations, C-at, C-mul, C-add, C-zero, split}
-use Rattle.algebra.proofs.Poly.{Below, Poly, Monic, monic-mul, below_add, below_zero, below_tail, below_scale, below_C, below_X, poly_add, poly_mul_lem, poly_C}
+use Rattle.algebra.proofs.Poly.{Below, Monic, monic-mul, below_add, below_zero, below_tail, below_scale, below_C, below_X, poly_C}
 use Rattle.algebra.proofs.Goppa.{Separable}
 use Rattle.algebra.proofs.Euclid.{reduce}
 use Rattle.algebra.proofs.Factor.{frob, frob_add, frob_mul, Div, div, div_add, div_mul, div_to, div_low, Prime, Rigid, rigid_prime}

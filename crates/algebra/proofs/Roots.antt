@@ -6,7 +6,6 @@ use lib.ListN.{length}
 use Rattle.algebra.proofs.Ring.{ring, add_cancel, mul-zero, zero-add}
 use Rattle.algebra.proofs.Field.{Field, no_divisors}
 use Rattle.algebra.proofs.Points.{All, Distinct}
-use Rattle.algebra.proofs.Series as S
 use Rattle.algebra.proofs.Series.{Series, operations, C-add, C-zero}
 use Rattle.algebra.proofs.Poly.{Below, below_zero, poly_C}
 use Rattle.algebra.proofs.Eval.{eval, quot, lin, divide_lin, below_lin, below_quot, eval_unique, eval_mul}

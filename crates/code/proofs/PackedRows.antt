@@ -4,7 +4,7 @@ use mathlib.Core.List.{List, [], ◌∷◌, ◌++◌, map, map-map, map-append}
 use Prim.Native.Nat.{ℕ, zero, suc, ◌+◌, ◌-◌, ◌*◌, ◌/◌, ◌%◌, ◌^◌, ◌≤◌, ◌<◌}
 use native.Mathlib.Nat.{zero-mul, one-mul, suc-mul, add-mul, add-suc, add_comm}
 use native.Mathlib.Omega.{arith}
-use lib.ListN.{length, get_or, take, drop, replicate, length-map, length-drop, get_or-append, take-append-drop}
+use lib.ListN.{length, take, drop, replicate, length-map, length-drop, get_or-append, take-append-drop}
 use lib.Seq.{drop-drop, drop-append-le, take_at, length-take-le}
 use Rattle.bits.specs.Bits.{from, bytes_for, bit_at, unpack}
 use Rattle.bits.proofs.Bits.{bit_zeros}

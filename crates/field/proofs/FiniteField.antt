@@ -1,14 +1,14 @@
 -- GF(2^m) is a finite field: its elements are the numbers below 2^m, and each is its own power 2^m. Assumes nothing.
 use mathlib.Core.Path.{◌≡◌, refl, sym, ap, ◌∙◌}
-use Prim.Native.Nat.{ℕ, zero, suc, ◌^◌, ◌<◌}
+use Prim.Native.Nat.{ℕ, zero, suc, ◌^◌}
 use native.Mathlib.Nat.{zero-add}
 use native.Mathlib.Omega.{arith}
 use native.Mathlib.Decide.{dec_lt}
 use lib.Pow.{pow_pos}
-use lib.ListN.{length, get_or, length-map, get_or-eq_default}
+use lib.ListN.{length, length-map, get_or-eq_default}
 use Rattle.bits.specs.Bits.{from}
 use Rattle.bits.proofs.Lists.{length_from, from_at}
-use Rattle.field.specs.Field.{modulus_of, mul}
+use Rattle.field.specs.Field.{modulus_of}
 use Rattle.field.proofs.Inverses.{square, frobenius}
 use Rattle.field.proofs.Table.{Width, width_pos}
 use Rattle.field.proofs.Laws.{mul_at, frobenius_power, power_all}

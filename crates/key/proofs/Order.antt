@@ -1,6 +1,6 @@
 -- The numbers of a key, in the order of their conditions. Assumes nothing.
 use mathlib.Core.Path.{◌≡◌, sym, ◌∙◌}
-use mathlib.Core.Bool.{Bool, true, false, not}
+use mathlib.Core.Bool.{Bool, true, false}
 use mathlib.Core.List.{List}
 use Prim.Native.Nat.{ℕ}
 use native.Mathlib.Nat.{le_of_suc-le-suc}
@@ -8,7 +8,7 @@ use native.Mathlib.Omega.{arith}
 use lib.Dec.{ltb}
 use lib.ListN.{get_or, take}
 use lib.Pow.{pow_mono}
-use borrow.Author.Tests.{lt-ltb, not-true, not-false}
+use borrow.Author.Tests.{lt-ltb}
 use Rattle.bits.specs.Bits.{every}
 use Rattle.bits.proofs.Lists.{every_append, every_all}
 use Rattle.field.specs.Numbers.{first_of}

@@ -1,6 +1,6 @@
 -- The shape at a position, and the refusal of a position that the table lacks. Assumes nothing.
 use mathlib.Core.Path.{◌≡◌}
-use Prim.Native.Nat.{ℕ, ◌-◌, ◌≤◌, ◌<◌}
+use Prim.Native.Nat.{ℕ, ◌≤◌, ◌<◌}
 use borrow.Author.Tests.{lt-ltb, le-ltb}
 use Rattle.field.specs.Numbers.{first_of}
 use Rattle.key.specs.Shapes.{shape_number, shape_at}

@@ -11,7 +11,7 @@ use Rattle.key.specs.Keys.{Key}
 use Rattle.code.specs.Code.{in_code}
 use Rattle.decoder.specs.Search.{first_row}
 use Rattle.decoder.specs.Reading.{corrects, reading}
-use Rattle.marks.specs.Marked.{unmarked, differences, corrects_marked, marked_reading}
+use Rattle.marks.specs.Marked.{differences, corrects_marked, marked_reading}
 use Rattle.marks.proofs.Unmarked.{unmarked_all}
 
 -- 2d + 0 ≤ 2t exactly when d ≤ t

@@ -1,12 +1,10 @@
 -- A layer of the network by the digits of a position, from the lowest on. Assumes nothing.
-use mathlib.Core.Path.{◌≡◌, refl, sym, ap, ap₂, ◌∙◌, subst}
-use mathlib.Core.List.{List, [], ◌∷◌}
+use mathlib.Core.Path.{◌≡◌, sym, ap, ◌∙◌, subst}
 use Prim.Native.Nat.{ℕ, zero, suc, ◌+◌, ◌-◌, ◌*◌, ◌/◌, ◌%◌, ◌^◌, ◌≤◌, ◌<◌, min}
 use native.Mathlib.Omega.{arith}
 use native.Mathlib.Nat.{pow-succ', div-div-eq-div-mul, mod-one, div-one, div-add-mod, mod-lt, div-mul-le_self, mul-le-mul_right, div-le_self, pow-le-pow_right}
-use lib.ListN.{length, get_or}
 use lib.Pow.{pow_pos}
-use Rattle.network.specs.Network.{turn, pairs, exchange, sent}
+use Rattle.network.specs.Network.{pairs, exchange, sent}
 
 -- positions that differ in digit g only, by recursion on g
 unfoldable pub swap : ℕ → (ℕ → ℕ) → ℕ → ℕ

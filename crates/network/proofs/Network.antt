@@ -6,11 +6,11 @@ use mathlib.Core.Logic.{◌≢◌}
 use Prim.Native.Nat.{ℕ, zero, suc, ◌+◌, ◌-◌, ◌*◌, ◌/◌, ◌%◌, ◌^◌, ◌≤◌, ◌<◌, min}
 use native.Mathlib.Nat.{pow-succ'}
 use native.Mathlib.Omega.{arith}
-use native.Mathlib.Decide.{dec_le, dec_lt, ℕ_discrete}
+use native.Mathlib.Decide.{dec_lt, ℕ_discrete}
 use lib.Pow.{pow_pos}
-use Rattle.network.specs.Network.{turn, pairs, exchange, sent, network, first, last, middle, middle⁻, part, bits}
+use Rattle.network.specs.Network.{turn, pairs, exchange, sent, network, last, middle, middle⁻, part, bits}
 use Rattle.network.proofs.Layers.{swap, swap_closed, sent-suc}
-use Rattle.network.proofs.Split.{pairs_half, pairs_bit, pairs-pairs, Perm, part_perm, splits, middle_bit, injective, inside}
+use Rattle.network.proofs.Split.{Perm, part_perm, splits, middle_bit, injective, inside}
 
 -- The layers between the first and the last are two networks, on the even and on the odd positions.
 unfoldable pub inner : (ℕ → ℕ → ℕ) → ℕ → ℕ → ℕ → ℕ

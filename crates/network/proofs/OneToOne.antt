@@ -1,8 +1,8 @@
 -- The network sends out each number below 2 ^ (m + 1) once, whatever its settings. Assumes nothing.
-use mathlib.Core.Path.{◌≡◌, refl, sym, ap, ◌∙◌}
+use mathlib.Core.Path.{◌≡◌, sym, ap, ◌∙◌}
 use Prim.Native.Nat.{ℕ, zero, suc, ◌+◌, ◌-◌, ◌*◌, ◌/◌, ◌%◌, ◌^◌, ◌≤◌, ◌<◌, min}
 use native.Mathlib.Omega.{arith}
-use Rattle.network.specs.Network.{pairs, exchange, sent, network}
+use Rattle.network.specs.Network.{exchange, sent, network}
 use Rattle.network.proofs.Split.{pairs-pairs}
 use Rattle.network.proofs.Layers.{swap, swap_closed, exchange_below}
 

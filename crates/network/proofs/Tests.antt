@@ -1,10 +1,10 @@
 -- The definitions at small permutations, against the standard's bits.
 use mathlib.Core.Path.{◌≡◌, refl}
 use mathlib.Core.List.{List, [], ◌∷◌}
-use Prim.Native.Nat.{ℕ, zero, suc, ◌+◌, ◌*◌, ◌^◌}
+use Prim.Native.Nat.{ℕ, zero, suc, ◌+◌, ◌*◌}
 use lib.ListN.{get_or}
 use native.Mathlib.Decide.{dec_lt, ℕ_discrete}
-use Rattle.network.specs.Network.{turn, pairs, exchange, sent, network, it, low, around, cyc, first, last, middle, middle⁻, part, bits, val, seek, control_bit}
+use Rattle.network.specs.Network.{pairs, exchange, sent, network, it, low, cyc, first, last, middle, middle⁻, part, bits, seek, control_bit}
 
 row : (ℕ → ℕ) → ℕ → ℕ → List ℕ
 row f i zero = []

@@ -1,10 +1,9 @@
 -- The network sends out what its switches say, and no other bits count; with the control bits of a list it sends out the list.
 -- Assumes nothing.
-use mathlib.Core.Path.{◌≡◌, refl, sym, ap, ◌∙◌}
-use mathlib.Core.List.{List, [], ◌∷◌}
+use mathlib.Core.Path.{◌≡◌, refl, ap, ◌∙◌}
+use mathlib.Core.List.{List}
 use Prim.Native.Nat.{ℕ, zero, suc, ◌+◌, ◌-◌, ◌*◌, ◌/◌, ◌%◌, ◌^◌, ◌≤◌, ◌<◌, min}
 use native.Mathlib.Omega.{arith}
-use lib.ListN.{length, get_or}
 use Rattle.network.specs.Network.{exchange, sent, network, bits, val, seek}
 use Rattle.network.specs.Tables.{Each}
 use Rattle.network.proofs.Lists.{each_perm}

@@ -1,11 +1,11 @@
 -- What the conversions keep. Assumes nothing.
 use mathlib.Core.Path.{◌≡◌, refl, sym, ap, ap₂, ◌∙◌}
 use mathlib.Core.Bool.{Bool, true, false, not, ◌&&◌}
-use mathlib.Core.List.{List, [], ◌∷◌, ◌++◌, flat_map}
-use Prim.Native.Nat.{ℕ, zero, suc, ◌+◌, ◌*◌, ◌/◌, ◌%◌, ◌≤◌, ◌<◌}
+use mathlib.Core.List.{List, ◌∷◌, ◌++◌, flat_map}
+use Prim.Native.Nat.{ℕ, suc, ◌+◌, ◌*◌, ◌/◌, ◌%◌}
 use native.Mathlib.Omega.{arith}
 use lib.Dec.{eqb}
-use lib.ListN.{length, get_or, take, drop, length-append}
+use lib.ListN.{length, drop, length-append}
 use borrow.Author.Tests.{eq-eqb}
 use Rattle.bits.specs.Bits.{Bytes, bytes_for, pack}
 use Rattle.bits.proofs.Pack.{length-pack, row_length}
@@ -15,7 +15,7 @@ use Rattle.key.specs.Keys.{Key, pair, parse, two_bytes, file_of, conditions, fil
 use Rattle.key.proofs.Parse.{pair-first, pair_behind, pair_behind_all, length-elements, length_bytes, parse_file, accepted_key}
 use Rattle.key.proofs.Accepted.{Accepted, accepted}
 use Rattle.network.specs.Network.{switches, control_bits}
-use Rattle.network_key.specs.Files.{support_of, four, four_bytes, parse_network, network_conditions, permutation, network_of, to_network, from_network}
+use Rattle.network_key.specs.Files.{four, four_bytes, parse_network, network_conditions, permutation, network_of, to_network, from_network}
 use Rattle.network.proofs.Digits.{row_control}
 use Rattle.network_key.proofs.Settings.{length-support_of}
 use Rattle.network_key.proofs.Parse.{parse_network_lem}

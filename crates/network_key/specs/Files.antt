@@ -1,6 +1,6 @@
 -- Document 02, L7: the key file that stores the support as a switching network, and the conversions. Assumes nothing.
 use Rattle.std.specs.Prelude.{ℕ, zero, suc, ◌+◌, ◌-◌, ◌*◌, ◌/◌, ◌%◌, ◌^◌, Bool, not, eqb, length, get_or, take, drop}
-use mathlib.Core.List.{List, [], ◌∷◌, ◌++◌, map, flat_map}
+use mathlib.Core.List.{List, ◌∷◌, ◌++◌, map, flat_map}
 use Rattle.bits.specs.Bits.{from, bytes_for, bit_at, pack}
 use Rattle.key.specs.Keys.{Key, pair, elements, parse, two_bytes, file_of, conditions}
 use Rattle.network.specs.Network.{switches, network, unused, control_bits}

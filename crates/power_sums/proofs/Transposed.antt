@@ -8,7 +8,7 @@ use lib.Pow.{pow-add}
 use lib.ListN.{length, get_or, take, drop, length-append, length-drop, drop_of_length-le, take-append-drop}
 use lib.Seq.{take_all, length-take-le}
 use Rattle.bits.specs.Xor.{◌⊕◌}
-use Rattle.bits.specs.Bits.{from, each_with, xor_row}
+use Rattle.bits.specs.Bits.{each_with, xor_row}
 use Rattle.bits.proofs.Lists.{length-map-from, map-from}
 use Rattle.bits.proofs.Each.{length-each_with}
 use Rattle.field.specs.Field.{mul, power}

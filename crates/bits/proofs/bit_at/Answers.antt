@@ -1,7 +1,6 @@
 -- Past the last byte both sides are 0; before it, the and with 1 is the digit. Assumes nothing.
 use mathlib.Core.Path.{sym}
 use native.Mathlib.Omega.{arith}
-use borrow.Author.Rules.{rules}
 use lib.Bits.{and_mask}
 use Rattle.bits.specs.Bits.{bit_at}
 use Rattle.bits.proofs.Bits.{bit_past}

@@ -1,14 +1,9 @@
 -- The loop's invariant: the filler bits from j on decide. Assumes nothing.
-use mathlib.Core.Path.{◌≡◌, sym, ap, ◌∙◌}
-use Prim.Native.Nat.{ℕ, ◌-◌, ◌%◌, ◌≤◌, ◌<◌}
-use native.Mathlib.Omega.{arith}
-use borrow.Author.Rules.{rules}
-use borrow.Author.Tests.{eq-eqb, ne_eqb}
+use mathlib.Core.Path.{◌≡◌}
+use Prim.Native.Nat.{◌-◌, ◌≤◌}
 use lib.Dec.{eqb}
 use lib.ListN.{drop}
 use Rattle.bits.specs.Bits.{from, every, bit_at, filler_clear}
-use Rattle.bits.proofs.Lists.{every-next, every_stop, every_end, length_from, from_at}
-use Rattle.bits.proofs.Pack.{filler_bits}
 use Rattle.bits.proofs.filler_clear.Given as goal
 
 abbrev pub invariant-loop-j : goal.invariant-loop-j

@@ -1,12 +1,8 @@
 -- The loop's invariant: the first k coefficients of the derivative, and the rest of p. Assumes nothing.
-use mathlib.Core.Path.{◌≡◌, refl, ap, ap₂, ◌∙◌}
-use mathlib.Core.List.{List}
-use Prim.Native.Nat.{ℕ, ◌-◌, ◌≤◌}
-use native.Mathlib.Omega.{arith}
-use borrow.Author.Rules.{rules}
-use lib.ListN.{length, set, length-set}
-use Rattle.euclid.specs.Euclid.{derivative_at}
-use Rattle.euclid.proofs.Coefficients.{derived, derived_none, derived_next, derived_step, derived_done}
+use mathlib.Core.Path.{◌≡◌}
+use Prim.Native.Nat.{◌-◌, ◌≤◌}
+use lib.ListN.{length}
+use Rattle.euclid.proofs.Coefficients.{derived}
 use Rattle.euclid.proofs.derivative.Given as goal
 
 abbrev pub invariant-loop-k : goal.invariant-loop-k

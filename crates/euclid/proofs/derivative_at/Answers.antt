@@ -1,6 +1,5 @@
 -- `euclid::derivative_at` meets its contract. Assumes nothing.
 use mathlib.Core.Path.{sym}
-use borrow.Author.Rules.{rules}
 use Rattle.euclid.proofs.Coefficients.{derivative_even, derivative_odd, derivative-last}
 use Rattle.euclid.proofs.derivative_at.Goals as goal
 

@@ -1,6 +1,5 @@
 -- `field_calls::add` meets its contract. Assumes nothing.
 use mathlib.Core.Path.{refl}
-use borrow.Author.Rules.{rules}
 use Rattle.bits.specs.Xor.{◌⊕◌}
 use Rattle.field.specs.Answers.{add_of}
 use Rattle.field.proofs.Verdicts.{verdict_accepted}

@@ -1,12 +1,9 @@
 -- `field::below` meets its contract. The loop's invariant: the places from i on decide. Assumes nothing.
-use mathlib.Core.Path.{◌≡◌, refl, ◌∙◌}
-use Prim.Native.Nat.{◌-◌, ◌≤◌, ◌<◌}
+use mathlib.Core.Path.{refl, ◌∙◌}
+use Prim.Native.Nat.{◌≤◌, ◌<◌}
 use native.Mathlib.Omega.{arith}
-use borrow.Author.Rules.{rules}
 use borrow.Author.Tests.{lt-ltb, le-ltb}
-use lib.Dec.{ltb}
-use lib.ListN.{length, get_or, drop}
-use Rattle.bits.specs.Bits.{every}
+use lib.ListN.{get_or}
 use Rattle.bits.proofs.Lists.{every-next, every_stop, every_end}
 use Rattle.field.proofs.below.Goals as goal
 

@@ -1,13 +1,9 @@
 -- `field::below` meets its contract. The loop's invariant: the places from i on decide. Assumes nothing.
-use mathlib.Core.Path.{◌≡◌, refl, ◌∙◌}
-use Prim.Native.Nat.{◌-◌, ◌≤◌, ◌<◌}
-use native.Mathlib.Omega.{arith}
-use borrow.Author.Rules.{rules}
-use borrow.Author.Tests.{lt-ltb, le-ltb}
+use mathlib.Core.Path.{◌≡◌}
+use Prim.Native.Nat.{◌-◌}
 use lib.Dec.{ltb}
-use lib.ListN.{length, get_or, drop}
+use lib.ListN.{length, drop}
 use Rattle.bits.specs.Bits.{every}
-use Rattle.bits.proofs.Lists.{every-next, every_stop, every_end}
 use Rattle.field.proofs.below.Given as goal
 
 abbrev pub invariant-loop-i : goal.invariant-loop-i

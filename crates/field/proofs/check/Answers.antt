@@ -1,7 +1,6 @@
 -- `field_calls::check` meets its contract. Assumes nothing.
 use mathlib.Core.Path.{sym}
 use native.Mathlib.Omega.{arith}
-use borrow.Author.Rules.{rules}
 use Rattle.field.proofs.Verdicts.{refuses, accepts}
 use Rattle.field.proofs.Table.{modulus_none, modulus_some, width_narrow}
 use Rattle.field.proofs.Machine.{one_shl}

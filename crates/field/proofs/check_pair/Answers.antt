@@ -1,6 +1,5 @@
 -- `field_calls::check_pair` meets its contract. Assumes nothing.
 use mathlib.Core.Path.{ap, ◌∙◌}
-use borrow.Author.Rules.{rules}
 use Rattle.field.specs.Verdicts.{verdict_of}
 use Rattle.field.proofs.Verdicts.{verdict_accepted, verdict_refused}
 use Rattle.field.proofs.CallGuards.{first_refused, first_allowed}

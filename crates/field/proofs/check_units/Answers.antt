@@ -1,11 +1,9 @@
 -- The loop's invariant: the places from i on decide. Assumes nothing.
 use mathlib.Core.Path.{◌≡◌, refl, sym, ◌∙◌}
-use Prim.Native.Nat.{◌-◌, ◌%◌, ◌^◌}
+use Prim.Native.Nat.{◌%◌, ◌^◌}
 use native.Mathlib.Omega.{arith}
-use borrow.Author.Rules.{rules}
 use lib.Pow.{pow_pos}
-use lib.ListN.{length, get_or, drop}
-use Rattle.bits.specs.Bits.{every}
+use lib.ListN.{get_or}
 use Rattle.bits.proofs.Lists.{every-next, every_stop, every_end}
 use Rattle.field.specs.Answers.{is_unit}
 use Rattle.field.proofs.Table.{modulus_none, modulus_some, width_narrow}

@@ -1,10 +1,10 @@
 -- The loop's invariant: r is a^(2^k - 2). Assumes nothing.
-use mathlib.Core.Path.{◌≡◌, ap, ◌∙◌}
-use Prim.Native.Nat.{ℕ, ◌-◌, ◌≤◌, ◌<◌}
+use mathlib.Core.Path.{ap, ◌∙◌}
+use Prim.Native.Nat.{ℕ}
 use native.Mathlib.Omega.{arith}
 use Rattle.field.specs.Field.{mul}
 use Rattle.field.proofs.Table.{width_over_one}
-use Rattle.field.proofs.Reciprocals.{even_power, square_power, power-turn, power-last}
+use Rattle.field.proofs.Reciprocals.{square_power, power-turn, power-last}
 use Rattle.field.proofs.inverse_power.Goals as goal
 
 pub loop-k-init : goal.loop-k-init

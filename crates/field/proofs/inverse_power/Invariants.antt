@@ -1,10 +1,7 @@
 -- The loop's invariant: r is a^(2^k - 2). Assumes nothing.
-use mathlib.Core.Path.{◌≡◌, ap, ◌∙◌}
-use Prim.Native.Nat.{ℕ, ◌-◌, ◌≤◌, ◌<◌}
-use native.Mathlib.Omega.{arith}
-use Rattle.field.specs.Field.{mul}
-use Rattle.field.proofs.Table.{width_over_one}
-use Rattle.field.proofs.Reciprocals.{even_power, square_power, power-turn, power-last}
+use mathlib.Core.Path.{◌≡◌}
+use Prim.Native.Nat.{◌-◌, ◌≤◌, ◌<◌}
+use Rattle.field.proofs.Reciprocals.{even_power}
 use Rattle.field.proofs.inverse_power.Given as goal
 
 abbrev pub invariant-loop-k : goal.invariant-loop-k

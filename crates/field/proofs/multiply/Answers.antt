@@ -1,5 +1,4 @@
 -- `field_calls::multiply` meets its contract. Assumes nothing.
-use borrow.Author.Rules.{rules}
 use Rattle.field.specs.Answers.{multiply_of}
 use Rattle.field.proofs.Verdicts.{verdict_accepted}
 use Rattle.field.proofs.Guards.{refused, allowed}

@@ -1,7 +1,7 @@
 -- `field::product` meets its contract. The loop's invariant: r is a times the polynomial of b's digits from k on.
 -- Assumes nothing.
 use mathlib.Core.Path.{◌≡◌, sym, ◌∙◌}
-use Prim.Native.Nat.{ℕ, ◌≤◌, ◌<◌, ◌-◌, ◌*◌, ◌/◌, ◌%◌, ◌^◌}
+use Prim.Native.Nat.{ℕ, ◌<◌, ◌-◌, ◌*◌, ◌/◌, ◌%◌, ◌^◌}
 use native.Mathlib.Omega.{arith}
 use Rattle.field.proofs.Horner.{horner, first, turn, last}
 use Rattle.field.proofs.Modular.{Modulus, horner_lt, mul_mod_as_horner}

@@ -1,9 +1,8 @@
 -- The loop's invariant: the sum over the first j digits. Assumes nothing.
 use mathlib.Core.Path.{◌≡◌, ap, ap₂, ◌∙◌}
-use Prim.Native.Nat.{ℕ, ◌+◌, ◌-◌, ◌*◌, ◌≤◌}
+use Prim.Native.Nat.{ℕ, ◌+◌, ◌*◌}
 use native.Mathlib.Omega.{arith}
 use lib.ListN.{get_or}
-use borrow.Author.Rules.{rules}
 use Rattle.bits.specs.Xor.{◌⊕◌}
 use Rattle.field.specs.PointTable.{digit_sum}
 use Rattle.field.proofs.PointTable.{digit_sum_none, digit_sum-next, combination-digits}

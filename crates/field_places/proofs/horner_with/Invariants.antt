@@ -1,13 +1,8 @@
 -- The loop's invariant: the first i places are done. Assumes nothing.
-use mathlib.Core.Path.{◌≡◌, refl, ap, ◌∙◌}
-use Prim.Native.Nat.{ℕ, ◌-◌, ◌≤◌}
-use native.Mathlib.Omega.{arith}
-use mathlib.Core.List.{List}
-use lib.ListN.{length, get_or, set, length-set}
-use borrow.Author.Rules.{rules}
-use Rattle.bits.specs.Xor.{◌⊕◌}
-use Rattle.field.specs.PointTable.{combination}
-use Rattle.field.proofs.PointTable.{combined_to, combined_start, combined_next, combined_all}
+use mathlib.Core.Path.{◌≡◌}
+use Prim.Native.Nat.{◌-◌, ◌≤◌}
+use lib.ListN.{length}
+use Rattle.field.proofs.PointTable.{combined_to}
 use Rattle.field_places.proofs.horner_with.Given as goal
 
 abbrev pub invariant-loop-i : goal.invariant-loop-i

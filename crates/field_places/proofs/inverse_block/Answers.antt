@@ -1,9 +1,8 @@
 -- The loop's invariant: v is x^(2^k - 2) for each x of the block, which a starts with. Assumes nothing.
 use mathlib.Core.Path.{◌≡◌, refl, sym, ap, ◌∙◌}
 use mathlib.Core.List.{List, map}
-use Prim.Native.Nat.{ℕ, ◌+◌, ◌-◌, ◌≤◌, ◌<◌}
+use Prim.Native.Nat.{ℕ, ◌+◌, ◌≤◌}
 use native.Mathlib.Omega.{arith}
-use borrow.Author.Rules.{rules}
 use lib.ListN.{length, take, length-map}
 use Rattle.bits.specs.Bits.{padded}
 use Rattle.bits.proofs.Padded.{length-padded, take-padded}

@@ -1,17 +1,9 @@
 -- The loop's invariant: v is x^(2^k - 2) for each x of the block, which a starts with. Assumes nothing.
-use mathlib.Core.Path.{◌≡◌, refl, sym, ap, ◌∙◌}
-use mathlib.Core.List.{List, map}
-use Prim.Native.Nat.{ℕ, ◌+◌, ◌-◌, ◌≤◌, ◌<◌}
-use native.Mathlib.Omega.{arith}
-use borrow.Author.Rules.{rules}
-use lib.ListN.{length, take, length-map}
-use Rattle.bits.specs.Bits.{padded}
-use Rattle.bits.proofs.Padded.{length-padded, take-padded}
-use Rattle.field.specs.Poly.{horner_each}
-use Rattle.field.proofs.Table.{width_over_one}
-use Rattle.field.proofs.Places.{length-horner_each}
-use Rattle.field.proofs.Reciprocals.{even_power, squares_powers, powers_turn, powers_last}
-use Rattle.field_places.proofs.Blocks.{block_whole}
+use mathlib.Core.Path.{◌≡◌}
+use mathlib.Core.List.{map}
+use Prim.Native.Nat.{◌-◌, ◌≤◌, ◌<◌}
+use lib.ListN.{length, take}
+use Rattle.field.proofs.Reciprocals.{even_power}
 use Rattle.field_places.proofs.inverse_block.Given as goal
 
 abbrev pub invariant-loop-k : goal.invariant-loop-k

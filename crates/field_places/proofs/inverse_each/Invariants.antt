@@ -1,14 +1,9 @@
 -- The loop's invariant: the first `at` places are done. Assumes nothing.
-use mathlib.Core.Path.{◌≡◌, refl, ◌∙◌}
-use Prim.Native.Nat.{◌+◌, ◌-◌, ◌≤◌}
-use native.Mathlib.Omega.{arith}
-use borrow.Author.Rules.{rules}
-use borrow.Rule.Slice.PartMut.{mid_of, mid_len, same_len_mid}
+use mathlib.Core.Path.{◌≡◌}
+use Prim.Native.Nat.{◌-◌, ◌≤◌}
 use lib.ListN.{length}
 use Rattle.field.specs.Field.{inv}
-use Rattle.field.proofs.Verdicts.{verdict_accepted, verdict_refused}
-use Rattle.field.proofs.Units.{accepted_width, inverses_made, inverses_kept}
-use Rattle.field_places.proofs.Blocks.{mapped_to, mapped_start, mapped_next, mapped_all}
+use Rattle.field_places.proofs.Blocks.{mapped_to}
 use Rattle.field_places.proofs.inverse_each.Given as goal
 
 abbrev pub invariant-loop-at : goal.invariant-loop-at

@@ -2,7 +2,6 @@
 use mathlib.Core.Path.{refl, ap, ◌∙◌}
 use mathlib.Core.List.{List}
 use Prim.Native.Nat.{ℕ}
-use borrow.Author.Rules.{rules}
 use lib.ListN.{length, take}
 use Rattle.bits.proofs.Padded.{take-padded}
 use Rattle.field.proofs.Places.{horner_start}

@@ -1,14 +1,12 @@
 -- The loop's invariant: the first `at` places are done. Assumes nothing.
 use mathlib.Core.Path.{◌≡◌, refl, sym, ◌∙◌}
-use Prim.Native.Nat.{ℕ, ◌+◌, ◌-◌, ◌≤◌}
+use Prim.Native.Nat.{◌+◌, ◌-◌}
 use native.Mathlib.Omega.{arith}
-use borrow.Author.Rules.{rules}
 use borrow.Rule.Slice.PartMut.{mid_of, mid_len, same_len_mid}
 use lib.ListN.{length}
-use Rattle.field.specs.Field.{mul}
 use Rattle.field.proofs.Table.{modulus_none, modulus_some}
 use Rattle.field.proofs.Places.{horner_each_none, horner_self}
-use Rattle.field_places.proofs.Blocks.{mapped_to, mapped_start, mapped_next, mapped_all}
+use Rattle.field_places.proofs.Blocks.{mapped_start, mapped_next, mapped_all}
 use Rattle.field_places.proofs.square_each.Invariants.{square}
 use Rattle.field_places.proofs.square_each.Goals as goal
 

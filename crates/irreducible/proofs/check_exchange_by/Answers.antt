@@ -1,7 +1,6 @@
 -- The key, then its g. Assumes nothing.
 use mathlib.Core.Path.{sym, ap, ◌∙◌}
 use native.Mathlib.Omega.{arith}
-use borrow.Author.Rules.{rules}
 use Rattle.field.specs.Verdicts.{verdict_of}
 use Rattle.field.proofs.Verdicts.{refuses, verdict_accepted, verdict_refused}
 use Rattle.field.proofs.Arrays.{elements-every}

@@ -1,9 +1,7 @@
 -- `has_factor` meets its contract. Assumes nothing.
 use mathlib.Core.Path.{◌≡◌, sym, ◌∙◌}
 use mathlib.Core.Bool.{true}
-use Prim.Native.Nat.{◌-◌}
 use native.Mathlib.Omega.{arith}
-use borrow.Author.Tests.{not-true, not-false}
 use Rattle.bits.specs.Bits.{every}
 use Rattle.field.specs.Field.{is_element}
 use Rattle.field.proofs.Table.{modulus_none, modulus_some}

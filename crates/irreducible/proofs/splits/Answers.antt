@@ -1,6 +1,5 @@
 -- `splits` meets its contract. Assumes nothing.
 use mathlib.Core.Path.{sym, ◌∙◌}
-use borrow.Author.Rules.{rules}
 use Rattle.field.proofs.Arrays.{every-elements}
 use Rattle.poly.proofs.SquareSearch.{has_square_separable}
 use Rattle.irreducible.proofs.Elimination.{basis_start}

@@ -1,6 +1,5 @@
 -- The numbers 1 to 6, then the roots. Assumes nothing.
 use mathlib.Core.Path.{sym, ap, ◌∙◌}
-use borrow.Author.Rules.{rules}
 use Rattle.field.specs.Verdicts.{verdict_of}
 use Rattle.field.proofs.Verdicts.{refuses, verdict_accepted, verdict_refused}
 use Rattle.key.specs.Kept.{kept, parts}

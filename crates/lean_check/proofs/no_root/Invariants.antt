@@ -1,12 +1,8 @@
 -- The loop's invariant: the places from `at` on decide. Assumes nothing.
-use mathlib.Core.Path.{◌≡◌, refl, sym, ap, ◌∙◌}
-use Prim.Native.Nat.{ℕ, ◌+◌, ◌-◌, ◌≤◌}
-use native.Mathlib.Omega.{arith}
-use borrow.Rule.Slice.PartMut.{mid_of, mid_len}
-use lib.ListN.{length, drop}
+use mathlib.Core.Path.{◌≡◌}
+use Prim.Native.Nat.{◌-◌, ◌≤◌}
+use lib.ListN.{drop}
 use Rattle.key.specs.Parts.{no_root}
-use Rattle.key.proofs.Order.{failed, passed}
-use Rattle.lean_check.proofs.Blocks.{block_found, block_none, blocks_end}
 use Rattle.lean_check.proofs.no_root.Given as goal
 
 abbrev pub invariant-loop-at : goal.invariant-loop-at

@@ -1,10 +1,10 @@
 -- The loop's invariant: the first i bytes are 0, the others as they were. Assumes nothing.
 use mathlib.Core.Path.{◌≡◌, refl, sym, ap, ◌∙◌}
 use mathlib.Core.List.{List, ◌++◌}
-use Prim.Native.Nat.{ℕ, ◌-◌, ◌≤◌}
+use Prim.Native.Nat.{ℕ}
 use native.Mathlib.Omega.{arith}
 use borrow.Author.Fill.{fill_none, fill_more}
-use lib.ListN.{length, drop, set, replicate, length-set, length-replicate}
+use lib.ListN.{drop, set, replicate, length-set, length-replicate}
 use Rattle.bits.specs.Bits.{over}
 use Rattle.packed.proofs.clear_bytes.Goals as goal
 

@@ -1,12 +1,9 @@
 -- The loop's invariant: the bits from j on are left to write. Assumes nothing.
-use mathlib.Core.Path.{◌≡◌, refl, sym, ap, ◌∙◌}
-use mathlib.Core.List.{List, map}
-use Prim.Native.Nat.{ℕ, ◌+◌, ◌-◌, ◌≤◌}
-use native.Mathlib.Omega.{arith}
-use lib.ListN.{length, drop}
-use Rattle.bits.specs.Bits.{from, bit_at, set_bit, put_bits}
-use Rattle.bits.proofs.Lists.{length-map-from, map-from-at}
-use Rattle.bits.proofs.PutBits.{put_next, put_end, length-put_bits}
+use mathlib.Core.Path.{◌≡◌}
+use mathlib.Core.List.{map}
+use Prim.Native.Nat.{◌-◌, ◌≤◌}
+use lib.ListN.{drop}
+use Rattle.bits.specs.Bits.{from, bit_at, put_bits}
 use Rattle.packed.proofs.copy_bits.Given as goal
 
 abbrev pub invariant-loop-j : goal.invariant-loop-j

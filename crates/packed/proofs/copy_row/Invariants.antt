@@ -1,14 +1,9 @@
 -- The loop's invariant: the bits from 8·q on are left to write. Assumes nothing.
-use mathlib.Core.Path.{◌≡◌, refl, sym, ap, ◌∙◌}
-use mathlib.Core.List.{List, map}
-use Prim.Native.Nat.{ℕ, ◌+◌, ◌-◌, ◌*◌, ◌%◌, ◌≤◌}
-use native.Mathlib.Omega.{arith}
-use borrow.Rule.Slice.PartMut.{put_mid, same_len_mid}
-use lib.ListN.{length, take, drop}
+use mathlib.Core.Path.{◌≡◌}
+use mathlib.Core.List.{map}
+use Prim.Native.Nat.{◌-◌, ◌*◌, ◌≤◌}
+use lib.ListN.{length, drop}
 use Rattle.bits.specs.Bits.{from, bit_at, put_bits}
-use Rattle.bits.proofs.Lists.{length-map-from, map-from-part}
-use Rattle.bits.proofs.Pack.{bytes_enough}
-use Rattle.bits.proofs.PutBits.{put_lent, put_end}
 use Rattle.packed.proofs.copy_row.Given as goal
 
 abbrev pub invariant-loop-q : goal.invariant-loop-q

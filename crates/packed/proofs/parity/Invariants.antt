@@ -1,11 +1,8 @@
 -- The loop's invariant: s, with the bits of d from k on, is the whole sum. Assumes nothing.
-use mathlib.Core.Path.{◌≡◌, sym, ap, ◌∙◌}
-use Prim.Native.Nat.{ℕ, ◌+◌, ◌/◌, ◌%◌, ◌^◌, ◌-◌, ◌≤◌}
-use native.Mathlib.Omega.{arith}
-use lib.Bits.{and_mask}
+use mathlib.Core.Path.{◌≡◌}
+use Prim.Native.Nat.{◌/◌, ◌%◌, ◌^◌, ◌-◌, ◌≤◌}
 use lib.Count.{ones}
 use Rattle.bits.specs.Xor.{◌⊕◌}
-use Rattle.bits.proofs.Product.{parity-start, parity-next, parity_end}
 use Rattle.packed.proofs.parity.Given as goal
 
 abbrev pub invariant-loop-k : goal.invariant-loop-k

@@ -1,13 +1,8 @@
 -- The loop's invariant: the first k products are the digits of d. Assumes nothing.
-use mathlib.Core.Path.{◌≡◌, refl, ap, ap₂, ◌∙◌}
+use mathlib.Core.Path.{◌≡◌}
 use mathlib.Core.List.{map}
-use Prim.Native.Nat.{ℕ, ◌*◌, ◌%◌, ◌^◌, ◌-◌, ◌≤◌}
-use native.Mathlib.Omega.{arith}
-use lib.Bits.{bit_and}
-use Rattle.bits.specs.Xor.{◌⊕◌}
+use Prim.Native.Nat.{◌*◌, ◌-◌, ◌≤◌}
 use Rattle.bits.specs.Bits.{from, bit_at, number}
-use Rattle.bits.proofs.Bits.{bit_digit}
-use Rattle.bits.proofs.Product.{products_next}
 use Rattle.packed.proofs.products.Given as goal
 
 abbrev pub invariant-loop-k : goal.invariant-loop-k

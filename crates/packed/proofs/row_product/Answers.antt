@@ -1,9 +1,8 @@
 -- The loop's invariant: the sum of the bits of `sums` is the product of the first q bytes. Assumes nothing.
-use mathlib.Core.Path.{◌≡◌, sym, ap, ap₂, ◌∙◌}
+use mathlib.Core.Path.{sym, ap, ap₂, ◌∙◌}
 use mathlib.Core.List.{List, map}
-use Prim.Native.Nat.{ℕ, ◌-◌, ◌*◌, ◌%◌, ◌≤◌}
+use Prim.Native.Nat.{ℕ, ◌*◌, ◌%◌}
 use native.Mathlib.Omega.{arith}
-use borrow.Author.Rules.{rules}
 use lib.Count.{ones}
 use Rattle.bits.specs.Xor.{◌⊕◌}
 use Rattle.bits.specs.Bits.{from, bit_at, number, unpack, dot}

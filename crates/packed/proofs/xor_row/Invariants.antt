@@ -1,14 +1,8 @@
 -- The loop's invariant: the first i numbers of src are added to dst. Assumes nothing.
-use mathlib.Core.Path.{◌≡◌, refl, sym, ap, ◌∙◌}
-use mathlib.Core.List.{List}
-use Prim.Native.Nat.{ℕ, ◌-◌, ◌≤◌}
-use native.Mathlib.Omega.{arith}
-use native.Mathlib.Numerals.{add-one}
-use borrow.Author.Rules.{rules}
-use lib.ListN.{length, get_or, take, set, length-set}
-use Rattle.bits.specs.Xor.{◌⊕◌}
+use mathlib.Core.Path.{◌≡◌}
+use Prim.Native.Nat.{◌-◌, ◌≤◌}
+use lib.ListN.{length, take}
 use Rattle.bits.specs.Bits.{xor_row}
-use Rattle.bits.proofs.Rows.{xor_row-nil, xor_row-suc, xor_row-take}
 use Rattle.packed.proofs.xor_row.Given as goal
 
 abbrev pub invariant-loop-i : goal.invariant-loop-i

@@ -1,13 +1,7 @@
 -- The loop's invariant: the coefficients below k are done. Assumes nothing.
-use mathlib.Core.Path.{◌≡◌, sym, ap, ◌∙◌}
-use mathlib.Core.List.{List}
-use Prim.Native.Nat.{ℕ, ◌-◌, ◌≤◌}
-use native.Mathlib.Omega.{arith}
-use borrow.Author.Rules.{rules}
-use lib.ListN.{length, get_or, set}
-use Rattle.bits.specs.Xor.{◌⊕◌}
+use mathlib.Core.Path.{◌≡◌}
+use Prim.Native.Nat.{◌-◌, ◌≤◌}
 use Rattle.euclid.specs.Euclid.{added}
-use Rattle.euclid.proofs.Coefficients.{added_none, added-step}
 use Rattle.euclid.proofs.common.add_shifted.Given as goal
 
 abbrev pub invariant-loop-k : goal.invariant-loop-k

@@ -1,7 +1,6 @@
 -- `euclid::common::common_divisor` meets its contract. Assumes nothing.
 use mathlib.Core.Path.{sym, ap, ◌∙◌, subst}
 use Prim.Native.Nat.{◌+◌, ◌*◌, ◌≤◌}
-use borrow.Author.Tests.{not-true, not-false}
 use Rattle.euclid.specs.declared.common.Pair.{Pair}
 use Rattle.euclid.specs.Euclid.{started, steps}
 use Rattle.euclid.proofs.Size.{started_fit}

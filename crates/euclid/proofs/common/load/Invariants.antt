@@ -1,13 +1,8 @@
 -- The loop's invariant: the first i coefficients, and zeros behind them. Assumes nothing.
-use mathlib.Core.Path.{◌≡◌, ap, ◌∙◌}
-use mathlib.Core.List.{List}
-use Prim.Native.Nat.{ℕ, ◌-◌, ◌≤◌}
-use native.Mathlib.Omega.{arith}
-use borrow.Author.Rules.{rules}
-use lib.ListN.{length, take, get_or, set}
-use lib.Seq.{take_all}
+use mathlib.Core.Path.{◌≡◌}
+use Prim.Native.Nat.{◌-◌, ◌≤◌}
+use lib.ListN.{length, take}
 use Rattle.bits.specs.Bits.{padded}
-use Rattle.bits.proofs.Padded.{padded-start, padded-next}
 use Rattle.euclid.proofs.common.load.Given as goal
 
 abbrev pub invariant-loop-i : goal.invariant-loop-i

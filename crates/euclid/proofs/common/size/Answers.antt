@@ -1,10 +1,6 @@
 -- The loop's invariant: the first n coefficients decide. Assumes nothing.
-use mathlib.Core.Path.{◌≡◌, ◌∙◌}
-use Prim.Native.Nat.{◌≤◌}
+use mathlib.Core.Path.{◌∙◌}
 use native.Mathlib.Omega.{arith}
-use borrow.Author.Rules.{rules}
-use lib.ListN.{length, take}
-use Rattle.euclid.specs.Euclid.{size}
 use Rattle.euclid.proofs.Size.{size_all, size_none, size_stop, size-next}
 use Rattle.euclid.proofs.common.size.Goals as goal
 

@@ -1,11 +1,8 @@
 -- The loop's invariant: the first n coefficients decide. Assumes nothing.
-use mathlib.Core.Path.{◌≡◌, ◌∙◌}
+use mathlib.Core.Path.{◌≡◌}
 use Prim.Native.Nat.{◌≤◌}
-use native.Mathlib.Omega.{arith}
-use borrow.Author.Rules.{rules}
 use lib.ListN.{length, take}
 use Rattle.euclid.specs.Euclid.{size}
-use Rattle.euclid.proofs.Size.{size_all, size_none, size_stop, size-next}
 use Rattle.euclid.proofs.common.size.Given as goal
 
 abbrev pub invariant-loop-n : goal.invariant-loop-n

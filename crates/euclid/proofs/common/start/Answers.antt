@@ -2,9 +2,8 @@
 use mathlib.Core.Path.{ap₂, ◌∙◌}
 use mathlib.Core.List.{List}
 use Prim.Native.Nat.{ℕ}
-use borrow.Author.Rules.{rules}
 use Rattle.bits.specs.Bits.{padded}
-use Rattle.euclid.specs.Euclid.{size, started}
+use Rattle.euclid.specs.Euclid.{started}
 use Rattle.euclid.proofs.common.start.Goals as goal
 
 pub returns : goal.returns

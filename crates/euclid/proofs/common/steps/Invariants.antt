@@ -1,9 +1,8 @@
 -- The loop's invariant: the steps that are left lead to the result. The measure da + 2·db falls with each step. Assumes nothing.
-use mathlib.Core.Path.{sym, subst}
-use Prim.Native.Nat.{◌+◌, ◌*◌, ◌≤◌, ◌<◌}
+use Prim.Native.Nat.{◌+◌, ◌*◌, ◌≤◌}
 use Rattle.euclid.specs.Euclid.{steps}
-use Rattle.euclid.proofs.Steps.{step_less, step_fit, Ahead, ahead_start, ahead_next, ahead_end}
-use Rattle.euclid.proofs.Elements.{OfElements, step-elements}
+use Rattle.euclid.proofs.Steps.{Ahead}
+use Rattle.euclid.proofs.Elements.{OfElements}
 use Rattle.euclid.proofs.common.steps.Given as goal
 
 abbrev pub invariant-loop-q : goal.invariant-loop-q

@@ -1,7 +1,6 @@
 -- `euclid::square::has_square` meets its contract. Assumes nothing.
 use mathlib.Core.Path.{sym, ap, ap₂, ◌∙◌}
 use native.Mathlib.Omega.{arith}
-use borrow.Author.Rules.{rules}
 use lib.Dec.{leb}
 use Rattle.euclid.specs.declared.common.Divisor.{Divisor}
 use Rattle.euclid.specs.Euclid.{derivative, common_divisor}

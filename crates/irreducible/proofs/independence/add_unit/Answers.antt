@@ -1,10 +1,9 @@
 -- The loop's invariant: r rows are done, and `at` is the place in the next. Assumes nothing.
 use mathlib.Core.Path.{◌≡◌, sym, subst}
-use Prim.Native.Nat.{ℕ, suc, ◌+◌, ◌-◌, ◌*◌, ◌≤◌, ◌<◌}
+use Prim.Native.Nat.{ℕ, ◌+◌, ◌-◌, ◌*◌, ◌≤◌, ◌<◌}
 use native.Mathlib.Omega.{arith}
 use native.Mathlib.Nat.{zero-mul, le_trans}
 use lib.ListN.{length, get_or, set}
-use borrow.Author.Rules.{rules}
 use Rattle.bits.specs.Xor.{◌⊕◌}
 use Rattle.bits.proofs.Parts.{rows_in, next_row}
 use Rattle.irreducible.specs.Ready.{Shifted}

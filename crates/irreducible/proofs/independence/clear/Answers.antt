@@ -1,11 +1,10 @@
 -- `clear` meets its contract. Assumes nothing.
 use mathlib.Core.Path.{◌≡◌, refl, sym, ap, ◌∙◌}
-use mathlib.Core.Bool.{true, false, false≢true}
+use mathlib.Core.Bool.{false≢true}
 use mathlib.Core.List.{List, ◌++◌, map}
 use Prim.Native.Nat.{ℕ, ◌+◌, ◌-◌, ◌*◌, ◌≤◌, ◌<◌}
 use native.Mathlib.Omega.{arith}
 use native.Mathlib.Decide.{dec_lt}
-use borrow.Author.Rules.{rules}
 use lib.ListN.{length, take, drop, get_or, length-map, length-append, length-replicate, get_or-eq_default}
 use lib.Seq.{take_at}
 use Rattle.field.specs.Field.{mul, inv}
@@ -43,10 +42,13 @@ returns-then-p-n c =
     let row : List ℕ = row_at a.n a.rows.now a.i in
     let long : length row ≡ a.n = length_row a.n a.rows.now a.i (room a.n a.i a.rows.now (omega arith) (omega arith) (omega arith)) in
     let w = copied a.n a.i a.rows.now c.block-w.result (omega arith) (omega arith) (omega arith) c.block-w.ensures in
-    let e : c.pivot-p.result ≡ a.n = c.if-p-n.true in record { cleared = λ f. absurd (false≢true f); k_value = λ f k. elim (dec_lt k a.n) [
+    let e : c.pivot-p.result ≡ a.n = c.if-p-n.true in record {
+      cleared = λ f. absurd (false≢true f);
+      k_value = λ f k. elim (dec_lt k a.n) [
         | yes h ↦ ap (λ (r : List ℕ). get_or r k 0) (sym w) ∙ c.pivot-p.ensures.zeros k (omega arith)
         | no h ↦ get_or-eq_default row 0 {n = k} (omega arith)
-      ] }
+      ];
+    }
 
 pub slice_bounds-divide-end : goal.slice_bounds-divide-end
 slice_bounds-divide-end c = let a = c.args in sym (ap length (copied a.n a.i a.rows.now c.block-w.result (omega arith) (omega arith) (omega arith) c.block-w.ensures) ∙ length_row a.n a.rows.now a.i (room a.n a.i a.rows.now (omega arith) (omega arith) (omega arith)))
@@ -100,9 +102,12 @@ returns c =
     let size : length (take a.n c.block-w.result) ≡ a.n = ap length w ∙ length_row a.n a.rows.now a.i (room a.n a.i a.rows.now (omega arith) (omega arith) (omega arith)) in
     let bound = v.ensures.bound in
     let y : take a.n (d ++ drop a.n c.block-w.result) ≡ map (mul a.m (inv a.m (get_or (row_at a.n a.rows.now a.i) v.result 0))) (row_at a.n a.rows.now a.i) =
-    take_at d _ a.n long ∙ c.divide.ensures ∙ ap (λ (r : List ℕ). map (mul a.m (inv a.m (get_or r v.result 0))) r) w in record { cleared = λ f. record {
+    take_at d _ a.n long ∙ c.divide.ensures ∙ ap (λ (r : List ℕ). map (mul a.m (inv a.m (get_or r v.result 0))) r) w in record {
+      cleared = λ f. record {
         place = v.result;
         small = less v.result a.n (omega arith) c.if-p-n.false;
         nonzero = λ z. v.ensures.found (less _ _ bound (λ e. c.if-p-n.false (e ∙ size))) (ap (λ (r : List ℕ). get_or r v.result 0) w ∙ z);
         added = added_by (c.put_table.ensures ∙ table_in_all a.m _ _ (length-replicate {A = ℕ} 5120 0) ∙ ap (table_of a.m) y) c.add_column.ensures;
-      }; k_value = λ f. absurd (false≢true (sym f)) }
+      };
+      k_value = λ f. absurd (false≢true (sym f));
+    }

@@ -3,7 +3,6 @@ use mathlib.Core.Path.{ap, ◌∙◌}
 use mathlib.Core.List.{map}
 use Prim.Native.Nat.{ℕ}
 use native.Mathlib.Omega.{arith}
-use borrow.Author.Rules.{rules}
 use Rattle.field.specs.Field.{mul}
 use Rattle.field.proofs.Units.{inverse_given, inverse_not_refused}
 use Rattle.irreducible.proofs.Rows.{horner_multiple}

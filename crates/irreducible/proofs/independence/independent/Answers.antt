@@ -1,12 +1,7 @@
 -- The loop's invariant: i rows stand. Assumes nothing.
-use mathlib.Core.Path.{◌≡◌, sym, ◌∙◌}
-use Prim.Native.Nat.{◌+◌, ◌-◌, ◌≤◌}
+use mathlib.Core.Path.{sym, ◌∙◌}
 use native.Mathlib.Omega.{arith}
-use lib.ListN.{length}
-use mathlib.Core.Bool.{true, false, false≢true}
-use borrow.Author.Tests.{not-true, not-false}
-use Rattle.field.proofs.Table.{Width}
-use Rattle.irreducible.specs.Ready.{Basis}
+use mathlib.Core.Bool.{false≢true}
 use Rattle.irreducible.proofs.Elimination.{basis_next, basis_fails, basis_all}
 use Rattle.irreducible.proofs.independence.independent.Goals as goal
 

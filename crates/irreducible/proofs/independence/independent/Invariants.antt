@@ -1,13 +1,9 @@
 -- The loop's invariant: i rows stand. Assumes nothing.
-use mathlib.Core.Path.{◌≡◌, sym, ◌∙◌}
+use mathlib.Core.Path.{◌≡◌}
 use Prim.Native.Nat.{◌+◌, ◌-◌, ◌≤◌}
-use native.Mathlib.Omega.{arith}
 use lib.ListN.{length}
-use mathlib.Core.Bool.{true, false, false≢true}
-use borrow.Author.Tests.{not-true, not-false}
 use Rattle.field.proofs.Table.{Width}
 use Rattle.irreducible.specs.Ready.{Basis}
-use Rattle.irreducible.proofs.Elimination.{basis_next, basis_fails, basis_all}
 use Rattle.irreducible.proofs.independence.independent.Given as goal
 
 abbrev pub invariant-loop-i : goal.invariant-loop-i

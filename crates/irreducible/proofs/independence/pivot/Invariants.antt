@@ -1,10 +1,7 @@
 -- The loop's invariant: the first i are 0. Assumes nothing.
 use mathlib.Core.Path.{◌≡◌}
 use Prim.Native.Nat.{ℕ, ◌-◌, ◌≤◌, ◌<◌}
-use native.Mathlib.Omega.{arith}
 use lib.ListN.{length, get_or}
-use borrow.Author.Rules.{rules}
-use borrow.Author.Count.{below_more}
 use Rattle.irreducible.proofs.independence.pivot.Given as goal
 
 abbrev pub invariant-loop-i : goal.invariant-loop-i

@@ -1,8 +1,7 @@
 -- The loop's invariant: w is x^(2^k). Assumes nothing.
 use mathlib.Core.Path.{◌≡◌, sym, subst}
-use Prim.Native.Nat.{ℕ, ◌-◌, ◌≤◌}
+use Prim.Native.Nat.{ℕ}
 use native.Mathlib.Omega.{arith}
-use borrow.Author.Rules.{rules}
 use lib.Seq.{length-take-le}
 use Rattle.irreducible.specs.Residues.{FirstPower}
 use Rattle.irreducible.proofs.PowerRows.{first_none, first_next}

@@ -1,11 +1,6 @@
 -- The loop's invariant: w is x^(2^k). Assumes nothing.
-use mathlib.Core.Path.{◌≡◌, sym, subst}
-use Prim.Native.Nat.{ℕ, ◌-◌, ◌≤◌}
-use native.Mathlib.Omega.{arith}
-use borrow.Author.Rules.{rules}
-use lib.Seq.{length-take-le}
+use Prim.Native.Nat.{◌-◌, ◌≤◌}
 use Rattle.irreducible.specs.Residues.{FirstPower}
-use Rattle.irreducible.proofs.PowerRows.{first_none, first_next}
 use Rattle.irreducible.proofs.residues.first_power.Given as goal
 
 abbrev pub invariant-loop-k : goal.invariant-loop-k

@@ -1,5 +1,4 @@
 -- `multiply` meets its contract. Assumes nothing.
-use borrow.Author.Rules.{rules}
 use Rattle.irreducible.proofs.Products.{product_modulo}
 use Rattle.irreducible.proofs.residues.multiply.Goals as goal
 

@@ -4,18 +4,16 @@ use mathlib.Core.List.{List}
 use Prim.Native.Nat.{ℕ, ◌+◌, ◌-◌, ◌*◌, ◌≤◌}
 use native.Mathlib.Nat.{zero-mul}
 use native.Mathlib.Omega.{arith}
-use borrow.Author.Rules.{rules}
 use borrow.Rule.Slice.PartMut.{put_mid}
 use lib.ListN.{length, take, drop, length-replicate}
 use lib.Seq.{length-take-le}
 use Rattle.bits.proofs.Parts.{next_row}
-use Rattle.row_tables.specs.RowTable.{table_of}
 use Rattle.row_tables.proofs.RowTable.{table_in_all}
 use Rattle.irreducible.specs.Rows.{row_at}
 use Rattle.irreducible.specs.Residues.{Powers}
 use Rattle.irreducible.proofs.Rows.{room, length_row, part_row_lem}
 use Rattle.irreducible.proofs.Products.{copied}
-use Rattle.irreducible.proofs.PowerRows.{Row, row_first, row_next, powers_none, powers_next}
+use Rattle.irreducible.proofs.PowerRows.{row_first, row_next, powers_none, powers_next}
 use Rattle.irreducible.proofs.residues.powers.Goals as goal
 
 pub first_power-w-requires : goal.first_power-w-requires

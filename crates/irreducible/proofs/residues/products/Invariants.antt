@@ -1,14 +1,11 @@
 -- The loop's invariant: b is y times r's first j coefficients. Assumes nothing.
-use mathlib.Core.Path.{◌≡◌, refl, sym, ap, ap₂, ◌∙◌, subst}
+use mathlib.Core.Path.{◌≡◌}
 use mathlib.Core.List.{List}
-use Prim.Native.Nat.{ℕ, ◌+◌, ◌-◌, ◌≤◌}
-use native.Mathlib.Omega.{arith}
-use borrow.Rule.Slice.PartMut.{put_mid, same_len_mid}
-use lib.ListN.{length, get_or, take, drop, length-replicate}
+use Prim.Native.Nat.{ℕ, ◌-◌, ◌≤◌}
+use lib.ListN.{length}
 use Rattle.field.proofs.Table.{Width}
-use Rattle.row_tables.specs.RowTable.{table_of, add_multiple}
-use Rattle.row_tables.proofs.RowTable.{length-add_multiple}
-use Rattle.irreducible.proofs.Products.{Part, part_none, part_row_lem, part_all}
+use Rattle.row_tables.specs.RowTable.{table_of}
+use Rattle.irreducible.proofs.Products.{Part}
 use Rattle.irreducible.proofs.residues.products.Given as goal
 
 abbrev pub invariant-loop-j : goal.invariant-loop-j

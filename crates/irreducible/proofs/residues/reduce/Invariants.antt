@@ -1,13 +1,8 @@
 -- The loop's invariant: b was equal modulo g to its j lower coefficients as they are now. Assumes nothing.
-use mathlib.Core.Path.{◌≡◌, sym, ap, ◌∙◌, subst}
-use mathlib.Core.List.{List}
-use Prim.Native.Nat.{ℕ, ◌+◌, ◌-◌, ◌≤◌}
-use native.Mathlib.Omega.{arith}
-use borrow.Rule.Slice.PartMut.{put_mid}
-use lib.ListN.{length, get_or, take, drop}
-use Rattle.row_tables.specs.RowTable.{add_multiple}
+use mathlib.Core.Path.{◌≡◌}
+use Prim.Native.Nat.{◌+◌, ◌≤◌}
+use lib.ListN.{length}
 use Rattle.irreducible.specs.Residues.{Reduced}
-use Rattle.irreducible.proofs.Products.{reduced_none, reduced-next}
 use Rattle.irreducible.proofs.residues.reduce.Given as goal
 
 abbrev pub invariant-loop-j : goal.invariant-loop-j

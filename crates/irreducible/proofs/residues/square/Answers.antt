@@ -1,6 +1,5 @@
 -- `square` meets its contract. Assumes nothing.
 use mathlib.Core.Path.{refl}
-use borrow.Author.Rules.{rules}
 use Rattle.irreducible.proofs.Products.{product_modulo}
 use Rattle.irreducible.proofs.residues.square.Goals as goal
 

@@ -1,12 +1,11 @@
 -- The loop's invariant: b is the square of r's first i coefficients. Assumes nothing.
 use mathlib.Core.Path.{sym, ap}
 use mathlib.Core.List.{List}
-use Prim.Native.Nat.{ℕ, ◌-◌, ◌≤◌}
+use Prim.Native.Nat.{ℕ}
 use native.Mathlib.Omega.{arith}
-use borrow.Author.Rules.{rules}
 use lib.ListN.{length}
 use Rattle.bits.specs.Xor.{◌⊕◌}
-use Rattle.irreducible.proofs.Products.{Part, part_none, part_square, part_all, block_part, square_at}
+use Rattle.irreducible.proofs.Products.{part_none, part_square, part_all, block_part, square_at}
 use Rattle.irreducible.proofs.residues.squares.Goals as goal
 
 pub slice_bounds-square_each-end : goal.slice_bounds-square_each-end

@@ -2,7 +2,6 @@
 use mathlib.Core.Path.{ap, ◌∙◌}
 use Prim.Native.Nat.{◌-◌}
 use native.Mathlib.Omega.{arith}
-use borrow.Author.Rules.{rules}
 use lib.ListN.{get_or-map}
 use Rattle.key.specs.Shapes.{shapes, shape_at}
 use Rattle.key.specs.Answers.{sizes}

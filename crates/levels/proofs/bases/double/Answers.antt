@@ -1,11 +1,8 @@
 -- `levels::bases::double` meets its contract. Assumes nothing.
-use mathlib.Core.Path.{◌≡◌, refl, ◌∙◌}
-use Prim.Native.Nat.{◌-◌, ◌≤◌}
+use mathlib.Core.Path.{refl, ◌∙◌}
 use native.Mathlib.Omega.{arith}
-use lib.ListN.{length, length-set}
-use borrow.Author.Rules.{rules}
-use Rattle.levels.proofs.Loops.{doubled_to}
-use Rattle.levels.proofs.Loops.{doubled_to, doubled-start, doubled-next, doubled_all}
+use lib.ListN.{length-set}
+use Rattle.levels.proofs.Loops.{doubled-start, doubled-next, doubled_all}
 use Rattle.bits.specs.Xor.{◌⊕◌}
 use Rattle.levels.proofs.bases.double.Goals as goal
 

@@ -1,12 +1,9 @@
 -- `levels::bases::double` meets its contract. Assumes nothing.
-use mathlib.Core.Path.{◌≡◌, refl, ◌∙◌}
+use mathlib.Core.Path.{◌≡◌}
 use Prim.Native.Nat.{◌-◌, ◌≤◌}
-use native.Mathlib.Omega.{arith}
-use lib.ListN.{length, length-set}
-use borrow.Author.Rules.{rules}
+use lib.ListN.{length}
 use Rattle.levels.proofs.Loops.{doubled_to}
-use Rattle.levels.proofs.Loops.{doubled_to, doubled-start, doubled-next, doubled_all}
-use Rattle.bits.specs.Xor.{◌⊕◌}
+use Rattle.levels.proofs.Loops.{doubled_to}
 use Rattle.levels.proofs.bases.double.Given as goal
 
 abbrev pub invariant-loop-i : goal.invariant-loop-i

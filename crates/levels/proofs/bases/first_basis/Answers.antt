@@ -1,10 +1,9 @@
 -- `levels::bases::first_basis` meets its contract. Assumes nothing.
 use mathlib.Core.Path.{◌≡◌, sym, ap, ap₂, ◌∙◌}
-use Prim.Native.Nat.{ℕ, ◌-◌, ◌^◌, ◌≤◌}
+use Prim.Native.Nat.{ℕ, ◌^◌}
 use native.Mathlib.Omega.{arith}
 use mathlib.Core.List.{List}
-use lib.ListN.{take, get_or, set}
-use borrow.Author.Rules.{rules}
+use lib.ListN.{get_or, set}
 use Rattle.bits.specs.Bits.{padded, from}
 use mathlib.Core.List.{map}
 use native.Mathlib.Nat.{zero-add}

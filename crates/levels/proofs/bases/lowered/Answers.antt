@@ -1,12 +1,12 @@
 -- `levels::bases::lowered` meets its contract. Assumes nothing.
 use mathlib.Core.Path.{◌≡◌, ap, ◌∙◌}
-use Prim.Native.Nat.{ℕ, ◌-◌, ◌≤◌}
+use Prim.Native.Nat.{ℕ}
 use native.Mathlib.Omega.{arith}
 use lib.ListN.{length, get_or, length-set}
 use borrow.Author.Rules.{rules}
 use Rattle.bits.specs.Xor.{◌⊕◌}
 use Rattle.field.specs.Field.{mul}
-use Rattle.levels.proofs.Loops.{each_to, each_start, each_next, each_all}
+use Rattle.levels.proofs.Loops.{each_start, each_next, each_all}
 use Rattle.levels.specs.Levels.{lowered}
 use Rattle.levels.proofs.bases.lowered.Goals as goal
 

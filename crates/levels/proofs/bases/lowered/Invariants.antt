@@ -1,13 +1,10 @@
 -- `levels::bases::lowered` meets its contract. Assumes nothing.
-use mathlib.Core.Path.{◌≡◌, ap, ◌∙◌}
-use Prim.Native.Nat.{ℕ, ◌-◌, ◌≤◌}
-use native.Mathlib.Omega.{arith}
-use lib.ListN.{length, get_or, length-set}
-use borrow.Author.Rules.{rules}
+use mathlib.Core.Path.{◌≡◌}
+use Prim.Native.Nat.{◌-◌, ◌≤◌}
+use lib.ListN.{length}
 use Rattle.bits.specs.Xor.{◌⊕◌}
 use Rattle.field.specs.Field.{mul}
-use Rattle.levels.proofs.Loops.{each_to, each_start, each_next, each_all}
-use Rattle.levels.specs.Levels.{lowered}
+use Rattle.levels.proofs.Loops.{each_to}
 use Rattle.levels.proofs.bases.lowered.Given as goal
 
 abbrev pub invariant-loop-i : goal.invariant-loop-i

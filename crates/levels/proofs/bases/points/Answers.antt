@@ -1,10 +1,9 @@
 -- `levels::bases::points` meets its contract. Assumes nothing.
-use mathlib.Core.Path.{◌≡◌, refl, sym, ap, ap₂, ◌∙◌}
-use Prim.Native.Nat.{ℕ, ◌+◌, ◌-◌, ◌^◌, ◌≤◌}
+use mathlib.Core.Path.{refl, sym, ap, ap₂, ◌∙◌}
+use Prim.Native.Nat.{ℕ, ◌+◌, ◌^◌, ◌≤◌}
 use native.Mathlib.Omega.{arith}
 use native.Mathlib.Numerals.{add-one}
-use lib.ListN.{length, take, get_or, length-set}
-use Rattle.levels.specs.Levels.{points_of}
+use lib.ListN.{length, get_or, length-set}
 use Rattle.levels.proofs.Loops.{points_start, points_next, length-doubled}
 use lib.Pow.{pow_pos, pow_mono}
 use native.Mathlib.Nat.{pow-suc}

@@ -1,14 +1,8 @@
 -- `levels::bases::points` meets its contract. Assumes nothing.
-use mathlib.Core.Path.{◌≡◌, refl, sym, ap, ap₂, ◌∙◌}
-use Prim.Native.Nat.{ℕ, ◌+◌, ◌-◌, ◌^◌, ◌≤◌}
-use native.Mathlib.Omega.{arith}
-use native.Mathlib.Numerals.{add-one}
-use lib.ListN.{length, take, get_or, length-set}
+use mathlib.Core.Path.{◌≡◌}
+use Prim.Native.Nat.{◌-◌, ◌^◌, ◌≤◌}
+use lib.ListN.{length, take}
 use Rattle.levels.specs.Levels.{points_of}
-use Rattle.levels.proofs.Loops.{points_start, points_next, length-doubled}
-use lib.Pow.{pow_pos, pow_mono}
-use native.Mathlib.Nat.{pow-suc}
-use Rattle.levels.proofs.Loops.{pow_step, points_all}
 use Rattle.levels.proofs.bases.points.Given as goal
 
 abbrev pub invariant-loop-j : goal.invariant-loop-j

@@ -4,7 +4,6 @@ use Prim.Native.Nat.{ℕ, suc, ◌+◌, ◌^◌, ◌≤◌, ◌<◌}
 use native.Mathlib.Nat.{pow-suc}
 use native.Mathlib.Omega.{arith}
 use lib.Pow.{pow_mono}
-use borrow.Author.Rules.{rules}
 use Rattle.levels.proofs.Blocks.{block_length}
 use Rattle.levels.proofs.Filled.{put_form}
 use Rattle.levels.proofs.TwoPowers.{two_below}

@@ -1,14 +1,9 @@
 -- `levels::bases::ratios` meets its contract: the inverse is not refused, since the number behind the first n is a unit. Assumes nothing.
-use mathlib.Core.Path.{◌≡◌, ap, ◌∙◌}
-use Prim.Native.Nat.{ℕ, ◌-◌, ◌≤◌}
-use native.Mathlib.Omega.{arith}
-use lib.ListN.{length, length-set}
-use borrow.Author.Rules.{rules}
-use Rattle.bits.specs.Bits.{each_with, from}
+use mathlib.Core.Path.{◌≡◌}
+use Prim.Native.Nat.{◌-◌, ◌≤◌}
+use lib.ListN.{length}
 use Rattle.field.specs.Field.{mul}
-use Rattle.field.proofs.Units.{inverse_given, inverse_not_refused}
-use Rattle.levels.specs.Levels.{ratios}
-use Rattle.levels.proofs.Loops.{each_to, each_start, each_next, each_all}
+use Rattle.levels.proofs.Loops.{each_to}
 use Rattle.levels.proofs.bases.ratios.Given as goal
 
 abbrev pub invariant-loop-i : goal.invariant-loop-i

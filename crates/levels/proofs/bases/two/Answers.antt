@@ -1,7 +1,6 @@
 -- `levels::bases::two` meets its contract. Assumes nothing.
 use mathlib.Core.Path.{refl, sym, ◌∙◌}
 use native.Mathlib.Omega.{arith}
-use borrow.Author.Rules.{rules}
 use Rattle.field.proofs.Machine.{one_shl_digits}
 use Rattle.levels.proofs.TwoPowers.{two_below, two_past}
 use Rattle.levels.proofs.bases.two.Goals as goal

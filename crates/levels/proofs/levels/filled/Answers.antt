@@ -1,11 +1,11 @@
 -- `levels::levels::filled` meets its contract. Assumes nothing.
 use mathlib.Core.Path.{◌≡◌, refl, sym, ap, ◌∙◌}
-use Prim.Native.Nat.{◌-◌, ◌≤◌, ◌<◌, min}
+use Prim.Native.Nat.{min}
 use native.Mathlib.Nat.{min-le_left}
 use native.Mathlib.Omega.{arith}
 use lib.ListN.{length}
 use Rattle.field.proofs.Table.{width_narrow}
-use Rattle.levels.specs.Levels.{basis_of, tops_put, factors_put}
+use Rattle.levels.specs.Levels.{tops_put, factors_put}
 use Rattle.levels.proofs.Filled.{length-factors_put, top_unit, tops_next, basis_next, factors_next}
 use Rattle.levels.proofs.levels.filled.Goals as goal
 

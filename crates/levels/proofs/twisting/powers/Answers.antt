@@ -1,12 +1,11 @@
 -- `levels::twisting::powers` meets its contract. Assumes nothing.
 use mathlib.Core.Path.{◌≡◌, sym, ap, ap₂, ◌∙◌}
-use Prim.Native.Nat.{ℕ, ◌+◌, ◌-◌, ◌≤◌, min}
+use Prim.Native.Nat.{ℕ, ◌+◌}
 use native.Mathlib.Nat.{min-le_right}
 use native.Mathlib.Omega.{arith}
 use native.Mathlib.Numerals.{add-one}
 use mathlib.Core.List.{List}
-use lib.ListN.{take, set}
-use borrow.Author.Rules.{rules}
+use lib.ListN.{set}
 use Rattle.bits.specs.Bits.{padded}
 use Rattle.field.specs.Field.{power}
 use Rattle.bits.proofs.Padded.{padded-start, padded-next}

@@ -1,6 +1,5 @@
 -- `levels::twisting::twist` meets its contract. Assumes nothing.
 use native.Mathlib.Omega.{arith}
-use borrow.Author.Rules.{rules}
 use Rattle.levels.proofs.Twists.{twist_form, twist_none}
 use Rattle.levels.proofs.twisting.twist.Goals as goal
 

@@ -1,11 +1,8 @@
 -- The loop's invariant: the values of the polynomial with the coefficients from k on. Assumes nothing.
-use mathlib.Core.Path.{◌≡◌, refl, ap, ◌∙◌}
-use Prim.Native.Nat.{◌-◌, ◌≤◌}
-use native.Mathlib.Omega.{arith}
-use lib.ListN.{length, get_or}
-use borrow.Author.Rules.{rules}
-use Rattle.field.specs.PointTable.{combine_each}
-use Rattle.poly.proofs.AtPoints.{values_from, from_start, from_step}
+use mathlib.Core.Path.{◌≡◌}
+use Prim.Native.Nat.{◌≤◌}
+use lib.ListN.{length}
+use Rattle.poly.proofs.AtPoints.{values_from}
 use Rattle.poly.proofs.horner.value_block.Given as goal
 
 abbrev pub invariant-loop-k : goal.invariant-loop-k

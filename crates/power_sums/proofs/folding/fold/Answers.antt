@@ -1,7 +1,6 @@
 -- `power_sums::folding::fold` meets its contract. Assumes nothing.
 use mathlib.Core.Path.{sym, ap, ◌∙◌}
 use native.Mathlib.Omega.{arith}
-use borrow.Author.Rules.{rules}
 use lib.ListN.{length}
 use Rattle.bits.proofs.Rows.{length-xor_row}
 use Rattle.levels.proofs.Halves.{length-low, kept-fits, kept_low}

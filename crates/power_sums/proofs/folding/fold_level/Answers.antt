@@ -1,12 +1,11 @@
 -- `power_sums::folding::fold_level` meets its contract. Assumes nothing.
 use mathlib.Core.Path.{◌≡◌, refl, sym, ap, ◌∙◌}
 use mathlib.Core.List.{List}
-use Prim.Native.Nat.{ℕ, ◌+◌, ◌-◌, ◌*◌, ◌≤◌, ◌<◌}
+use Prim.Native.Nat.{ℕ, ◌+◌, ◌*◌, ◌≤◌}
 use native.Mathlib.Nat.{zero-mul}
 use native.Mathlib.Omega.{arith}
 use lib.ListN.{length, length-replicate}
 use lib.Seq.{length_front, length-take-le}
-use borrow.Author.Rules.{rules}
 use Rattle.bits.proofs.Parts.{next_row}
 use Rattle.levels.specs.Twist.{each_block}
 use Rattle.levels.proofs.Blocks.{block_in, block_next, block_length, length-each_block}

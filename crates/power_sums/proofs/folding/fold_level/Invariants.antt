@@ -1,17 +1,9 @@
 -- `power_sums::folding::fold_level` meets its contract. Assumes nothing.
-use mathlib.Core.Path.{◌≡◌, refl, sym, ap, ◌∙◌}
-use mathlib.Core.List.{List}
-use Prim.Native.Nat.{ℕ, ◌+◌, ◌-◌, ◌*◌, ◌≤◌, ◌<◌}
-use native.Mathlib.Nat.{zero-mul}
-use native.Mathlib.Omega.{arith}
-use lib.ListN.{length, length-replicate}
-use lib.Seq.{length_front, length-take-le}
-use borrow.Author.Rules.{rules}
-use Rattle.bits.proofs.Parts.{next_row}
+use mathlib.Core.Path.{◌≡◌}
+use Prim.Native.Nat.{◌+◌, ◌-◌, ◌*◌, ◌≤◌, ◌<◌}
+use lib.ListN.{length}
 use Rattle.levels.specs.Twist.{each_block}
-use Rattle.levels.proofs.Blocks.{block_in, block_next, block_length, length-each_block}
 use Rattle.power_sums.specs.Sums.{folded}
-use Rattle.power_sums.proofs.Transposed.{length-folded}
 use Rattle.power_sums.proofs.folding.fold_level.Given as goal
 
 abbrev pub invariant-loop-k : goal.invariant-loop-k

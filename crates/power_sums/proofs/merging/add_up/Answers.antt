@@ -1,9 +1,7 @@
 -- `power_sums::merging::add_up` meets its contract. Assumes nothing.
-use mathlib.Core.Path.{◌≡◌, refl, ◌∙◌}
-use Prim.Native.Nat.{◌-◌, ◌≤◌}
+use mathlib.Core.Path.{refl, ◌∙◌}
 use native.Mathlib.Omega.{arith}
-use lib.ListN.{length, length-set}
-use borrow.Author.Rules.{rules}
+use lib.ListN.{length-set}
 use Rattle.power_sums.proofs.Loops.{added_to, added_next, added_all}
 use Rattle.bits.specs.Xor.{◌⊕◌}
 use Rattle.power_sums.proofs.merging.add_up.Goals as goal

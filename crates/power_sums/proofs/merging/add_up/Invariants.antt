@@ -1,11 +1,8 @@
 -- `power_sums::merging::add_up` meets its contract. Assumes nothing.
-use mathlib.Core.Path.{◌≡◌, refl, ◌∙◌}
+use mathlib.Core.Path.{◌≡◌}
 use Prim.Native.Nat.{◌-◌, ◌≤◌}
-use native.Mathlib.Omega.{arith}
-use lib.ListN.{length, length-set}
-use borrow.Author.Rules.{rules}
-use Rattle.power_sums.proofs.Loops.{added_to, added_next, added_all}
-use Rattle.bits.specs.Xor.{◌⊕◌}
+use lib.ListN.{length}
+use Rattle.power_sums.proofs.Loops.{added_to}
 use Rattle.power_sums.proofs.merging.add_up.Given as goal
 
 abbrev pub invariant-loop-k : goal.invariant-loop-k

@@ -1,9 +1,8 @@
 -- `power_sums::merging::gather` meets its contract. Assumes nothing.
-use mathlib.Core.Path.{◌≡◌, refl, ap, ◌∙◌}
-use Prim.Native.Nat.{◌+◌, ◌-◌, ◌≤◌}
+use mathlib.Core.Path.{refl, ap, ◌∙◌}
+use Prim.Native.Nat.{◌+◌}
 use native.Mathlib.Omega.{arith}
 use lib.ListN.{length}
-use borrow.Author.Rules.{rules}
 use Rattle.power_sums.proofs.Loops.{collected_to, collected-next, collected_all, length_collected_to}
 use Rattle.power_sums.proofs.merging.gather.Goals as goal
 

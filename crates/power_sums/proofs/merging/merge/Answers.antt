@@ -1,6 +1,4 @@
 -- `power_sums::merging::merge` meets its contract. Assumes nothing.
-use Prim.Native.Nat.{◌-◌}
-use borrow.Author.Rules.{rules}
 use Rattle.power_sums.proofs.Summing.{merge_form}
 use Rattle.power_sums.proofs.merging.merge.Goals as goal
 

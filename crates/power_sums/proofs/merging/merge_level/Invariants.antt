@@ -1,16 +1,9 @@
 -- `power_sums::merging::merge_level` meets its contract. Assumes nothing.
-use mathlib.Core.Path.{◌≡◌, refl, sym, ap, ◌∙◌}
-use Prim.Native.Nat.{ℕ, ◌+◌, ◌-◌, ◌*◌, ◌≤◌}
-use native.Mathlib.Omega.{arith}
-use mathlib.Core.List.{List}
-use lib.ListN.{length, take, drop}
-use borrow.Author.Rules.{rules}
+use mathlib.Core.Path.{◌≡◌}
+use Prim.Native.Nat.{◌+◌, ◌-◌, ◌*◌, ◌≤◌}
+use lib.ListN.{length}
 use Rattle.levels.specs.Twist.{each_block}
 use Rattle.power_sums.specs.Sums.{merged}
-use Rattle.levels.proofs.Blocks.{block_in, block_next, block_length, length-each_block}
-use Rattle.power_sums.proofs.Summing.{length_merged, merged_powers}
-use Rattle.bits.proofs.Parts.{next_row}
-use native.Mathlib.Nat.{zero-mul}
 use Rattle.power_sums.proofs.merging.merge_level.Given as goal
 
 abbrev pub invariant-loop-k : goal.invariant-loop-k

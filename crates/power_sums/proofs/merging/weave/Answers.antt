@@ -1,12 +1,9 @@
 -- `power_sums::merging::weave` meets its contract. Assumes nothing.
-use mathlib.Core.Path.{◌≡◌, refl, ◌∙◌}
-use Prim.Native.Nat.{◌-◌, ◌*◌, ◌≤◌}
+use mathlib.Core.Path.{refl, ◌∙◌}
 use native.Mathlib.Omega.{arith}
-use lib.ListN.{length, take, drop, length-set}
-use borrow.Author.Rules.{rules}
+use lib.ListN.{take, drop, length-set}
 use Rattle.power_sums.proofs.Loops.{weave_next, weave_all}
 use Rattle.power_sums.specs.Sums.{zip}
-use Rattle.bits.specs.Bits.{over}
 use Rattle.bits.proofs.Padded.{over-start}
 use Rattle.power_sums.proofs.merging.weave.Goals as goal
 

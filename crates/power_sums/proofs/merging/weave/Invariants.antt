@@ -1,13 +1,9 @@
 -- `power_sums::merging::weave` meets its contract. Assumes nothing.
-use mathlib.Core.Path.{◌≡◌, refl, ◌∙◌}
+use mathlib.Core.Path.{◌≡◌}
 use Prim.Native.Nat.{◌-◌, ◌*◌, ◌≤◌}
-use native.Mathlib.Omega.{arith}
-use lib.ListN.{length, take, drop, length-set}
-use borrow.Author.Rules.{rules}
-use Rattle.power_sums.proofs.Loops.{weave_next, weave_all}
+use lib.ListN.{length, take, drop}
 use Rattle.power_sums.specs.Sums.{zip}
 use Rattle.bits.specs.Bits.{over}
-use Rattle.bits.proofs.Padded.{over-start}
 use Rattle.power_sums.proofs.merging.weave.Given as goal
 
 abbrev pub invariant-loop-i : goal.invariant-loop-i

@@ -1,13 +1,8 @@
 -- `power_sums::totals::fold_down` meets its contract. Assumes nothing.
-use mathlib.Core.Path.{◌≡◌, refl, sym, ap, ◌∙◌}
-use Prim.Native.Nat.{ℕ, ◌+◌, ◌-◌, ◌≤◌}
-use native.Mathlib.Omega.{arith}
+use mathlib.Core.Path.{◌≡◌}
+use Prim.Native.Nat.{◌-◌, ◌≤◌}
 use lib.ListN.{length}
-use borrow.Author.Rules.{rules}
-use Rattle.field.proofs.Table.{width_narrow}
-use Rattle.levels.proofs.TwoPowers.{two_below}
 use Rattle.power_sums.specs.Sums.{weights_of}
-use Rattle.power_sums.proofs.Summing.{half_fits, factors_few, fold_length, weights_next, weights_length}
 use Rattle.power_sums.proofs.totals.fold_down.Given as goal
 
 abbrev pub invariant-loop-j : goal.invariant-loop-j

@@ -1,11 +1,9 @@
 -- `power_sums::totals::heap` meets its contract. Assumes nothing.
 use mathlib.Core.Path.{◌≡◌, refl, sym, ap, ◌∙◌}
-use Prim.Native.Nat.{ℕ, ◌+◌, ◌-◌, ◌*◌, ◌≤◌}
+use Prim.Native.Nat.{ℕ, ◌+◌, ◌*◌}
 use native.Mathlib.Omega.{arith}
-use lib.ListN.{length, take, length-set}
-use borrow.Author.Rules.{rules}
+use lib.ListN.{length, length-set}
 use Rattle.power_sums.specs.Sums.{heaped}
-use Rattle.bits.specs.Bits.{over}
 use Rattle.levels.proofs.Blocks.{block_in}
 use Rattle.power_sums.proofs.Summing.{heap_next, heap_all}
 use native.Mathlib.Nat.{zero-mul}

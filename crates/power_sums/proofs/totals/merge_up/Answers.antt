@@ -1,9 +1,8 @@
 -- `power_sums::totals::merge_up` meets its contract. Assumes nothing.
 use mathlib.Core.Path.{◌≡◌, refl, ap, ◌∙◌}
-use Prim.Native.Nat.{ℕ, ◌-◌, ◌≤◌}
+use Prim.Native.Nat.{ℕ, ◌-◌}
 use native.Mathlib.Omega.{arith}
-use lib.ListN.{length, get_or}
-use borrow.Author.Rules.{rules}
+use lib.ListN.{get_or}
 use Rattle.levels.proofs.TwoPowers.{two_below}
 use Rattle.power_sums.specs.Sums.{merges_of}
 use Rattle.power_sums.proofs.Summing.{merge_length, merge_small, merges_next, merged-length}

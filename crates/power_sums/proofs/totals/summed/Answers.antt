@@ -2,7 +2,6 @@
 use mathlib.Core.Path.{ap, ◌∙◌}
 use native.Mathlib.Omega.{arith}
 use lib.ListN.{length}
-use borrow.Author.Rules.{rules}
 use Rattle.field.proofs.Table.{width_narrow}
 use Rattle.levels.proofs.Filled.{levels_tops, levels_factors}
 use Rattle.levels.proofs.TwoPowers.{two_below}

@@ -1,10 +1,9 @@
 -- `power_sums::totals::total` meets its contract. Assumes nothing.
 use mathlib.Core.Path.{◌≡◌, refl, sym, ap, ◌∙◌}
-use Prim.Native.Nat.{ℕ, ◌-◌, ◌≤◌}
+use Prim.Native.Nat.{ℕ}
 use native.Mathlib.Omega.{arith}
 use native.Mathlib.Numerals.{add-one}
 use lib.ListN.{length, get_or}
-use borrow.Author.Rules.{rules}
 use Rattle.power_sums.specs.Sums.{sum_to}
 use lib.Bits.{bit_xor}
 use Rattle.bits.specs.Xor.{◌⊕◌}

@@ -1,13 +1,8 @@
 -- `power_sums::totals::total` meets its contract. Assumes nothing.
-use mathlib.Core.Path.{◌≡◌, refl, sym, ap, ◌∙◌}
-use Prim.Native.Nat.{ℕ, ◌-◌, ◌≤◌}
-use native.Mathlib.Omega.{arith}
-use native.Mathlib.Numerals.{add-one}
+use mathlib.Core.Path.{◌≡◌}
+use Prim.Native.Nat.{◌-◌, ◌≤◌}
 use lib.ListN.{length, get_or}
-use borrow.Author.Rules.{rules}
 use Rattle.power_sums.specs.Sums.{sum_to}
-use lib.Bits.{bit_xor}
-use Rattle.bits.specs.Xor.{◌⊕◌}
 use Rattle.power_sums.proofs.totals.total.Given as goal
 
 abbrev pub invariant-loop-i : goal.invariant-loop-i
