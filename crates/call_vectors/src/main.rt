@@ -7,10 +7,13 @@
 // is none.
 #![tactic(auto)]
 
+use anyhow::Result;
 use key::kept::Key;
-use libc::STDOUT_FILENO;
 use slot::Slot;
 use station::{Reply, Station};
+use std::io;
+use std::rt::Files;
+use vectors::input::read_file;
 use vectors::line::{
     Bytes, FILLER, bytes_of, end, holds, letter, number_of, output, refused, size, start,
 };
@@ -216,7 +219,7 @@ fn ends(slot: Slot, first: Slot, line: &[u8], k: u8) -> bool {
 }
 
 // The station at each list's start, the station now, and what was counted.
-#[derive(Drop)]
+#[derive(Clone, Copy)]
 struct Replay {
     first: Station,
     station: Station,
@@ -316,47 +319,39 @@ fn beside_k1() -> Replay {
 }
 
 // Writes the kind's numbers behind its name.
-fn print(t: Tally, kind: usize, name: &[u8]) {
-    io::write_all(STDOUT_FILENO, name);
-    io::print_decimal(STDOUT_FILENO, agreements(t, kind));
-    io::write_all(STDOUT_FILENO, b" agreements, ");
-    io::print_decimal(STDOUT_FILENO, differences(t, kind));
-    io::write_all(STDOUT_FILENO, b" differences\n");
+fn print(rt: &impl Print, t: Tally, kind: usize, name: &str) -> io::Result<()> {
+    let agree = agreements(t, kind);
+    let differ = differences(t, kind);
+    println!(rt; "{name}{agree} agreements, {differ} differences")
 }
 
 // Writes what was counted behind a heading.
-fn print_all(t: Tally, heading: &[u8]) {
-    io::write_all(STDOUT_FILENO, heading);
-    io::write_all(STDOUT_FILENO, b"lists: ");
-    io::print_decimal(STDOUT_FILENO, agreements(t, LIST));
-    print(t, CALL, b", calls: ");
-    print(t, LOAD, b"load: ");
-    print(t, PUBLISH, b"publish: ");
-    print(t, OPEN, b"open: ");
-    print(t, READ, b"read: ");
-    print(t, REPORT, b"report: ");
-    print(t, SESSION, b"session: ");
-    print(t, DROP, b"drop: ");
-    print(t, END, b"ends: ");
+fn print_all(rt: &impl Print, t: Tally, heading: &str) -> io::Result<()> {
+    let lists = agreements(t, LIST);
+    print!(rt; "{heading}\nlists: {lists}")?;
+    print(rt, t, CALL, ", calls: ")?;
+    print(rt, t, LOAD, "load: ")?;
+    print(rt, t, PUBLISH, "publish: ")?;
+    print(rt, t, OPEN, "open: ")?;
+    print(rt, t, READ, "read: ")?;
+    print(rt, t, REPORT, "report: ")?;
+    print(rt, t, SESSION, "session: ")?;
+    print(rt, t, DROP, "drop: ")?;
+    print(rt, t, END, "ends: ")
 }
 
 // Replays the lists of a file from a station on.
-fn replay_file(begin: Replay, file: &[u8], heading: &[u8]) {
-    let fd = os::open_read(file);
-    if fd < 0 {
-        os::fail(file);
-        return;
-    }
+fn replay_file(rt: &(impl Files + Print), begin: Replay, file: &str, heading: &str) -> Result<()> {
     let mut text = [0u8; TEXT];
-    let n = io::read_full(fd, &mut text);
-    libc::close(fd);
+    let n = read_file(rt, file, &mut text)?;
     let s = run(begin, &text[..n]);
-    print_all(s.tally, heading);
+    print_all(rt, s.tally, heading)?;
+    Ok(())
 }
 
-fn main() {
+fn main(rt: HostRuntime) -> Result<()> {
     let fresh = from(Station::fresh());
-    replay_file(fresh, b"calls.txt", b"A, B is empty\n");
-    replay_file(beside_k1(), b"calls.txt", b"A, B holds a published key\n");
-    replay_file(fresh, b"named.txt", b"A, B and other names\n");
+    replay_file(&rt, fresh, "calls.txt", "A, B is empty")?;
+    replay_file(&rt, beside_k1(), "calls.txt", "A, B holds a published key")?;
+    replay_file(&rt, fresh, "named.txt", "A, B and other names")
 }

@@ -2,7 +2,9 @@
 // A line is `m t : g_0 .. g_(t-1) : 1` where g is irreducible, and has 0 for 1 where g has a proper factor.
 #![tactic(auto)]
 
-use libc::STDOUT_FILENO;
+use anyhow::Result;
+use std::io;
+use vectors::input::read_file;
 use vectors::line::{end, number_of};
 use vectors::tally::{Tally, agreements, counted, differences};
 
@@ -69,25 +71,17 @@ fn tally_of(text: &[u8]) -> Tally {
 }
 
 // Writes the kind's numbers behind its name.
-fn print(t: Tally, kind: usize, name: &[u8]) {
-    io::write_all(STDOUT_FILENO, name);
-    io::print_decimal(STDOUT_FILENO, agreements(t, kind));
-    io::write_all(STDOUT_FILENO, b" agreements, ");
-    io::print_decimal(STDOUT_FILENO, differences(t, kind));
-    io::write_all(STDOUT_FILENO, b" differences\n");
+fn print(rt: &impl Print, t: Tally, kind: usize, name: &str) -> io::Result<()> {
+    let agree = agreements(t, kind);
+    let differ = differences(t, kind);
+    println!(rt; "{name}{agree} agreements, {differ} differences")
 }
 
-fn main() {
-    let name = b"irreducible.txt";
-    let fd = os::open_read(name);
-    if fd < 0 {
-        os::fail(name);
-        return;
-    }
+fn main(rt: HostRuntime) -> Result<()> {
     let mut text = [0u8; TEXT];
-    let n = io::read_full(fd, &mut text);
-    libc::close(fd);
+    let n = read_file(&rt, "irreducible.txt", &mut text)?;
     let r = tally_of(&text[..n]);
-    print(r, IRREDUCIBLE, b"irreducible: ");
-    print(r, FACTOR, b"with a proper factor: ");
+    print(&rt, r, IRREDUCIBLE, "irreducible: ")?;
+    print(&rt, r, FACTOR, "with a proper factor: ")?;
+    Ok(())
 }

@@ -2,8 +2,12 @@
 // A line is `mul m a b PRODUCT`, `inv m a INVERSE`, or the same with `refused NUMBER`; `#` starts a comment. Inverses of 0 are refused.
 #![tactic(auto)]
 
+use anyhow::Result;
 use field::Answer;
-use libc::STDOUT_FILENO;
+use vectors::input::read_file;
+
+// The bytes of field.txt at most.
+const TEXT: usize = 65536;
 
 // What has been read of a line: the call's first letter, the numbers, and whether the last is a refusal's.
 #[derive(Drop)]
@@ -149,19 +153,11 @@ fn tally_of(text: &[u8]) -> Tally {
     r
 }
 
-fn main() {
-    let name = b"field.txt";
-    let fd = os::open_read(name);
-    if fd < 0 {
-        os::fail(name);
-        return;
-    }
-    let mut text = io::large_buffer();
-    let n = io::read_full(fd, &mut text);
-    libc::close(fd);
+fn main(rt: HostRuntime) -> Result<()> {
+    let mut text = [0u8; TEXT];
+    let n = read_file(&rt, "field.txt", &mut text)?;
     let r = tally_of(&text[..n]);
-    io::print_decimal(STDOUT_FILENO, r.agree);
-    io::write_all(STDOUT_FILENO, b" agreements\n");
-    io::print_decimal(STDOUT_FILENO, r.differ);
-    io::write_all(STDOUT_FILENO, b" differences\n");
+    println!(rt; "{} agreements", r.agree)?;
+    println!(rt; "{} differences", r.differ)?;
+    Ok(())
 }

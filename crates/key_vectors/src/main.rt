@@ -4,9 +4,12 @@
 
 ghost use Rattle.std.specs.Prelude.{◌+◌, ◌*◌, ◌≤◌, ◌<◌, length};
 
+use anyhow::Result;
 use key::shape::{ShapeAnswer, shape};
-use libc::STDOUT_FILENO;
 use station::Station;
+use std::io;
+use std::rt::Files;
+use vectors::input::read_file;
 use vectors::line::{digit, end};
 use vectors::tally::{Tally, agreements, counted, differences};
 
@@ -85,43 +88,29 @@ fn has_shape(file: &[u8], position: u8) -> bool {
 }
 
 // The same of the file with that name.
-fn standard(name: &[u8], position: u8) -> bool {
-    let fd = os::open_read(name);
-    if fd < 0 {
-        os::fail(name);
-        return false;
-    }
+fn standard(rt: &impl Files, name: &str, position: u8) -> Result<bool> {
     let mut file = [0u8; FILE];
-    let n = io::read_full(fd, &mut file);
-    libc::close(fd);
-    has_shape(&file[..n], position)
+    let n = read_file(rt, name, &mut file)?;
+    Ok(has_shape(&file[..n], position))
 }
 
 // Writes the kind's numbers behind its name.
-fn print(t: Tally, kind: usize, name: &[u8]) {
-    io::write_all(STDOUT_FILENO, name);
-    io::print_decimal(STDOUT_FILENO, agreements(t, kind));
-    io::write_all(STDOUT_FILENO, b" agreements, ");
-    io::print_decimal(STDOUT_FILENO, differences(t, kind));
-    io::write_all(STDOUT_FILENO, b" differences\n");
+fn print(rt: &impl Print, t: Tally, kind: usize, name: &str) -> io::Result<()> {
+    let agree = agreements(t, kind);
+    let differ = differences(t, kind);
+    println!(rt; "{name}{agree} agreements, {differ} differences")
 }
 
-fn main() {
-    let name = b"keyfiles.txt";
-    let fd = os::open_read(name);
-    if fd < 0 {
-        os::fail(name);
-        return;
-    }
+fn main(rt: HostRuntime) -> Result<()> {
     let mut text = [0u8; TEXT];
-    let n = io::read_full(fd, &mut text);
-    libc::close(fd);
+    let n = read_file(&rt, "keyfiles.txt", &mut text)?;
     let mut r = tally_of(&text[..n]);
-    r = counted(r, STANDARD, standard(b"mceliece348864.key", 1));
-    r = counted(r, STANDARD, standard(b"mceliece460896.key", 2));
-    r = counted(r, STANDARD, standard(b"mceliece6688128.key", 3));
-    r = counted(r, STANDARD, standard(b"mceliece6960119.key", 4));
-    r = counted(r, STANDARD, standard(b"mceliece8192128.key", 5));
-    print(r, LINE, b"key files: ");
-    print(r, STANDARD, b"standard keys: ");
+    r = counted(r, STANDARD, standard(&rt, "mceliece348864.key", 1)?);
+    r = counted(r, STANDARD, standard(&rt, "mceliece460896.key", 2)?);
+    r = counted(r, STANDARD, standard(&rt, "mceliece6688128.key", 3)?);
+    r = counted(r, STANDARD, standard(&rt, "mceliece6960119.key", 4)?);
+    r = counted(r, STANDARD, standard(&rt, "mceliece8192128.key", 5)?);
+    print(&rt, r, LINE, "key files: ")?;
+    print(&rt, r, STANDARD, "standard keys: ")?;
+    Ok(())
 }

@@ -2,8 +2,11 @@
 // and differences. A line is `old2new OLD NEW`, `new2old NEW ok OLD` or `new2old NEW refused NUMBER`, with bytes in hexadecimal.
 #![tactic(auto)]
 
+use anyhow::Result;
 use converting::Converted;
-use libc::STDOUT_FILENO;
+use std::io;
+use std::rt::Files;
+use vectors::input;
 use vectors::line::{FILLER, bytes_of, end, letter, refused, size};
 use vectors::tally::{Tally, agreements, counted, differences};
 
@@ -145,72 +148,55 @@ struct Contents {
     count: usize,
 }
 
-fn read_file(name: &[u8]) -> Contents {
+fn read_file(rt: &impl Files, name: &str) -> Result<Contents> {
     let mut file = [0u8; FILE];
-    let fd = os::open_read(name);
-    if fd < 0 {
-        os::fail(name);
-        return Contents {
-            bytes: file,
-            count: 0,
-        };
-    }
-    let n = io::read_full(fd, &mut file);
-    libc::close(fd);
-    Contents {
+    let n = input::read_file(rt, name, &mut file)?;
+    Ok(Contents {
         bytes: file,
         count: n,
-    }
+    })
 }
 
 // A standard key and its network file; where it is asked for, the key gives that file.
-fn with_files(r: Tally, old: &[u8], new: &[u8], to: bool) -> Tally {
-    let o = read_file(old);
-    let n = read_file(new);
+fn with_files(rt: &impl Files, r: Tally, old: &str, new: &str, to: bool) -> Result<Tally> {
+    let o = read_file(rt, old)?;
+    let n = read_file(rt, new)?;
     let a = o.bytes;
     let b = n.bytes;
     let i = size(&a, o.count);
     let j = size(&b, n.count);
     let agrees = reads(&b[..j], &a[..i]) && (!to || converts(true, &a[..i], &b[..j]));
-    counted(r, STANDARD, agrees)
+    Ok(counted(r, STANDARD, agrees))
 }
 
 // The files that converting gives, and those with the standard's own control bits.
-fn with_standard(t: Tally) -> Tally {
-    let mut r = with_files(t, b"348864.key", b"348864.network", true);
-    r = with_files(r, b"460896.key", b"460896.network", true);
-    r = with_files(r, b"6688128.key", b"6688128.network", true);
-    r = with_files(r, b"6960119.key", b"6960119.network", true);
-    r = with_files(r, b"8192128.key", b"8192128.network", true);
-    r = with_files(r, b"348864.key", b"348864.standard", false);
-    r = with_files(r, b"460896.key", b"460896.standard", false);
-    r = with_files(r, b"6688128.key", b"6688128.standard", false);
-    r = with_files(r, b"6960119.key", b"6960119.standard", false);
-    with_files(r, b"8192128.key", b"8192128.standard", false)
+fn with_standard(rt: &impl Files, t: Tally) -> Result<Tally> {
+    let mut r = with_files(rt, t, "348864.key", "348864.network", true)?;
+    r = with_files(rt, r, "460896.key", "460896.network", true)?;
+    r = with_files(rt, r, "6688128.key", "6688128.network", true)?;
+    r = with_files(rt, r, "6960119.key", "6960119.network", true)?;
+    r = with_files(rt, r, "8192128.key", "8192128.network", true)?;
+    r = with_files(rt, r, "348864.key", "348864.standard", false)?;
+    r = with_files(rt, r, "460896.key", "460896.standard", false)?;
+    r = with_files(rt, r, "6688128.key", "6688128.standard", false)?;
+    r = with_files(rt, r, "6960119.key", "6960119.standard", false)?;
+    with_files(rt, r, "8192128.key", "8192128.standard", false)
 }
 
 // Writes the kind's numbers behind its name.
-fn print(t: Tally, kind: usize, name: &[u8]) {
-    io::write_all(STDOUT_FILENO, name);
-    io::print_decimal(STDOUT_FILENO, agreements(t, kind));
-    io::write_all(STDOUT_FILENO, b" agreements, ");
-    io::print_decimal(STDOUT_FILENO, differences(t, kind));
-    io::write_all(STDOUT_FILENO, b" differences\n");
+fn print(rt: &impl Print, t: Tally, kind: usize, name: &str) -> io::Result<()> {
+    let agree = agreements(t, kind);
+    let differ = differences(t, kind);
+    println!(rt; "{name}{agree} agreements, {differ} differences")
 }
 
-fn main() {
-    let name = b"network.txt";
-    let fd = os::open_read(name);
-    if fd < 0 {
-        os::fail(name);
-        return;
-    }
+fn main(rt: HostRuntime) -> Result<()> {
     let mut text = [0u8; TEXT];
-    let n = io::read_full(fd, &mut text);
-    libc::close(fd);
-    let r = with_standard(tally_of(&text[..n]));
-    print(r, OLD_TO_NEW, b"old to new: ");
-    print(r, NEW_TO_OLD, b"new to old: ");
-    print(r, REFUSED, b"refused: ");
-    print(r, STANDARD, b"standard keys: ");
+    let n = input::read_file(&rt, "network.txt", &mut text)?;
+    let r = with_standard(&rt, tally_of(&text[..n]))?;
+    print(&rt, r, OLD_TO_NEW, "old to new: ")?;
+    print(&rt, r, NEW_TO_OLD, "new to old: ")?;
+    print(&rt, r, REFUSED, "refused: ")?;
+    print(&rt, r, STANDARD, "standard keys: ")?;
+    Ok(())
 }

@@ -2,37 +2,40 @@
 // reads capsules from standard input and writes a line for each, and the total.
 #![tactic(auto)]
 
-ghost use Rattle.io.specs.Counts.{IsPrefixLen};
+ghost use Rattle.std.specs.Io.{ReadsAtMost};
 
-use libc::{STDIN_FILENO, STDOUT_FILENO};
 use opener::KeyAnswer;
+use std::rt::Files;
+use std::{fs, io};
+use vectors::input::read_full;
+
+// The bytes of key.bin and of standard input that are read at most.
+const KEY: usize = 4096;
+
+const INPUT: usize = 65536;
 
 // The first bytes of key.bin; none where there is no such file.
-fn read_key(file: &mut [u8]) -> usize
-    ensures { IsPrefixLen result file.new }
+fn read_key(rt: &impl Files, file: &mut [u8]) -> io::Result<usize>
+    ensures { ReadsAtMost result file.new }
 {
-    let fd = os::open_read(b"key.bin");
-    if fd < 0 {
-        return 0;
-    }
-    let n = io::read_full(fd, file);
-    libc::close(fd);
-    n
+    let Ok(mut key) = fs::open(rt, "key.bin") else {
+        return Ok(0);
+    };
+    read_full(&mut key, file)
 }
 
-fn main() {
-    let mut file = io::buffer();
-    let f = read_key(&mut file);
+fn main(rt: HostRuntime) -> io::Result<()> {
+    let mut file = [0u8; KEY];
+    let f = read_key(&rt, &mut file)?;
     let ready = opener::prepare(&file[..f]);
     let mut out = opener::longest();
     let answer = ready.answer;
     let KeyAnswer::Accepted = answer else {
         let n = opener::key_text(answer, &mut out);
-        io::write_all(STDOUT_FILENO, &out[..n]);
-        return;
+        return rt.write_all(&out[..n]);
     };
-    let mut input = io::large_buffer();
-    let i = io::read_full(STDIN_FILENO, &mut input);
+    let mut input = [0u8; INPUT];
+    let i = read_full(&mut rt.reader(), &mut input)?;
     let n = opener::open_lines(ready.station, &input[..i], &mut out);
-    io::write_all(STDOUT_FILENO, &out[..n]);
+    rt.write_all(&out[..n])
 }

@@ -2,32 +2,34 @@
 // input NN.inp, of which the program reads 65,536 bytes, and the text NN.txt.
 #![tactic(auto)]
 
-ghost use Rattle.io.specs.Counts.{IsPrefixLen};
+ghost use Rattle.std.specs.Io.{ReadsAtMost};
 
-use libc::STDOUT_FILENO;
+use std::rt::Files;
+use std::{fs, io};
+use vectors::input::read_full;
 
 // The last case; the cases have even numbers.
 const LAST: u8 = 30;
 
+// The bytes of a key file and of an input that are read at most.
+const KEY: usize = 4096;
+
+const INPUT: usize = 65536;
+
 // The bytes of a case's file with this ending.
-fn read(case: u8, ending: [u8; 3], bytes: &mut [u8]) -> usize
-    ensures { IsPrefixLen result bytes.new }
+fn read(
+    rt: &(impl Files + AllocGlobal),
+    case: u8,
+    ending: &str,
+    bytes: &mut [u8],
+) -> io::Result<usize>
+    ensures { ReadsAtMost result bytes.new }
 {
-    let name = [
-        b'0' + case / 10 % 10,
-        b'0' + case % 10,
-        b'.',
-        ending[0],
-        ending[1],
-        ending[2],
-    ];
-    let fd = os::open_read(&name);
-    if fd < 0 {
-        return 0;
-    }
-    let n = io::read_full(fd, bytes);
-    libc::close(fd);
-    n
+    let name = format!(in rt.alloc(); "{case:02}.{ending}")?;
+    let Ok(mut file) = fs::open(rt, name.as_str()) else {
+        return Ok(0);
+    };
+    read_full(&mut file, bytes)
 }
 
 // The buffer starts with the text.
@@ -46,36 +48,35 @@ fn starts(buffer: &[u8], text: &[u8]) -> bool {
 }
 
 // The report is the case's text.
-fn agrees(case: u8) -> bool {
-    let mut file = io::buffer();
-    let f = read(case, *b"key", &mut file);
-    let mut input = io::large_buffer();
-    let i = read(case, *b"inp", &mut input);
+fn agrees(rt: &(impl Files + AllocGlobal), case: u8) -> io::Result<bool> {
+    let mut file = [0u8; KEY];
+    let f = read(rt, case, "key", &mut file)?;
+    let mut input = [0u8; INPUT];
+    let i = read(rt, case, "inp", &mut input)?;
     let mut text = opener::longest();
-    let t = read(case, *b"txt", &mut text);
+    let t = read(rt, case, "txt", &mut text)?;
     let mut out = opener::longest();
     let n = opener::report(&file[..f], &input[..i], &mut out);
-    n == t && starts(&out, &text[..t])
+    Ok(n == t && starts(&out, &text[..t]))
 }
 
 // Says whether a case agrees, and gives 1 where it does not.
-fn said(case: u8) -> u64 {
-    io::print_decimal(STDOUT_FILENO, case as u64);
-    if agrees(case) {
-        io::write_all(STDOUT_FILENO, b": agrees\n");
-        return 0;
+fn said(rt: &(impl Files + Print + AllocGlobal), case: u8) -> io::Result<u64> {
+    print!(rt; "{case}")?;
+    if agrees(rt, case)? {
+        println!(rt; ": agrees")?;
+        return Ok(0);
     }
-    io::write_all(STDOUT_FILENO, b": differs\n");
-    1
+    println!(rt; ": differs")?;
+    Ok(1)
 }
 
-fn main() {
+fn main(rt: HostRuntime) -> io::Result<()> {
     let mut differences: u64 = 0;
     let mut case: u8 = 0;
     while case <= LAST {
-        differences += said(case) % 2;
+        differences += said(&rt, case)? % 2;
         case += 2;
     }
-    io::print_decimal(STDOUT_FILENO, differences);
-    io::write_all(STDOUT_FILENO, b" differences\n");
+    println!(rt; "{differences} differences")
 }

@@ -4,8 +4,9 @@
 
 ghost use Rattle.std.specs.Prelude.{◌<◌};
 
-use libc::STDOUT_FILENO;
+use anyhow::Result;
 use register::Registered;
+use vectors::input::read_file;
 
 // The bytes of the largest file, and the numbers of the longest line.
 const BYTES: usize = 400000;
@@ -176,19 +177,11 @@ fn tally_of(text: &[u8]) -> Tally {
     r
 }
 
-fn main() {
-    let name = b"registers.txt";
-    let fd = os::open_read(name);
-    if fd < 0 {
-        os::fail(name);
-        return;
-    }
+fn main(rt: HostRuntime) -> Result<()> {
     let mut text = [0u8; BYTES];
-    let n = io::read_full(fd, &mut text);
-    libc::close(fd);
+    let n = read_file(&rt, "registers.txt", &mut text)?;
     let r = tally_of(&text[..n]);
-    io::print_decimal(STDOUT_FILENO, r.agree);
-    io::write_all(STDOUT_FILENO, b" agreements\n");
-    io::print_decimal(STDOUT_FILENO, r.differ);
-    io::write_all(STDOUT_FILENO, b" differences\n");
+    println!(rt; "{} agreements", r.agree)?;
+    println!(rt; "{} differences", r.differ)?;
+    Ok(())
 }

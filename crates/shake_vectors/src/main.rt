@@ -3,9 +3,12 @@
 // at random, with the outputs of hashlib's shake_256.
 #![tactic(auto)]
 
-ghost use Rattle.io.specs.Counts.{IsPrefixLen};
+ghost use Rattle.std.specs.Prelude.{◌≤◌, length};
 
-use libc::STDOUT_FILENO;
+use anyhow::Result;
+use std::io;
+use std::rt::Files;
+use vectors::input::read_file;
 use vectors::line::{FILLER, digit, end, letter, number_of, size, start};
 use vectors::tally::{Tally, agreements, counted, differences};
 
@@ -23,7 +26,7 @@ const MORE: usize = 1;
 
 // The bytes that the text says, two digits each, from the start of out, and their number.
 fn unhex(out: &mut [u8], text: &[u8]) -> usize
-    ensures { IsPrefixLen result out.new }
+    ensures { result ≤ length out.new }
 {
     let n = size(out, text.len() / 2);
     let mut i = 0;
@@ -36,7 +39,7 @@ fn unhex(out: &mut [u8], text: &[u8]) -> usize
 
 // Those of field k.
 fn field(out: &mut [u8], line: &[u8], k: u8) -> usize
-    ensures { IsPrefixLen result out.new }
+    ensures { result ≤ length out.new }
 {
     let at = start(line, k);
     let rest = &line[at..];
@@ -89,30 +92,23 @@ fn tally_of(t: Tally, text: &[u8], kind: usize) -> Tally {
 }
 
 // Those of the file with that name.
-fn file(t: Tally, name: &[u8], kind: usize) -> Tally {
-    let fd = os::open_read(name);
-    if fd < 0 {
-        os::fail(name);
-        return t;
-    }
+fn file(rt: &impl Files, t: Tally, name: &str, kind: usize) -> Result<Tally> {
     let mut text = [0u8; TEXT];
-    let n = io::read_full(fd, &mut text);
-    libc::close(fd);
-    tally_of(t, &text[..n], kind)
+    let n = read_file(rt, name, &mut text)?;
+    Ok(tally_of(t, &text[..n], kind))
 }
 
 // Writes the kind's numbers behind its name.
-fn print(t: Tally, kind: usize, name: &[u8]) {
-    io::write_all(STDOUT_FILENO, name);
-    io::print_decimal(STDOUT_FILENO, agreements(t, kind));
-    io::write_all(STDOUT_FILENO, b" agreements, ");
-    io::print_decimal(STDOUT_FILENO, differences(t, kind));
-    io::write_all(STDOUT_FILENO, b" differences\n");
+fn print(rt: &impl Print, t: Tally, kind: usize, name: &str) -> io::Result<()> {
+    let agree = agreements(t, kind);
+    let differ = differences(t, kind);
+    println!(rt; "{name}{agree} agreements, {differ} differences")
 }
 
-fn main() {
-    let r = file(vectors::tally::none(), b"shake.txt", SHAKE);
-    let t = file(r, b"more.txt", MORE);
-    print(t, SHAKE, b"shake.txt: ");
-    print(t, MORE, b"more.txt: ");
+fn main(rt: HostRuntime) -> Result<()> {
+    let r = file(&rt, vectors::tally::none(), "shake.txt", SHAKE)?;
+    let t = file(&rt, r, "more.txt", MORE)?;
+    print(&rt, t, SHAKE, "shake.txt: ")?;
+    print(&rt, t, MORE, "more.txt: ")?;
+    Ok(())
 }

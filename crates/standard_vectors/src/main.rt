@@ -3,10 +3,11 @@
 // and the session keys of both capsules compared.
 #![tactic(auto)]
 
-ghost use Rattle.io.specs.Counts.{IsPrefixLen};
-
-use libc::STDOUT_FILENO;
+use anyhow::Result;
 use station::{Reply, Station};
+use std::io;
+use std::rt::Files;
+use vectors::input::read_file;
 
 // The bytes of a public key, of the workspace, and of every other file at most.
 const PUBLIC: usize = 261120;
@@ -14,20 +15,6 @@ const PUBLIC: usize = 261120;
 const WORK: usize = 334848;
 
 const FILE: usize = 20000;
-
-// A file's bytes from the start of out, and their number.
-fn read_file(name: &[u8], out: &mut [u8]) -> usize
-    ensures { IsPrefixLen result out.new }
-{
-    let fd = os::open_read(name);
-    if fd < 0 {
-        os::fail(name);
-        return 0;
-    }
-    let n = io::read_full(fd, out);
-    libc::close(fd);
-    n
-}
 
 // The first n bytes are the same.
 fn same(a: &[u8], b: &[u8], n: usize) -> bool {
@@ -47,136 +34,160 @@ fn same(a: &[u8], b: &[u8], n: usize) -> bool {
     true
 }
 
-fn print(what: &[u8], right: bool) {
-    io::write_all(STDOUT_FILENO, what);
+fn print(rt: &impl Print, what: &str, right: bool) -> io::Result<()> {
     if right {
-        io::write_all(STDOUT_FILENO, b": right\n");
+        println!(rt; "{what}: right")
     } else {
-        io::write_all(STDOUT_FILENO, b": wrong\n");
+        println!(rt; "{what}: wrong")
     }
 }
 
 // Publish writes the public key.
-fn publishes(s: Station, name: &[u8]) -> Reply {
+fn publishes(rt: &(impl Files + Print), s: Station, name: &str) -> Result<Reply> {
     let mut public = [0u8; PUBLIC];
-    let n = read_file(name, &mut public);
+    let n = read_file(rt, name, &mut public)?;
     let mut out = [0u8; PUBLIC];
     let mut work = [0u8; WORK];
     let r = s.publish(Station::A, &mut out, &mut work);
     print(
-        b"public key",
+        rt,
+        "public key",
         r.refused == 0 && 0 < n && same(&out, &public, n),
-    );
-    r
+    )?;
+    Ok(r)
 }
 
 // Lock makes the capsule of the pattern under the public key.
-fn locks(m: u8, n: u16, t: u16, name: &[u8], pattern: &[u8], capsule: &[u8]) {
+fn locks(
+    rt: &(impl Files + Print),
+    m: u8,
+    n: u16,
+    t: u16,
+    name: &str,
+    pattern: &[u8],
+    capsule: &[u8],
+) -> Result<()> {
     let mut public = [0u8; PUBLIC];
-    let k = read_file(name, &mut public);
+    let k = read_file(rt, name, &mut public)?;
     let mut out = [0u8; 256];
     let x = field::number(locking::lock(m, n, t, &public[..k], pattern, &mut out));
-    print(b"locked", x == 0 && same(&out, capsule, capsule.len()));
+    print(rt, "locked", x == 0 && same(&out, capsule, capsule.len()))?;
+    Ok(())
 }
 
 // Open gives the pattern with t ones.
-fn opens(s: Station, t: u16, capsule: &[u8], pattern: &[u8]) {
+fn opens(rt: &impl Print, s: Station, t: u16, capsule: &[u8], pattern: &[u8]) -> io::Result<()> {
     let mut out = [0u8; 1024];
     let r = s.open(Station::A, capsule, &mut out);
     print(
-        b"opened",
+        rt,
+        "opened",
         r.refused == 0 && r.ones == t && same(&out, pattern, pattern.len()),
-    );
+    )
 }
 
 // So does read, of the capsule filled up with zeros.
-fn reads(s: Station, t: u16, word: &[u8], pattern: &[u8]) {
+fn reads(rt: &impl Print, s: Station, t: u16, word: &[u8], pattern: &[u8]) -> io::Result<()> {
     let mut out = [0u8; 1024];
     let r = s.read(Station::A, word, &mut out);
     print(
-        b"read",
+        rt,
+        "read",
         r.refused == 0 && r.ones == t && same(&out, pattern, pattern.len()),
-    );
+    )
 }
 
 // A capsule with one bit changed is refused with 13.
-fn refuses(s: Station, name: &[u8]) {
+fn refuses(rt: &(impl Files + Print), s: Station, name: &str) -> Result<()> {
     let mut capsule = [0u8; FILE];
-    let n = read_file(name, &mut capsule);
+    let n = read_file(rt, name, &mut capsule)?;
     let mut out = [0u8; 1024];
     let r = s.open(Station::A, &capsule[..n], &mut out);
-    print(b"refused with 13", r.refused == 13);
+    print(rt, "refused with 13", r.refused == 13)?;
+    Ok(())
 }
 
 // The session key of a capsule, with the secret, is the one in the file.
-fn derives(s: Station, what: &[u8], capsule: &[u8], secret: &[u8], session: &[u8]) {
+fn derives(
+    rt: &(impl Files + Print),
+    s: Station,
+    what: &str,
+    capsule: &str,
+    secret: &str,
+    session: &str,
+) -> Result<()> {
     let mut c = [0u8; FILE];
-    let cn = read_file(capsule, &mut c);
+    let cn = read_file(rt, capsule, &mut c)?;
     let mut z = [0u8; FILE];
-    let zn = read_file(secret, &mut z);
+    let zn = read_file(rt, secret, &mut z)?;
     let mut key = [0u8; FILE];
-    let n = read_file(session, &mut key);
+    let n = read_file(rt, session, &mut key)?;
     let r = s.session(Station::A, &c[..cn], &z[..zn]);
     let own = r.key;
-    print(what, r.refused == 0 && n == 32 && same(&own, &key, 32));
+    print(rt, what, r.refused == 0 && n == 32 && same(&own, &key, 32))?;
+    Ok(())
 }
 
 // The other calls of one shape; the station that holds its key, published.
 fn shape(
-    key: &[u8],
-    public: &[u8],
-    capsule: &[u8],
-    pattern: &[u8],
-    reject: &[u8],
+    rt: &(impl Files + Print),
+    key: &str,
+    public: &str,
+    capsule: &str,
+    pattern: &str,
+    reject: &str,
     m: u8,
     n: u16,
     t: u16,
-) -> Station {
+) -> Result<Station> {
     let mut file = [0u8; FILE];
-    let k = read_file(key, &mut file);
+    let k = read_file(rt, key, &mut file)?;
     let fresh = Station::fresh();
     let loaded = fresh.load(Station::A, &file[..k]);
-    print(b"key", loaded.refused == 0);
+    print(rt, "key", loaded.refused == 0)?;
     let a = loaded.station;
-    let r = publishes(a, public);
+    let r = publishes(rt, a, public)?;
     let s = r.station;
     let mut c = [0u8; FILE];
-    let cn = read_file(capsule, &mut c);
+    let cn = read_file(rt, capsule, &mut c)?;
     let mut p = [0u8; FILE];
-    let pn = read_file(pattern, &mut p);
-    opens(s, t, &c[..cn], &p[..pn]);
+    let pn = read_file(rt, pattern, &mut p)?;
+    opens(rt, s, t, &c[..cn], &p[..pn])?;
     let mut word = [0u8; 436];
-    read_file(capsule, &mut word);
-    reads(s, t, &word, &p[..pn]);
-    locks(m, n, t, public, &p[..pn], &c[..cn]);
-    refuses(s, reject);
-    s
+    read_file(rt, capsule, &mut word)?;
+    reads(rt, s, t, &word, &p[..pn])?;
+    locks(rt, m, n, t, public, &p[..pn], &c[..cn])?;
+    refuses(rt, s, reject)?;
+    Ok(s)
 }
 
-fn main() {
-    io::write_all(STDOUT_FILENO, b"mceliece348864\n");
+fn main(rt: HostRuntime) -> Result<()> {
+    println!(rt; "mceliece348864")?;
     let s = shape(
-        b"mceliece348864.key",
-        b"mceliece348864.public",
-        b"mceliece348864.capsule",
-        b"mceliece348864.pattern",
-        b"mceliece348864.capsule_reject",
+        &rt,
+        "mceliece348864.key",
+        "mceliece348864.public",
+        "mceliece348864.capsule",
+        "mceliece348864.pattern",
+        "mceliece348864.capsule_reject",
         12,
         3488,
         64,
-    );
+    )?;
     derives(
+        &rt,
         s,
-        b"session key",
-        b"mceliece348864.capsule",
-        b"mceliece348864.secret",
-        b"mceliece348864.session",
-    );
+        "session key",
+        "mceliece348864.capsule",
+        "mceliece348864.secret",
+        "mceliece348864.session",
+    )?;
     derives(
+        &rt,
         s,
-        b"session key of the secret",
-        b"mceliece348864.capsule_reject",
-        b"mceliece348864.secret",
-        b"mceliece348864.session_capsule_reject",
-    );
+        "session key of the secret",
+        "mceliece348864.capsule_reject",
+        "mceliece348864.secret",
+        "mceliece348864.session_capsule_reject",
+    )
 }

@@ -1,6 +1,7 @@
-// What the programs that run vectors share.
+// What the programs share.
 #![tactic(auto)]
 
+pub mod input;
 pub mod line;
 pub mod tally;
 pub mod values;

@@ -5,7 +5,7 @@ ghost use Rattle.vectors.specs.Tallies.{no_cases, counted_of};
 // The kinds at most.
 const KINDS: usize = 16;
 
-#[derive(Drop)]
+#[derive(Clone, Copy)]
 pub struct Tally {
     pub agree: [u64; 16],
     pub differ: [u64; 16],

@@ -9,10 +9,12 @@
 
 ghost use Rattle.std.specs.Prelude.{◌≡◌, length};
 
+use anyhow::Result;
 use key::kept::Key;
-use libc::STDOUT_FILENO;
 use reading::Answer;
 use station::{Reply, Station};
+use std::io;
+use vectors::input::read_file;
 use vectors::line::{
     Bytes, FILLER, bytes_of, end, holds, letter, no_bytes, number_of, output, refused, size,
 };
@@ -296,17 +298,15 @@ fn run(text: &[u8]) -> State {
     s
 }
 
-fn say(name: &[u8], holds: bool) {
-    io::write_all(STDOUT_FILENO, name);
+fn say(rt: &impl Print, name: &str, holds: bool) -> io::Result<()> {
     if holds {
-        io::write_all(STDOUT_FILENO, b": yes\n");
-        return;
+        return println!(rt; "{name}: yes");
     }
-    io::write_all(STDOUT_FILENO, b": no\n");
+    println!(rt; "{name}: no")
 }
 
 // Two facts of document 01, 'by running'.
-fn by_running() {
+fn by_running(rt: &impl Print) -> io::Result<()> {
     let k1 = key_of(Station::A, b"key 040600010009000d000f000e000b0001000000");
     let k2 = key_of(
         Station::B,
@@ -315,24 +315,24 @@ fn by_running() {
     let held = k1.station;
     let key = held.a.key;
     say(
-        b"K1 lock 00 gives 12",
+        rt,
+        "K1 lock 00 gives 12",
         locks(key, bytes_of(b"public 03010200", 1), b"lock 00 refused 12"),
-    );
+    )?;
     let held = k2.station;
     let key = held.b.key;
     say(
-        b"K2 read 03 00 gives 03 00, two ones",
+        rt,
+        "K2 read 03 00 gives 03 00, two ones",
         reads(key, b"read 0300 ok 0300 2"),
-    );
+    )
 }
 
 // Writes the kind's numbers behind its name.
-fn print(t: Tally, kind: usize, name: &[u8]) {
-    io::write_all(STDOUT_FILENO, name);
-    io::print_decimal(STDOUT_FILENO, agreements(t, kind));
-    io::write_all(STDOUT_FILENO, b" agreements, ");
-    io::print_decimal(STDOUT_FILENO, differences(t, kind));
-    io::write_all(STDOUT_FILENO, b" differences\n");
+fn print(rt: &impl Print, t: Tally, kind: usize, name: &str) -> io::Result<()> {
+    let agree = agreements(t, kind);
+    let differ = differences(t, kind);
+    println!(rt; "{name}{agree} agreements, {differ} differences")
 }
 
 // Zeros for the text. The contract gives the length alone: the prover cannot compute a list as long as this.
@@ -342,25 +342,19 @@ fn empty_text() -> [u8; 820000]
     [0; TEXT]
 }
 
-fn main() {
-    let name = b"words.txt";
-    let fd = os::open_read(name);
-    if fd < 0 {
-        os::fail(name);
-        return;
-    }
+fn main(rt: HostRuntime) -> Result<()> {
     let mut text = empty_text();
-    let n = io::read_full(fd, &mut text);
-    libc::close(fd);
+    let n = read_file(&rt, "words.txt", &mut text)?;
     let s = run(&text[..n]);
     let t = s.tally;
-    print(t, KEY, b"key: ");
-    print(t, PUBLISH, b"publish: ");
-    print(t, READ, b"read: ");
-    print(t, MARKED, b"marked: ");
-    print(t, OPEN, b"open: ");
-    print(t, SESSION, b"session: ");
-    print(t, REPORT, b"report: ");
-    print(t, LOCK, b"lock: ");
-    by_running();
+    print(&rt, t, KEY, "key: ")?;
+    print(&rt, t, PUBLISH, "publish: ")?;
+    print(&rt, t, READ, "read: ")?;
+    print(&rt, t, MARKED, "marked: ")?;
+    print(&rt, t, OPEN, "open: ")?;
+    print(&rt, t, SESSION, "session: ")?;
+    print(&rt, t, REPORT, "report: ")?;
+    print(&rt, t, LOCK, "lock: ")?;
+    by_running(&rt)?;
+    Ok(())
 }

@@ -1,7 +1,6 @@
 -- Two digits. Assumes nothing.
 use mathlib.Core.Path.{ap, ap₂, ◌∙◌}
 use Prim.Native.Nat.{ℕ, ◌+◌, ◌*◌}
-use borrow.Author.Rules.{rules}
 use Rattle.vectors.specs.Lines.{digit_of}
 use Rattle.vectors.proofs.line.byte.Goals as goal
 

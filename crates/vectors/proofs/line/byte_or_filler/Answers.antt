@@ -1,6 +1,5 @@
 -- Below the count or not. Assumes nothing.
 use mathlib.Core.Path.{refl}
-use borrow.Author.Rules.{rules}
 use borrow.Author.Tests.{lt-ltb, le-ltb}
 use Rattle.vectors.specs.Lines.{byte_or_filler}
 use Rattle.vectors.proofs.line.byte_or_filler.Goals as goal

@@ -1,12 +1,8 @@
 -- The invariant: the bytes of what is left, behind those read, are the field's. Assumes nothing.
-use mathlib.Core.Path.{◌≡◌, sym, ap₂, ◌∙◌}
-use Prim.Native.Nat.{ℕ, ◌-◌, ◌≤◌}
-use native.Mathlib.Omega.{arith}
-use borrow.Author.Rules.{rules}
+use mathlib.Core.Path.{◌≡◌}
+use Prim.Native.Nat.{◌-◌, ◌≤◌}
 use lib.ListN.{length, drop}
-use Rattle.vectors.specs.Lines.{hex_bytes, field_of, with_bytes, bytes_of}
-use Rattle.vectors.specs.declared.line.Bytes.{Bytes}
-use Rattle.vectors.proofs.Fields.{bytes_short, bytes_stop, bytes_next}
+use Rattle.vectors.specs.Lines.{hex_bytes, with_bytes, bytes_of}
 use Rattle.vectors.proofs.line.bytes_of.Given as goal
 
 abbrev pub invariant-loop-i : goal.invariant-loop-i

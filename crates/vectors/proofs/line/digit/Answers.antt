@@ -1,7 +1,6 @@
 -- Below `a` or not. Assumes nothing.
 use mathlib.Core.Path.{refl}
 use native.Mathlib.Omega.{arith}
-use borrow.Author.Rules.{rules}
 use borrow.Author.Tests.{lt-ltb, le-ltb}
 use Rattle.vectors.specs.Lines.{digit_of}
 use Rattle.vectors.proofs.line.digit.Goals as goal

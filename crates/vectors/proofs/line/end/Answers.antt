@@ -1,10 +1,5 @@
 -- The invariant: the newline of what is left, i places on, is that of the text. Assumes nothing.
-use mathlib.Core.Path.{◌≡◌}
-use Prim.Native.Nat.{◌+◌, ◌-◌, ◌≤◌}
 use native.Mathlib.Omega.{arith}
-use borrow.Author.Rules.{rules}
-use lib.ListN.{length, drop}
-use Rattle.vectors.specs.Lines.{end_of}
 use Rattle.vectors.proofs.Fields.{end_here, end_next, end_none}
 use Rattle.vectors.proofs.line.end.Goals as goal
 

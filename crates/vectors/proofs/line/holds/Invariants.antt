@@ -1,11 +1,9 @@
 -- The invariant: the places from i on decide. Assumes nothing.
-use mathlib.Core.Path.{◌≡◌, refl, sym, ◌∙◌}
+use mathlib.Core.Path.{◌≡◌}
 use Prim.Native.Nat.{◌-◌, ◌≤◌}
-use native.Mathlib.Omega.{arith}
-use borrow.Author.Rules.{rules}
 use lib.ListN.{get_or}
 use Rattle.vectors.specs.Lines.{byte_or_filler, holds_of}
-use Rattle.vectors.proofs.Places.{same_from, same_end, same_next, same_stop}
+use Rattle.vectors.proofs.Places.{same_from}
 use Rattle.vectors.proofs.line.holds.Given as goal
 
 abbrev pub invariant-loop-i : goal.invariant-loop-i

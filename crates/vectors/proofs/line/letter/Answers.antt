@@ -1,6 +1,5 @@
 -- The byte, or nothing past the end. Assumes nothing.
 use mathlib.Core.Path.{sym}
-use borrow.Author.Rules.{rules}
 use lib.ListN.{get_or-eq_default}
 use Rattle.vectors.proofs.line.letter.Goals as goal
 

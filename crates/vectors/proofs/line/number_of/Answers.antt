@@ -1,9 +1,8 @@
 -- The invariant: the number of what is left, behind the digits read, is the field's. Assumes nothing.
-use mathlib.Core.Path.{◌≡◌, sym, ap, ◌∙◌}
-use Prim.Native.Nat.{ℕ, ◌-◌, ◌≤◌}
+use mathlib.Core.Path.{sym, ap, ◌∙◌}
+use Prim.Native.Nat.{ℕ}
 use native.Mathlib.Omega.{arith}
-use borrow.Author.Rules.{rules}
-use lib.ListN.{length, drop}
+use lib.ListN.{drop}
 use Rattle.vectors.specs.Lines.{decimal_from, number_of, field_of}
 use Rattle.vectors.proofs.Fields.{number_end, number_stop, number-next}
 use Rattle.vectors.proofs.line.number_of.Goals as goal

@@ -1,6 +1,5 @@
 -- The number, then the bytes. Assumes nothing.
 use mathlib.Core.Path.{◌≡◌, refl, sym, ◌∙◌}
-use borrow.Author.Rules.{rules}
 use borrow.Author.Tests.{eq-eqb, ne_eqb}
 use Rattle.vectors.specs.Lines.{refused_of, output_of}
 use Rattle.vectors.proofs.line.output.Goals as goal

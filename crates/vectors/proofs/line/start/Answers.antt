@@ -1,13 +1,12 @@
 -- The invariant: the start of the field in what is left, i places on, is that in the line. Assumes nothing.
 use mathlib.Core.Path.{◌≡◌, sym, ap, ◌∙◌}
-use Prim.Native.Nat.{ℕ, suc, ◌+◌, ◌-◌, ◌≤◌}
-use mathlib.Core.Logic.{⊎_elim}
+use Prim.Native.Nat.{ℕ, suc, ◌+◌}
 use native.Mathlib.Omega.{arith}
-use borrow.Author.Rules.{rules}
-use lib.ListN.{length, drop}
+use lib.ListN.{drop}
 use Rattle.vectors.specs.Lines.{start_of}
 use Rattle.vectors.proofs.Fields.{start_here, start_none, start-blank, start_other}
 use Rattle.vectors.proofs.line.start.Goals as goal
+use Rattle.vectors.proofs.line.start.Goals.{then-line-i-eq32, else-line-i-eq32}
 
 pub loop-i-init : goal.loop-i-init
 loop-i-init c = (omega arith, omega arith)
@@ -24,12 +23,14 @@ loop-i-preserved c =
     let a = c.args in
     let left : l.left ≡ 0 → ⊥ = c.if-left-eq0.false in
     let next : start_of (drop l.i a.line.now) l.left ≡ suc (start_of (drop (l.i + 1) a.line.now) c.if-line-i-eq32.left) =
-    ⊎_elim
-    (λ w. start-blank a.line.now l.i l.left (omega arith) left w.0.taken
-    ∙ ap (λ (k : ℕ). suc (start_of (drop (l.i + 1) a.line.now) k)) (sym w.1))
-    (λ w. start_other a.line.now l.i l.left (omega arith) left w.0.left
-    ∙ ap (λ (k : ℕ). suc (start_of (drop (l.i + 1) a.line.now) k)) (sym w.1))
-    c.if-line-i-eq32.branch in
+    elim c.if-line-i-eq32.branch [
+      | then-line-i-eq32 w ↦
+          start-blank a.line.now l.i l.left (omega arith) left w.if-line-i-eq32.true
+          ∙ ap (λ (k : ℕ). suc (start_of (drop (l.i + 1) a.line.now) k)) (sym w.left-is)
+      | else-line-i-eq32 w ↦
+          start_other a.line.now l.i l.left (omega arith) left w.if-line-i-eq32.false
+          ∙ ap (λ (k : ℕ). suc (start_of (drop (l.i + 1) a.line.now) k)) (sym w.left-is)
+    ] in
     (omega arith, omega (arith, next, l.invariant.1))
 
 pub returns : goal.returns

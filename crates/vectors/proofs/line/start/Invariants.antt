@@ -1,12 +1,8 @@
 -- The invariant: the start of the field in what is left, i places on, is that in the line. Assumes nothing.
-use mathlib.Core.Path.{◌≡◌, sym, ap, ◌∙◌}
-use Prim.Native.Nat.{ℕ, suc, ◌+◌, ◌-◌, ◌≤◌}
-use mathlib.Core.Logic.{⊎_elim}
-use native.Mathlib.Omega.{arith}
-use borrow.Author.Rules.{rules}
+use mathlib.Core.Path.{◌≡◌}
+use Prim.Native.Nat.{◌+◌, ◌-◌, ◌≤◌}
 use lib.ListN.{length, drop}
 use Rattle.vectors.specs.Lines.{start_of}
-use Rattle.vectors.proofs.Fields.{start_here, start_none, start-blank, start_other}
 use Rattle.vectors.proofs.line.start.Given as goal
 
 abbrev pub invariant-loop-i : goal.invariant-loop-i

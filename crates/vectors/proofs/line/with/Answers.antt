@@ -1,6 +1,5 @@
 -- One store. Assumes nothing.
 use mathlib.Core.Path.{refl}
-use borrow.Author.Rules.{rules}
 use Rattle.vectors.specs.Lines.{with_byte}
 use Rattle.vectors.proofs.line.with.Goals as goal
 

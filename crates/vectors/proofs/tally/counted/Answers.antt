@@ -1,6 +1,5 @@
 -- One store, by whether the case agrees. Assumes nothing.
 use mathlib.Core.Path.{refl}
-use borrow.Author.Rules.{rules}
 use Rattle.vectors.specs.Tallies.{one_more, counted_of}
 use Rattle.vectors.proofs.tally.counted.Goals as goal
 

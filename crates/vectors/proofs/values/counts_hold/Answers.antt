@@ -1,8 +1,6 @@
 -- The invariant: the values from v on decide. Assumes nothing.
-use mathlib.Core.Path.{◌≡◌, refl, sym, ◌∙◌}
-use Prim.Native.Nat.{◌-◌, ◌≤◌}
+use mathlib.Core.Path.{refl, sym, ◌∙◌}
 use native.Mathlib.Omega.{arith}
-use borrow.Author.Rules.{rules}
 use lib.ListN.{get_or}
 use Rattle.vectors.specs.Values.{occurrences_of, counts_hold}
 use Rattle.vectors.proofs.Places.{same_from, same_end, same_next, same_stop}

@@ -1,11 +1,9 @@
 -- The invariant: the values from v on decide. Assumes nothing.
-use mathlib.Core.Path.{◌≡◌, refl, sym, ◌∙◌}
+use mathlib.Core.Path.{◌≡◌}
 use Prim.Native.Nat.{◌-◌, ◌≤◌}
-use native.Mathlib.Omega.{arith}
-use borrow.Author.Rules.{rules}
 use lib.ListN.{get_or}
 use Rattle.vectors.specs.Values.{occurrences_of, counts_hold}
-use Rattle.vectors.proofs.Places.{same_from, same_end, same_next, same_stop}
+use Rattle.vectors.proofs.Places.{same_from}
 use Rattle.vectors.proofs.values.counts_hold.Given as goal
 
 abbrev pub invariant-loop-v : goal.invariant-loop-v

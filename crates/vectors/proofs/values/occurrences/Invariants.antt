@@ -1,12 +1,8 @@
 -- The invariant: those that were met and those from i on are all. Assumes nothing.
 use mathlib.Core.Path.{◌≡◌}
 use Prim.Native.Nat.{◌+◌, ◌-◌, ◌≤◌}
-use mathlib.Core.Logic.{⊎_elim}
-use native.Mathlib.Omega.{arith}
-use borrow.Author.Rules.{rules}
 use lib.ListN.{length, drop}
 use Rattle.vectors.specs.Values.{occurrences_of}
-use Rattle.vectors.proofs.Places.{occurs_none, occurs_here, occurs_not}
 use Rattle.vectors.proofs.values.occurrences.Given as goal
 
 abbrev pub invariant-loop-i : goal.invariant-loop-i

@@ -1,0 +1,9 @@
+-- `word_vectors::run` is safe and ends: i passes the next newline each time. Assumes nothing.
+use Rattle.std.proofs.Common.{length, ◌+◌, ◌-◌, ◌≤◌}
+use Rattle.word_vectors.proofs.run.Given as goal
+
+abbrev pub invariant-loop-i : goal.invariant-loop-i
+invariant-loop-i l = l.i ≤ length l.text + 1
+
+abbrev pub decreases-loop-i : goal.decreases-loop-i
+decreases-loop-i l = length l.text + 1 - l.i
