@@ -1,10 +1,12 @@
 -- What load and publish give, and the text by that: the program's text is that of the key, or the lines. Assumes nothing.
 use mathlib.Core.Path.{◌≡◌, refl, sym, ap, ◌∙◌}
 use mathlib.Core.Bool.{Bool, true, false, cond}
+use mathlib.Core.Logic.{◌⊎◌, ⊎_elim}
 use mathlib.Core.List.{List, []}
 use Prim.Native.Nat.{ℕ, zero, suc}
 use native.Mathlib.Omega.{arith}
 use borrow.Author.Tests.{eq-eqb, ne_eqb}
+use denote.Enum.Declared.{tag_of, declared}
 use lib.ListN.{take}
 use Rattle.field.specs.Numbers.{first_of}
 use Rattle.key.specs.Keys.{parse, key_number}
@@ -23,6 +25,7 @@ use Rattle.opener.specs.Prepared.{slot_a, reply_a, key_answer, ready_of, publish
 use Rattle.opener.specs.declared.KeyAnswer.{KeyAnswer}
 use Rattle.opener.specs.declared.KeyAnswer.TheVariants.{Accepted, Refused, TooLarge}
 use Rattle.opener.specs.declared.Ready.{Ready}
+use Rattle.opener.specs.contracts.KeyAnswer.{enum}
 use Rattle.opener.proofs.NamesA.{fresh_shown, same_number, same_slot}
 use Rattle.opener.proofs.Shape.{accepted-four}
 use Rattle.opener.proofs.Text.{key_accepted}
@@ -48,6 +51,12 @@ answer_text : (n : ℕ) {a b : List ℕ} → (n ≡ 0 → a ≡ b) → unless_re
 unfolding unless_refused key_text key_answer
 answer_text zero h = h refl
 answer_text (suc n) h = refl
+
+-- the variants past the first
+pub not_accepted : (a : KeyAnswer) → (tag_of (declared enum) a ≡ 1) ⊎ (tag_of (declared enum) a ≡ 2) → a ≡ Accepted → ⊥
+not_accepted a t e =
+    let z : tag_of (declared enum) a ≡ 0 = ap (tag_of (declared enum)) e in
+    ⊎_elim (λ x. omega (arith, x, z)) (λ x. omega (arith, x, z)) t
 
 -- a key that is not accepted: nothing of what follows
 pub text_other : (a : KeyAnswer) (text : List ℕ) → (a ≡ Accepted → ⊥) → key_text a text ≡ key_text a []
