@@ -3,7 +3,7 @@
 // at random, with the outputs of hashlib's shake_256.
 #![tactic(auto)]
 
-ghost use Rattle.std.specs.Prelude.{◌≤◌, length};
+ghost use Rattle.io.specs.Counts.{IsPrefixLen};
 
 use anyhow::Result;
 use std::io;
@@ -26,7 +26,7 @@ const MORE: usize = 1;
 
 // The bytes that the text says, two digits each, from the start of out, and their number.
 fn unhex(out: &mut [u8], text: &[u8]) -> usize
-    ensures { result ≤ length out.new }
+    ensures { IsPrefixLen result out.new }
 {
     let n = size(out, text.len() / 2);
     let mut i = 0;
@@ -39,7 +39,7 @@ fn unhex(out: &mut [u8], text: &[u8]) -> usize
 
 // Those of field k.
 fn field(out: &mut [u8], line: &[u8], k: u8) -> usize
-    ensures { result ≤ length out.new }
+    ensures { IsPrefixLen result out.new }
 {
     let at = start(line, k);
     let rest = &line[at..];

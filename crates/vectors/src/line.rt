@@ -1,5 +1,6 @@
 // The fields of a line, with a blank between two, and the buffers that they tell of.
 ghost use Rattle.std.specs.Prelude.{◌≡◌, ◌+◌, ◌*◌, ◌≤◌, ◌<◌, min, length, get_or};
+ghost use Rattle.io.specs.Counts.{IsPrefixLen};
 ghost use Rattle.vectors.specs.Lines.{end_of, start_of, digit_of, number_of, refused_of, no_bytes, with_byte, bytes_of, output_of, byte_or_filler, holds_of};
 
 // The most bytes of a field.
@@ -18,7 +19,7 @@ pub struct Bytes {
 // The count, at most the number of the bytes.
 pub fn size(bytes: &[u8], count: usize) -> usize
     ensures value { result ≡ min count (length bytes.now) }
-    ensures counts { result ≤ length bytes.now }
+    ensures counts { IsPrefixLen result bytes.now }
 {
     if count < bytes.len() {
         count
