@@ -1,5 +1,5 @@
 -- Linear-feedback shift registers: a connection polynomial C with C 0 = 1, zero past the length l. It generates the first n
--- terms of S if (C-as-S) k = 0 for l ≤ k < n. The shortest is unique where twice its length is at most n. Assumes nothing.
+-- terms of S if (C·S) k = 0 for l ≤ k < n. The shortest is unique where twice its length is at most n. Assumes nothing.
 use mathlib.Core.Path.{◌≡◌, sym, ◌∙◌, ap, ap₂, fun_ext}
 use mathlib.Core.Logic.{◌≢◌}
 use Prim.Native.Nat.{ℕ, zero, suc, ◌+◌, ◌-◌, ◌≤◌, ◌<◌}

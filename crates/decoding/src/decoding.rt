@@ -125,7 +125,7 @@ fn explain(m: u8, support: &[u16], g: &[u16], word: &[u8]) -> Found
 }
 
 // The pattern found in a word at a kept key: at one that load accepts what reading gives (`decoded-reading`), and no refusal
-// (`decoded-divides`). Nothing where m is no width or n or t is larger than its array. Bits past the word's last byte are 0.
+// (`decoded_divides`). Nothing where m is no width or n or t is larger than its array. Bits past the word's last byte are 0.
 pub fn decode<'a>(
     m: u8,
     n: u16,

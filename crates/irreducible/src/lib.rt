@@ -75,7 +75,8 @@ fn check_key<'a>(
     check(m, n, t, support, g)
 }
 
-// Whether it is an exchange key, checked without long arrays where it is to be lean: 25 or 34 on refusal. No square divides g once 25 has passed.
+// Whether it is an exchange key: 25 or 34 on refusal, without long arrays where it is to be lean. No square divides g once 25 has
+// passed.
 pub fn check_exchange_by<'a>(
     m: u8,
     n: u16,
@@ -98,7 +99,7 @@ pub fn check_exchange_by<'a>(
     x
 }
 
-// The same, not lean.
+// Whether a kept key, lent by its parts, is an exchange key: 25 or 34 on refusal. No square divides g once 25 has passed.
 pub fn check_exchange<'a>(
     m: u8,
     n: u16,

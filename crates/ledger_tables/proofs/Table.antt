@@ -357,8 +357,6 @@ story =
     (ask (open_capsule [] (zeros 1)), refused 24) ∷
     (ask (open_capsule (0x0E ∷ []) (zeros 1)), refused 24) ∷
     (ask (open_capsule (0x02 ∷ []) (zeros 1)), refused 24) ∷
-    (publish (small (zeros 4) (zeros 7)), refused 11) ∷
-    (publish (small (zeros 4) (zeros 8)), accepted (0x03 ∷ 0x01 ∷ 0x02 ∷ 0x00 ∷ []) 0) ∷
     (publish (systematic (zeros 4) (zeros 4)), accepted (0x03 ∷ 0x01 ∷ 0x02 ∷ 0x00 ∷ []) 0) ∷ []
 
 unfoldable pub calls : List Call
@@ -368,13 +366,30 @@ calls = map (λ r. r.0) story
 abbrev pub Story : Type 0
 Story =
     (answers step fresh calls ≡ map (λ r. r.1) story) ×
-    (expected blank calls ≡ 21 ∷ 21 ∷ 21 ∷ 21 ∷ 0 ∷ 34 ∷ 34 ∷ 0 ∷ 34 ∷ 34 ∷ 0 ∷ 0 ∷ 10 ∷ 11 ∷ 0 ∷ 0 ∷ 10 ∷ 0 ∷ 14 ∷ 0 ∷ 13 ∷ 0 ∷ 31 ∷ 0 ∷ 33 ∷ 0 ∷ 0 ∷ 0 ∷ 24 ∷ 24 ∷ 24 ∷ 11 ∷ 0 ∷ 0 ∷ []) ×
+    (expected blank calls ≡ 21 ∷ 21 ∷ 21 ∷ 21 ∷ 0 ∷ 34 ∷ 34 ∷ 0 ∷ 34 ∷ 34 ∷ 0 ∷ 0 ∷ 10 ∷ 11 ∷ 0 ∷ 0 ∷ 10 ∷ 0 ∷ 14 ∷ 0 ∷ 13 ∷ 0 ∷ 31 ∷ 0 ∷ 33 ∷ 0 ∷ 0 ∷ 0 ∷ 24 ∷ 24 ∷ 24 ∷ 0 ∷ []) ×
     (ledger_after blank calls ≡ record { key = some (parse K1); mark = true })
 
+-- A list with publish in the small workspace.
+unfoldable pub small_story : List (Call × Answer)
+small_story =
+    (load (key_file K1), accepted [] 0) ∷
+    (publish (small (zeros 4) (zeros 7)), refused 11) ∷
+    (publish (small (zeros 4) (zeros 8)), accepted (0x03 ∷ 0x01 ∷ 0x02 ∷ 0x00 ∷ []) 0) ∷
+    (publish (systematic (zeros 4) (zeros 4)), accepted (0x03 ∷ 0x01 ∷ 0x02 ∷ 0x00 ∷ []) 0) ∷ []
+
+unfoldable pub small_calls : List Call
+small_calls = map (λ r. r.0) small_story
+
+abbrev pub SmallStory : Type 0
+SmallStory =
+    (answers step fresh small_calls ≡ map (λ r. r.1) small_story) ×
+    (expected blank small_calls ≡ 0 ∷ 11 ∷ 0 ∷ 0 ∷ []) ×
+    (ledger_after blank small_calls ≡ record { key = some (parse K1); mark = true })
+
 -- one computation for all tables
-tables_hold : Holds rows × Holds running × Holds orders × Holds remains × Holds reports × Story
-unfolding ◌⊕◌ from every bytes_for bit_at unpack number pack ones weight filler_clear well_formed each_with xor_row dot first_of is_width is_element modulus_of poly_mul reduced mul_mod mul power last_below inv value sum same monic product some_below some_list has_square has_factor in_limits pair elements parse two_bytes four_bytes file_of distinct goppa_at conditions file_conditions exchange sent Network.network reversed switches support_of four parse_network network_conditions key_number reducible K1 K2 K1-with K3 entry in_code parity_row parity_rows with_row find_pivot clear with_pivot columns echelon public_key dependent written locked row_of rows_of lock_number lock or_else first_row corrects reading filled exactly opening unsound empty_key fresh is_empty is_unpublished held_by capsule_bits found is_none publish_checks_within publish_conditions_within free_bytes_within open_conditions read_conditions steady unmarked differences corrects_marked marked_reading marked_conditions cut capsules_of capsule_conditions record_of records_of occurrences counts_of report_conditions session_conditions loading_conditions loaded_key public_buffer work_buffer needed_bytes publishing_conditions publication freed_bytes answer_buffer question_conditions gives given answer_size over conditions_of output_of no_answer made unless step run blank held_in ledger_number entered fed ledger_after expected answer_by answer_of lock_answer counts_in answer zeros file network N1 published_K1 published_1 rows running factored_file factored bad_factored bad orders remains two_bytes_lem reports answers story calls flat_map zip_with
-tables_hold = (refl, refl, refl, refl, refl, (refl, refl, refl))
+tables_hold : Holds rows × Holds running × Holds orders × Holds remains × Holds reports × Story × SmallStory
+unfolding ◌⊕◌ from every bytes_for bit_at unpack number pack ones weight filler_clear well_formed each_with xor_row dot first_of is_width is_element modulus_of poly_mul reduced mul_mod mul power last_below inv value sum same monic product some_below some_list has_square has_factor in_limits pair elements parse two_bytes four_bytes file_of distinct goppa_at conditions file_conditions exchange sent Network.network reversed switches support_of four parse_network network_conditions key_number reducible K1 K2 K1-with K3 entry in_code parity_row parity_rows with_row find_pivot clear with_pivot columns echelon public_key dependent written locked row_of rows_of lock_number lock or_else first_row corrects reading filled exactly opening unsound empty_key fresh is_empty is_unpublished held_by capsule_bits found is_none publish_checks_within publish_conditions_within free_bytes_within open_conditions read_conditions steady unmarked differences corrects_marked marked_reading marked_conditions cut capsules_of capsule_conditions record_of records_of occurrences counts_of report_conditions session_conditions loading_conditions loaded_key public_buffer work_buffer needed_bytes publishing_conditions publication freed_bytes answer_buffer question_conditions gives given answer_size over conditions_of output_of no_answer made unless step run blank held_in ledger_number entered fed ledger_after expected answer_by answer_of lock_answer counts_in answer zeros file network N1 published_K1 published_1 rows running factored_file factored bad_factored bad orders remains two_bytes_lem reports answers story calls small_story small_calls flat_map zip_with
+tables_hold = (refl, refl, refl, refl, refl, (refl, refl, refl), (refl, refl, refl))
 
 pub rows_hold : Holds rows
 rows_hold = tables_hold.0
@@ -393,3 +408,6 @@ reports_hold = tables_hold.4
 
 pub story_holds : Story
 story_holds = tables_hold.5
+
+pub small_story_holds : SmallStory
+small_story_holds = tables_hold.6

@@ -45,9 +45,6 @@ rows =
     (naming A (publish (systematic (zeros 4) (zeros 4))), accepted (0x03 ∷ 0x01 ∷ 0x02 ∷ 0x00 ∷ []) 0) ∷
     (naming B (load (key_file K3)), accepted [] 0) ∷
     (naming B (publish (systematic (zeros 4) (zeros 4))), refused 23) ∷
-    (naming B (publish (small (zeros 4) (zeros 8))), refused 23) ∷
-    (naming A (publish (small (zeros 4) (zeros 7))), refused 11) ∷
-    (naming A (publish (small (zeros 4) (zeros 8))), accepted (0x03 ∷ 0x01 ∷ 0x02 ∷ 0x00 ∷ []) 0) ∷
     (naming A (ask (open_capsule (0x03 ∷ []) (zeros 1))), accepted (0x10 ∷ []) 1) ∷
     (naming B (ask (open_capsule (0x03 ∷ []) (zeros 1))), refused 24) ∷
     (naming B drop_key, accepted [] 0) ∷
@@ -70,7 +67,6 @@ kinds =
     load (network_file []) ∷
     publish (systematic (zeros 4) (zeros 4)) ∷
     publish (systematic [] []) ∷
-    publish (small (zeros 4) (zeros 8)) ∷
     ask (open_capsule (0x03 ∷ []) (zeros 1)) ∷
     ask (open_capsule [] []) ∷
     ask (read_word (0x24 ∷ []) (zeros 1)) ∷
@@ -96,9 +92,33 @@ abbrev pub Story : Type 0
 Story =
     (answers definitions.call definitions.fresh calls ≡ map (λ r. r.1) story) ×
     (expected_named blanks calls
-    ≡ map (λ r. 35) nameless ++ ((0 ∷ 21 ∷ 21 ∷ 22 ∷ 0 ∷ 0 ∷ 23 ∷ 23 ∷ 11 ∷ 0 ∷ 0 ∷ 24 ∷ 0 ∷ 0 ∷ 24 ∷ 0 ∷ 0 ∷ 8 ∷ 0 ∷ 21 ∷ 0 ∷ 0 ∷ 24 ∷ []) ++ map (λ r. 35) nameless)) ×
+    ≡ map (λ r. 35) nameless ++ ((0 ∷ 21 ∷ 21 ∷ 22 ∷ 0 ∷ 0 ∷ 23 ∷ 0 ∷ 24 ∷ 0 ∷ 0 ∷ 24 ∷ 0 ∷ 0 ∷ 8 ∷ 0 ∷ 21 ∷ 0 ∷ 0 ∷ 24 ∷ []) ++ map (λ r. 35) nameless)) ×
     (ledgers_after blanks calls ≡ record { a = record { key = some (parse K1); mark = false }; b = record { key = some (parse K2); mark = false } })
 
 pub story_holds : Story
 unfolding ◌⊕◌ from every bytes_for bit_at unpack number pack ones weight filler_clear well_formed each_with xor_row dot first_of is_width is_element modulus_of poly_mul reduced mul_mod mul power last_below inv value sum same monic product some_below some_list has_square has_factor in_limits pair elements parse two_bytes file_of distinct goppa_at conditions file_conditions key_number reducible K1 K2 K1-with K3 entry in_code parity_row parity_rows with_row find_pivot clear with_pivot columns echelon public_key dependent written or_else first_row corrects reading filled exactly opening unsound empty_key fresh is_empty is_unpublished held_by capsule_bits found is_none publish_checks_within publish_conditions_within free_bytes_within open_conditions read_conditions steady unmarked differences corrects_marked marked_reading marked_conditions cut capsules_of capsule_conditions record_of records_of occurrences counts_of report_conditions session_conditions loading_conditions loaded_key public_buffer work_buffer needed_bytes publishing_conditions publication freed_bytes answer_buffer question_conditions gives given answer_size over conditions_of output_of no_answer made unless step run blank held_in ledger_number entered fed answer_by answer_of answers zeros byte_of name_of named_conditions unknown within called of put named_number fed_named ledgers_after expected_named rows kinds nameless story calls flat_map zip_with
 story_holds = (refl, refl, refl)
+
+-- publish in the small workspace: under both names, and under bytes that are no names
+unfoldable pub small_story : List (NamedCall × Answer)
+small_story =
+    (naming A (load (key_file K1)), accepted [] 0) ∷
+    (naming B (load (key_file K3)), accepted [] 0) ∷
+    (naming B (publish (small (zeros 4) (zeros 8))), refused 23) ∷
+    (naming A (publish (small (zeros 4) (zeros 7))), refused 11) ∷
+    (naming A (publish (small (zeros 4) (zeros 8))), accepted (0x03 ∷ 0x01 ∷ 0x02 ∷ 0x00 ∷ []) 0) ∷
+    (named 0 (publish (small (zeros 4) (zeros 8))), refused 35) ∷
+    (named 3 (publish (small (zeros 4) (zeros 8))), refused 35) ∷
+    (named 255 (publish (small (zeros 4) (zeros 8))), refused 35) ∷ []
+
+unfoldable pub small_calls : List NamedCall
+small_calls = map (λ r. r.0) small_story
+
+abbrev pub SmallStory : Type 0
+SmallStory =
+    (answers definitions.call definitions.fresh small_calls ≡ map (λ r. r.1) small_story) ×
+    (expected_named blanks small_calls ≡ 0 ∷ 0 ∷ 23 ∷ 11 ∷ 0 ∷ 35 ∷ 35 ∷ 35 ∷ [])
+
+pub small_story_holds : SmallStory
+unfolding ◌⊕◌ from every bytes_for bit_at unpack number pack ones weight filler_clear well_formed each_with xor_row dot first_of is_width is_element modulus_of poly_mul reduced mul_mod mul power last_below inv value sum same monic product some_below some_list has_square has_factor in_limits pair elements parse two_bytes file_of distinct goppa_at conditions file_conditions key_number reducible K1 K2 K1-with K3 entry in_code parity_row parity_rows with_row find_pivot clear with_pivot columns echelon public_key dependent written or_else first_row corrects reading filled exactly opening unsound empty_key fresh is_empty is_unpublished held_by capsule_bits found is_none publish_checks_within publish_conditions_within free_bytes_within open_conditions read_conditions steady unmarked differences corrects_marked marked_reading marked_conditions cut capsules_of capsule_conditions record_of records_of occurrences counts_of report_conditions session_conditions loading_conditions loaded_key public_buffer work_buffer needed_bytes publishing_conditions publication freed_bytes answer_buffer question_conditions gives given answer_size over conditions_of output_of no_answer made unless step run blank held_in ledger_number entered fed answer_by answer_of answers zeros byte_of name_of named_conditions unknown within called of put named_number fed_named ledgers_after expected_named small_story small_calls flat_map zip_with
+small_story_holds = (refl, refl)

@@ -197,7 +197,7 @@ fn copy(b: &mut [u16], c: &[u16])
     }
 }
 
-// Lines 7 and 11, multiplied by d_m: typeof.d_m.C(x) - d·x^y·B(x).
+// Lines 7 and 11, multiplied by d_m: d_m·C(x) - d·x^y·B(x).
 fn correct(m: u8, d: u16, n: usize, k: Step, c: &mut [u16], b: &[u16])
     requires { (is_width m ≡ true) × (length c.old ≡ 257) × (length b.now ≡ 257) × (k.l + k.y ≤ n + 1) × (n < 256)
         × Past k.l c.old × Past (n + 1 - k.l - k.y) b.now }

@@ -57,7 +57,7 @@ fn check_report<'a>(
     x
 }
 
-// The record of a capsule: 8, 9 or 13, and 0 where it is opened. No refusal comes from `open_checked` (`record-not-refused`).
+// The record of a capsule: 8, 9 or 13, and 0 where it is opened. No refusal comes from `open_checked` (`record_not_refused`).
 fn record_found<'a>(
     m: u8,
     n: u16,

@@ -118,7 +118,7 @@ fn refuse(number: u8) -> SessionKey
 }
 
 // The session key of a capsule, with the secret for one that gives 13; 25, 34, 24, 8, 9 or 33 on refusal. No refusal comes from
-// `decode` (`decode-not-refused`). It is short for the C call's sake: a longer one copies the station once more (`scripts/copies`).
+// `decode` (`decode_not_refused`). It is short for the C call's sake: a longer one copies the station once more (`scripts/copies`).
 pub fn session<'a>(
     m: u8,
     n: u16,

@@ -1,4 +1,4 @@
--- `field_calls::add` meets its contract. Assumes nothing.
+-- `field::add` meets its contract. Assumes nothing.
 use mathlib.Core.Path.{refl}
 use Rattle.bits.specs.Xor.{◌⊕◌}
 use Rattle.field.specs.Answers.{add_of}

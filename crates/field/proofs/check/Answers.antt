@@ -1,4 +1,4 @@
--- `field_calls::check` meets its contract. Assumes nothing.
+-- `field::check` meets its contract. Assumes nothing.
 use mathlib.Core.Path.{sym}
 use native.Mathlib.Omega.{arith}
 use Rattle.field.proofs.Verdicts.{refuses, accepts}

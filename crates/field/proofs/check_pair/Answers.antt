@@ -1,4 +1,4 @@
--- `field_calls::check_pair` meets its contract. Assumes nothing.
+-- `field::check_pair` meets its contract. Assumes nothing.
 use mathlib.Core.Path.{ap, ◌∙◌}
 use Rattle.field.specs.Verdicts.{verdict_of}
 use Rattle.field.proofs.Verdicts.{verdict_accepted, verdict_refused}

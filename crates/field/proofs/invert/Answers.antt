@@ -1,4 +1,4 @@
--- `field_calls::invert` meets its contract. Assumes nothing.
+-- `field::invert` meets its contract. Assumes nothing.
 use mathlib.Core.Path.{ap, ◌∙◌}
 use Rattle.field.specs.Verdicts.{verdict_of}
 use Rattle.field.specs.Answers.{invert_of}

@@ -1,4 +1,4 @@
--- `field_calls::multiply` meets its contract. Assumes nothing.
+-- `field::multiply` meets its contract. Assumes nothing.
 use Rattle.field.specs.Answers.{multiply_of}
 use Rattle.field.proofs.Verdicts.{verdict_accepted}
 use Rattle.field.proofs.Guards.{refused, allowed}
