@@ -114,6 +114,37 @@ def imports(text):
 
 OWN = set()
 
+# Names that the rule would make meet others.
+CHOSEN = {
+    "to_network_lem": "into_network",
+    "from_network_lem": "out_of_network",
+    "session_key_lem": "derive_session_key",
+    "corrects_marked_lem": "corrects_with_marks",
+    "marked_reading_lem": "marked_readings",
+}
+
+
+def respell_aliases(text, rust):
+    """Aliases of use lines in snake case."""
+    for a in set(re.findall(r" as ([a-z]\w*[A-Z]\w*)", text)):
+        s = re.sub(r"(?<=[a-z0-9])([A-Z])", lambda m: "_" + m[1].lower(), a)
+        taken = re.search(rf"(?<![\w.-]){s}(?![\w-])", text)
+        # In Rust's text a function of that name is no word of a clause.
+        if taken and not (rust and not re.search(rf"ghost use[^;]*[{{ ]{s}[,}}]", text)):
+            continue
+        text = re.sub(rf"(?<![\w.-]){a}(?![\w-])", s, text)
+    return text
+
+
+def respell_clauses(text, table):
+    """Names with a dash in the clauses of Rust's text."""
+    out = []
+    for line in text.split("\n"):
+        if not re.match(r"\s*//", line) and (re.search(r"(ensures|requires|ghost)\b", line) or "≡" in line or "→" in line):
+            line = WORD.sub(lambda m: table[m[0]] if "-" in m[0] and m[0] in table else m[0], line)
+        out.append(line)
+    return "\n".join(out)
+
 
 def main(argv):
     listing = None
@@ -243,10 +274,13 @@ def main(argv):
             with open(p, "w", encoding="utf-8") as f:
                 f.write(new)
 
+    def chosen(t):
+        return re.sub(r"(?<![\w-])(?:" + "|".join(CHOSEN) + r")(?![\w-])", lambda m: CHOSEN[m[0]], t)
+
     for p, t in texts.items():
-        write(p, t, turn_antt(t))
+        write(p, t, respell_aliases(chosen(turn_antt(t)), False))
     for p, t in rts.items():
-        write(p, t, turn_rt(t))
+        write(p, t, respell_aliases(chosen(respell_clauses(turn_rt(t), table)), True))
     for p in glob.glob(os.path.join(root, "docs", "**", "*.md"), recursive=True) + [os.path.join(root, "README.md")]:
         t = read(p)
         new = re.sub(r"`([^`\n]+)`", lambda m: "`" + turn_text(m[1], True) + "`", t)
