@@ -1,4 +1,4 @@
-//! Links libshearcotter.a from the folder in SHEARCOTTER_LIB, or from ../target/staticlib.
+//! Links libshearcotter.a from the folder in SHEARCOTTER_LIB, or from ../crates/shearcotter/out.
 
 use std::path::PathBuf;
 use std::{env, process};
@@ -6,12 +6,12 @@ use std::{env, process};
 fn main() {
     println!("cargo:rerun-if-env-changed=SHEARCOTTER_LIB");
     let named = env::var_os("SHEARCOTTER_LIB").filter(|folder| !folder.is_empty());
-    let folder = named.map_or_else(|| PathBuf::from("../target/staticlib"), PathBuf::from);
+    let folder = named.map_or_else(|| PathBuf::from("../crates/shearcotter/out"), PathBuf::from);
     let archive = folder.join("libshearcotter.a");
     println!("cargo:rerun-if-changed={}", archive.display());
     let Ok(found) = archive.canonicalize() else {
         eprintln!(
-            "{} is missing: run `rt staticlib shearcotter`, or name the archive's folder in SHEARCOTTER_LIB",
+            "{} is missing: run `rt lib` in crates/shearcotter, or name the archive's folder in SHEARCOTTER_LIB",
             archive.display()
         );
         process::exit(1);
