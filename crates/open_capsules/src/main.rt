@@ -2,6 +2,7 @@
 // reads capsules from standard input and writes a line for each, and the total.
 #![tactic(auto)]
 
+ghost use Rattle.std.specs.Prelude.{◌≡◌, length};
 ghost use Rattle.std.specs.Io.{ReadsAtMost};
 
 use opener::KeyAnswer;
@@ -16,7 +17,8 @@ const INPUT: usize = 65536;
 
 // The first bytes of key.bin; none where there is no such file.
 fn read_key(rt: &impl Files, file: &mut [u8]) -> io::Result<usize>
-    ensures { ReadsAtMost result file.new }
+    ensures bound { ReadsAtMost result file.new }
+    ensures kept { length file.new ≡ length file.old }
 {
     let Ok(mut key) = fs::open(rt, "key.bin") else {
         return Ok(0);

@@ -2,6 +2,7 @@
 // input NN.inp, of which the program reads 65,536 bytes, and the text NN.txt.
 #![tactic(auto)]
 
+ghost use Rattle.std.specs.Prelude.{◌≡◌, length};
 ghost use Rattle.std.specs.Io.{ReadsAtMost};
 
 use std::rt::Files;
@@ -23,7 +24,8 @@ fn read(
     ending: &str,
     bytes: &mut [u8],
 ) -> io::Result<usize>
-    ensures { ReadsAtMost result bytes.new }
+    ensures bound { ReadsAtMost result bytes.new }
+    ensures kept { length bytes.new ≡ length bytes.old }
 {
     let name = format!(in rt.alloc(); "{case:02}.{ending}")?;
     let Ok(mut file) = fs::open(rt, name.as_str()) else {
