@@ -116,6 +116,7 @@ fn write_rows(out: &mut [u8], acc: &[u8], count: usize, w: usize, size: usize)
 }
 
 // The rows of the product from row `first` on, at most 640 of them, written so.
+#[inline(never)]
 fn some_rows(
     out: &mut [u8],
     work: &[u8],

@@ -13,6 +13,7 @@ ghost use Rattle.block_product.specs.Blocks.{step_of, right_row};
 ghost use Rattle.column_blocks.specs.Tails.{tail_row};
 
 // H's rows for at most 1664 points, `step` bytes apart; what lies behind them in a row stays.
+#[inline(never)]
 pub fn left_rows(work: &mut [u8], m: u8, points: &[u16], g: &[u16], step: usize)
     requires { (is_width m ≡ true) × (length points.now ≤ 1664) × (every (is_unit m) (map (goppa_at (key_of m points.now g.now)) points.now) ≡ true)
         × (bytes_for (length points.now) ≤ step) × (step ≤ 1024) × (m * length g.now * step ≤ length work.old) }

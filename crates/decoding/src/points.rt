@@ -11,6 +11,7 @@ pub struct Points {
 }
 
 // The points of a word, whose bits past its last byte are 0.
+#[inline(never)]
 pub fn chosen(support: &[u16], word: &[u8]) -> Points
     requires { length support.now ≤ 8192 }
     ensures all { take result.count result.at ≡ chosen_of (unpack (length support.now) word.now) support.now }

@@ -36,6 +36,7 @@ fn depth(m: u8) -> u8
 }
 
 // The levels of a width.
+#[inline(never)]
 fn filled(m: u8) -> Levels
     requires { is_width m ≡ true }
     ensures tops { result.tops ≡ tops_put m (min m 9) }

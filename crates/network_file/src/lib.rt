@@ -179,6 +179,7 @@ pub fn read_key<'a, 'b>(
 }
 
 // The shape of a network file's key; 1, 2, 36, 3, 4, 5, 6 or 7 on refusal.
+#[inline(never)]
 pub fn shape(file: &[u8]) -> ShapeAnswer
     ensures { result ≡ network_shape file.now }
 {

@@ -71,6 +71,7 @@ pub fn network_length(m: u8, t: u16) -> usize
 }
 
 // The network file of the key of a file whose shape is s, from the output's start.
+#[inline(never)]
 pub fn put_network(out: &mut [u8], file: &[u8], s: Sizes)
     requires { (file_shape file.now ≡ answers.Sizes s) × (9 + 2 * s.t + bytes_for (switches_of s.m) ≤ length out.old) }
     ensures { out.new ≡ sets out.old 0 (to_network file.now) }

@@ -6,6 +6,7 @@ ghost use Rattle.point_sums.specs.Weighted.{weighted_sums};
 ghost use Rattle.point_sums.specs.Parts.{scattered};
 
 // The weights, each added at the place of its point's m low digits, as far as both lists go.
+#[inline(never)]
 fn scatter(m: u8, w: &[u16], points: &[u16]) -> [u16; 8192]
     requires { is_width m ≡ true }
     ensures { result ≡ scattered m w.now points.now }
@@ -37,6 +38,7 @@ fn first(k: usize, v: [u16; 256]) -> [u16; 256]
 }
 
 // The sums for the first k powers, with zeros behind them.
+#[inline(never)]
 pub fn over_elements(m: u8, k: usize, w: &[u16], points: &[u16]) -> [u16; 256]
     requires { (is_width m ≡ true) × (8 ≤ m) × (k ≤ 256) }
     ensures { result ≡ padded 256 (weighted_sums m k w.now points.now) }

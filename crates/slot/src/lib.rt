@@ -198,6 +198,7 @@ pub fn read_marked<'a>(
 
 // The record of each capsule is written from the record buffer's start: 0 where it is opened, else its refusal's number, and
 // the records are counted by their value; 21, 25, 34, 24 or 31 on refusal.
+#[inline(never)]
 pub fn report<'a>(
     state: u8,
     m: u8,

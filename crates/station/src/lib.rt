@@ -141,18 +141,22 @@ impl Station {
         }
     }
 
-    // The key of a key file is kept; 35, 22, 1, 2, 3, 4, 5, 6 or 7 on refusal. It is written where it stays, so that it is not copied.
-    pub fn load(self, name: u8, file: &[u8]) -> Reply
-        ensures { result ≡ reply_of (handed self (named name (load (key_file file.now)))) }
+    // A refusal with 35 becomes the reply to the load of a key file, in place.
+    fn put_load(reply: &mut Reply, name: u8, file: &[u8])
+        requires { reply.old ≡ refusal reply.old.station 35 }
+        ensures { reply.new ≡ reply_of (handed reply.old.station (named name (load (key_file file.now)))) }
     {
-        let mut reply = self.refuse(35);
         if !is_name(name) {
-            return reply;
+            return;
         }
-        let answer = slot::load(byte(name, self.a.state, self.b.state), Form::KeyFile, file);
+        let answer = slot::load(
+            byte(name, reply.station.a.state, reply.station.b.state),
+            Form::KeyFile,
+            file,
+        );
         let ShapeAnswer::Sizes(s) = answer else {
             reply.refused = key::shape::number(answer);
-            return reply;
+            return;
         };
         reply.refused = 0;
         if name == Station::A {
@@ -170,25 +174,24 @@ impl Station {
             write_support(Form::KeyFile, file, s, &mut reply.station.b.key.support);
             write_g(Form::KeyFile, file, s, &mut reply.station.b.key.g);
         }
-        reply
     }
 
-    // The key of a network file is kept likewise; 35, 22, 1, 2, 36, 3, 4, 6 or 7 on refusal.
-    pub fn load_network(self, name: u8, file: &[u8]) -> Reply
-        ensures { result ≡ reply_of (handed self (named name (load (network_file file.now)))) }
+    // A refusal with 35 becomes the reply to the load of a network file, in place.
+    fn put_load_network(held: &mut Reply, name: u8, file: &[u8])
+        requires { held.old ≡ refusal held.old.station 35 }
+        ensures { held.new ≡ reply_of (handed held.old.station (named name (load (network_file file.now)))) }
     {
-        let mut held = self.refuse(35);
         if !is_name(name) {
-            return held;
+            return;
         }
         let answer = slot::load(
-            byte(name, self.a.state, self.b.state),
+            byte(name, held.station.a.state, held.station.b.state),
             Form::NetworkFile,
             file,
         );
         let ShapeAnswer::Sizes(s) = answer else {
             held.refused = key::shape::number(answer);
-            return held;
+            return;
         };
         held.refused = 0;
         if name == Station::A {
@@ -206,6 +209,23 @@ impl Station {
             write_support(Form::NetworkFile, file, s, &mut held.station.b.key.support);
             write_g(Form::NetworkFile, file, s, &mut held.station.b.key.g);
         }
+    }
+
+    // The key of a key file is kept; 35, 22, 1, 2, 3, 4, 5, 6 or 7 on refusal. It is written where it stays, so that it is not copied.
+    pub fn load(self, name: u8, file: &[u8]) -> Reply
+        ensures { result ≡ reply_of (handed self (named name (load (key_file file.now)))) }
+    {
+        let mut reply = self.refuse(35);
+        Station::put_load(&mut reply, name, file);
+        reply
+    }
+
+    // The key of a network file is kept likewise; 35, 22, 1, 2, 36, 3, 4, 6 or 7 on refusal.
+    pub fn load_network(self, name: u8, file: &[u8]) -> Reply
+        ensures { result ≡ reply_of (handed self (named name (load (network_file file.now)))) }
+    {
+        let mut held = self.refuse(35);
+        Station::put_load_network(&mut held, name, file);
         held
     }
 

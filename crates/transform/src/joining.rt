@@ -20,6 +20,7 @@ fn butterfly(m: u8, b: &mut [u16], g: &[u16], p: &mut [u16])
 }
 
 // The same on each of q parts.
+#[inline(never)]
 pub fn join_level(m: u8, g: &[u16], q: usize, b: &mut [u16])
     requires { (is_width m ≡ true) × (length b.old ≡ q * (length g.now + length g.now)) × (length g.now ≤ 4096) }
     ensures { b.new ≡ each_block (butterfly_of m g.now) (length g.now + length g.now) q b.old }

@@ -1,46 +1,10 @@
--- The name, then the slot's call, then the key in its place. Assumes nothing.
+-- The reply of a refusal holds the station and 35. Assumes nothing.
 use mathlib.Core.Path.{sym, ap, ◌∙◌}
-use Rattle.ledger.specs.Loading.{key_file}
-use Rattle.ledger.specs.Calls.{load}
-use Rattle.loading.specs.Forms.{loading_of}
-use Rattle.slot.specs.Replies.{byte_of}
-use Rattle.slot.specs.Parts.{keyless}
-use Rattle.slot.proofs.Taken.{loaded_shape_lem}
 use Rattle.station.specs.declared.Reply.{Reply}
-use Rattle.station.proofs.Picked.{slot_state, written-first, written_second}
-use Rattle.station.proofs.Named.{reply_unknown, load_refused, load_placed}
+use Rattle.station.specs.Chosen.{refusal}
 use Rattle.station.proofs.Station.load.Goals as goal
 
-pub returns-then-not-is_name : goal.returns-then-not-is_name
-returns-then-not-is_name c =
-    let a = c.args in
-    c.refuse-reply.ensures ∙ reply_unknown a.self a.name (load (key_file a.file.now)) (sym c.is_name.ensures ∙ c.if-not-is_name.true)
-
-pub returns-in_default : goal.returns-in_default
-unfolding loading_of
-returns-in_default c =
-    let a = c.args in
-    let k = sym c.is_name.ensures ∙ c.if-not-is_name.false in
-    let h = c.byte.ensures ∙ slot_state a.name a.self in
-    ap (λ (q : Reply). record { station = q.station; refused = c.number.result; ones = q.ones }) c.refuse-reply.ensures
-    ∙ load_refused a.self a.name k h (key_file a.file.now) c.load-answer.ensures c.number.ensures c.in_default.is
-
-pub returns-then-name-eq-A : goal.returns-then-name-eq-A
-unfolding byte_of loading_of
-returns-then-name-eq-A c =
-    let a = c.args in
-    let k = sym c.is_name.ensures ∙ c.if-not-is_name.false in
-    let h = c.byte.ensures ∙ slot_state a.name a.self in
-    let z = loaded_shape_lem (keyless c.byte.result) (key_file a.file.now) (sym c.load-answer.ensures ∙ c.in-Sizes.is) in
-    written-first a.name a.self c.refuse-reply.ensures _ c.if-name-eq-A.true
-    ∙ load_placed a.self a.name k h (key_file a.file.now) c.load-answer.ensures c.in-Sizes.is (c.write_support.ensures z) (c.write_g.ensures z)
-
-pub returns-else-name-eq-A : goal.returns-else-name-eq-A
-unfolding byte_of loading_of
-returns-else-name-eq-A c =
-    let a = c.args in
-    let k = sym c.is_name.ensures ∙ c.if-not-is_name.false in
-    let h = c.byte.ensures ∙ slot_state a.name a.self in
-    let z = loaded_shape_lem (keyless c.byte.result) (key_file a.file.now) (sym c.load-answer.ensures ∙ c.in-Sizes.is) in
-    written_second a.name a.self c.refuse-reply.ensures _ c.if-name-eq-A.false
-    ∙ load_placed a.self a.name k h (key_file a.file.now) c.load-answer.ensures c.in-Sizes.is (c.write_support-else-name-eq-A.ensures z) (c.write_g-else-name-eq-A.ensures z)
+pub put_load-requires : goal.put_load-requires
+put_load-requires c =
+    let e = c.refuse-reply.ensures in
+    e ∙ ap (λ (q : Reply). refusal q.station 35) (sym e)
