@@ -14,9 +14,9 @@ use Rattle.field.specs.Numbers.{first_of}
 use Rattle.field.specs.Field.{is_width}
 use Rattle.field.proofs.Table.{Width, width_narrow}
 use Rattle.key.specs.Shapes.{in_limits}
-use Rattle.key.specs.Keys.{conditions, goppa_at}
+use Rattle.key.specs.Keys.{conditions, goppa_at, key_number}
 use Rattle.key.specs.Keys as Keys
-use Rattle.key.specs.Parts.{no_root, faults, number_but_roots}
+use Rattle.key.specs.Parts.{no_root, faults, head_number, number_but_roots}
 use Rattle.key.specs.Kept.{kept}
 use Rattle.key.specs.declared.kept.Key.{Key}
 use Rattle.key.proofs.Shapes.{Limits, limits}
@@ -94,10 +94,13 @@ unfoldable pub wrong_length : Key → Bool
 wrong_length k = not (eqb (length (take k.n k.support)) k.n && eqb (length (take k.t k.g)) k.t)
 
 module _ (k : Key) where
-  -- the first three numbers, by the tests of the code
-  pub kept_head : {x : ℕ} → suc x ≡ first_of (take 3 (conditions (wrong_length k) (kept k))) → suc x ≡ number_but_roots (kept k)
-  unfolding number_but_roots kept wrong_length conditions
-  kept_head e = first-from 3 _ e
+  pub kept-number : first_of (conditions (wrong_length k) (kept k)) ≡ key_number (kept k)
+  unfolding key_number kept wrong_length
+  kept-number = refl
+
+  pub kept_head : first_of (take 3 (conditions (wrong_length k) (kept k))) ≡ head_number (kept k)
+  unfolding head_number kept wrong_length
+  kept_head = refl
 
   pub wrong_n : length k.support < k.n → wrong_length k ≡ true
   unfolding wrong_length
@@ -111,7 +114,17 @@ module _ (k : Key) where
   unfolding wrong_length
   right_length n t = rw (take_right k.n k.support n, take_right k.t k.g t)
 
+  -- none of 1, 2 and 3: each test passes
+  pub kept_clear : head_number (kept k) ≡ 0 → Width k.m × (wrong_length k ≡ false) × (in_limits k.m k.n k.t ≡ true)
+  unfolding kept
+  kept_clear z = head_clear (wrong_length k) (kept k) (kept_head ∙ z)
+
   pub kept-faults : Width k.m → wrong_length k ≡ false → in_limits k.m k.n k.t ≡ true
       → first_of (take 3 (faults k.m (take k.n k.support) (take k.t k.g))) ≡ number_but_roots (kept k)
   unfolding number_but_roots kept wrong_length
   kept-faults w l e = faults_but_roots (wrong_length k) (kept k) w l e
+
+  pub kept-faults-number : Width k.m → wrong_length k ≡ false → in_limits k.m k.n k.t ≡ true
+      → first_of (faults k.m (take k.n k.support) (take k.t k.g)) ≡ key_number (kept k)
+  unfolding kept
+  kept-faults-number w l e = number-faults (wrong_length k) (kept k) w l e ∙ kept-number

@@ -19,6 +19,9 @@ no_root m g s = every (λ a. not (eqb (value m (monic g) a) 0)) s
 unfoldable pub faults : ℕ → List ℕ → List ℕ → List (Bool × ℕ)
 faults m s g = (not (every (is_element m) (s ++ g)), 4) ∷ (not (distinct s), 5) ∷ (has_square m g, 6) ∷ (not (no_root m g s), 7) ∷ []
 
--- the first of the numbers 1 to 6 of a key that is kept, as `key_number` has them
+-- the first of the numbers 1 to 3 of a key that is kept, and of 1 to 6, as `key_number` has them
+unfoldable pub head_number : Key → ℕ
+head_number k = first_of (take 3 (conditions (not (eqb (length k.support) k.n && eqb (length k.g) k.t)) k))
+
 unfoldable pub number_but_roots : Key → ℕ
 number_but_roots k = first_of (take 6 (conditions (not (eqb (length k.support) k.n && eqb (length k.g) k.t)) k))

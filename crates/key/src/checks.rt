@@ -5,7 +5,7 @@ ghost use Rattle.field.specs.Field.{is_width};
 ghost use Rattle.field.specs.Numbers.{first_of};
 ghost use Rattle.field.specs.Verdicts.{verdict_of};
 ghost use Rattle.key.specs.Keys.{key_number};
-ghost use Rattle.key.specs.Parts.{distinct_below, no_root, faults as faults_of, number_but_roots};
+ghost use Rattle.key.specs.Parts.{distinct_below, no_root, faults as faults_of, head_number, number_but_roots};
 ghost use Rattle.key.specs.Kept.{kept, parts};
 
 use super::kept::Key;
@@ -79,7 +79,7 @@ fn no_root(m: u8, g: &[u16], s: &[u16]) -> bool
 }
 
 // Whether the elements are right but for g's roots: 4, 5 or 6 on refusal.
-fn faults(m: u8, s: &[u16], g: &[u16]) -> Verdict
+fn faults_but_roots(m: u8, s: &[u16], g: &[u16]) -> Verdict
     requires { (is_width m ≡ true) × (length g.now ≤ 128) }
     ensures { result ≡ verdict_of (first_of (take 3 (faults_of m s.now g.now))) }
 {
@@ -98,15 +98,30 @@ fn faults(m: u8, s: &[u16], g: &[u16]) -> Verdict
     Verdict::Accepted
 }
 
-// Whether a kept key, lent by its parts, is right but for g's roots: 1, 2, 3, 4, 5 or 6 on refusal.
-pub fn check_but_roots<'a>(
+// Whether the elements are right: 4, 5, 6 or 7 on refusal.
+fn faults(m: u8, s: &[u16], g: &[u16]) -> Verdict
+    requires { (is_width m ≡ true) × (length s.now ≤ 8192) × (length g.now ≤ 128) }
+    ensures { result ≡ verdict_of (first_of (faults_of m s.now g.now)) }
+{
+    let x = faults_but_roots(m, s, g);
+    let Verdict::Accepted = x else {
+        return x;
+    };
+    if !no_root(m, g, s) {
+        return Verdict::Refused(7);
+    }
+    x
+}
+
+// Whether width, lengths and shape of a kept key, lent by its parts, are right: 1, 2 or 3 on refusal.
+fn head<'a>(
     m: u8,
     n: u16,
     t: u16,
     support: &'a [u16; Key::MOST_PLACES],
     g: &'a [u16; Key::MOST_ERRORS],
 ) -> Verdict
-    ensures { result ≡ verdict_of (number_but_roots (kept (parts m n t support.now g.now))) }
+    ensures { result ≡ verdict_of (head_number (kept (parts m n t support.now g.now))) }
 {
     let s = &support[..];
     let h = &g[..];
@@ -124,7 +139,26 @@ pub fn check_but_roots<'a>(
     if !in_limits(m, n, t) {
         return Verdict::Refused(3);
     }
-    faults(m, &s[..places], &h[..errors])
+    Verdict::Accepted
+}
+
+// Whether a kept key, lent by its parts, is right but for g's roots: 1, 2, 3, 4, 5 or 6 on refusal.
+pub fn check_but_roots<'a>(
+    m: u8,
+    n: u16,
+    t: u16,
+    support: &'a [u16; Key::MOST_PLACES],
+    g: &'a [u16; Key::MOST_ERRORS],
+) -> Verdict
+    ensures { result ≡ verdict_of (number_but_roots (kept (parts m n t support.now g.now))) }
+{
+    let x = head(m, n, t, support, g);
+    let Verdict::Accepted = x else {
+        return x;
+    };
+    let s = &support[..];
+    let h = &g[..];
+    faults_but_roots(m, &s[..n as usize], &h[..t as usize])
 }
 
 // Whether a kept key, lent by its parts, is one that load accepts: 1, 2, 3, 4, 5, 6 or 7 on refusal.
@@ -137,16 +171,11 @@ pub fn check<'a>(
 ) -> Verdict
     ensures { result ≡ verdict_of (key_number (kept (parts m n t support.now g.now))) }
 {
-    let x = check_but_roots(m, n, t, support, g);
+    let x = head(m, n, t, support, g);
     let Verdict::Accepted = x else {
         return x;
     };
     let s = &support[..];
     let h = &g[..];
-    let places = n as usize;
-    let errors = t as usize;
-    if !no_root(m, &h[..errors], &s[..places]) {
-        return Verdict::Refused(7);
-    }
-    x
+    faults(m, &s[..n as usize], &h[..t as usize])
 }

@@ -1,66 +1,43 @@
--- The tests in order. Assumes nothing.
+-- The numbers 1 to 3, then 4 to 6. Assumes nothing.
 use mathlib.Core.Path.{sym, ap, ◌∙◌}
 use native.Mathlib.Omega.{arith}
-use lib.Seq.{length-take-le}
 use Rattle.field.specs.Verdicts.{verdict_of}
-use Rattle.field.proofs.Verdicts.{refuses}
-use Rattle.field.proofs.Table.{modulus_none, modulus_some}
+use Rattle.field.proofs.Verdicts.{verdict_accepted, verdict_refused}
 use Rattle.key.specs.Kept.{kept, parts}
-use Rattle.key.proofs.Order.{failed, passed}
-use Rattle.key.proofs.Conditions.{wrong_length, wrong_n, wrong_t, right_length, limits_fit, head_width, head_length, head_limits, kept_head, kept-faults}
+use Rattle.key.proofs.Conditions.{kept_clear, kept-faults}
+use Rattle.key.proofs.Roots.{Sized, head_sized, elements_later}
 use Rattle.key.proofs.checks.check_but_roots.Goals as goal
 
-pub returns-then-modulus-eq0 : goal.returns-then-modulus-eq0
+pub returns-in_default : goal.returns-in_default
+returns-in_default c = let e = c.head-x.ensures in e ∙ ap verdict_of (elements_later _ (verdict_refused _ e c.in_default.is))
+
+pub slice_bounds-faults_but_roots-end : goal.slice_bounds-faults_but_roots-end
 unfolding kept
-returns-then-modulus-eq0 c =
+slice_bounds-faults_but_roots-end c =
     let a = c.args in
     let k = parts a.m a.n a.t a.support.now a.g.now in
-    refuses (kept_head k (head_width (wrong_length k) (kept k) (modulus_none _ c.modulus.ensures c.if-modulus-eq0.true)))
+    let S : Sized (kept k) = head_sized (kept k) (verdict_accepted _ c.head-x.ensures c.in-Accepted.is) in
+    sym S.support_length
 
-pub returns-then-s-places : goal.returns-then-s-places
+pub slice_bounds-faults_but_roots-end-2 : goal.slice_bounds-faults_but_roots-end-2
 unfolding kept
-returns-then-s-places c =
+slice_bounds-faults_but_roots-end-2 c =
     let a = c.args in
     let k = parts a.m a.n a.t a.support.now a.g.now in
-    let w = modulus_some _ c.modulus.ensures c.if-modulus-eq0.false in
-    refuses (kept_head k (head_length (wrong_length k) (kept k) w (wrong_n k c.if-s-places.true)))
+    let S : Sized (kept k) = head_sized (kept k) (verdict_accepted _ c.head-x.ensures c.in-Accepted.is) in
+    sym S.g_length
 
-pub returns-then-h-errors : goal.returns-then-h-errors
+pub faults_but_roots-requires : goal.faults_but_roots-requires
 unfolding kept
-returns-then-h-errors c =
+faults_but_roots-requires c =
     let a = c.args in
     let k = parts a.m a.n a.t a.support.now a.g.now in
-    let w = modulus_some _ c.modulus.ensures c.if-modulus-eq0.false in
-    refuses (kept_head k (head_length (wrong_length k) (kept k) w (wrong_t k c.if-h-errors.true)))
-
-pub returns-then-not-in_limits : goal.returns-then-not-in_limits
-unfolding kept
-returns-then-not-in_limits c =
-    let a = c.args in
-    let k = parts a.m a.n a.t a.support.now a.g.now in
-    let w = modulus_some _ c.modulus.ensures c.if-modulus-eq0.false in
-    let l = right_length k c.if-s-places.false c.if-h-errors.false in
-    refuses (kept_head k (head_limits (wrong_length k) (kept k) w l (failed c.in_limits.ensures c.if-not-in_limits.true)))
-
-pub slice_bounds-faults-end : goal.slice_bounds-faults-end
-slice_bounds-faults-end c = sym (length-take-le _ _ c.if-s-places.false)
-
-pub slice_bounds-faults-end-2 : goal.slice_bounds-faults-end-2
-slice_bounds-faults-end-2 c = sym (length-take-le _ _ c.if-h-errors.false)
-
-pub faults-requires : goal.faults-requires
-faults-requires c =
-    let a = c.args in
-    let w = modulus_some _ c.modulus.ensures c.if-modulus-eq0.false in
-    let f = limits_fit a.m a.n a.t w (passed c.in_limits.ensures c.if-not-in_limits.false) in (
-      w,
-      omega (arith, f, length-take-le a.t a.g.now c.if-h-errors.false),
-    )
+    let S : Sized (kept k) = head_sized (kept k) (verdict_accepted _ c.head-x.ensures c.in-Accepted.is) in
+    (S.width, omega (arith, S.g_length, S.errors))
 
 pub returns : goal.returns
 returns c =
     let a = c.args in
     let k = parts a.m a.n a.t a.support.now a.g.now in
-    let w = modulus_some _ c.modulus.ensures c.if-modulus-eq0.false in
-    let l = right_length k c.if-s-places.false c.if-h-errors.false in
-    c.faults.ensures ∙ ap verdict_of (kept-faults k w l (passed c.in_limits.ensures c.if-not-in_limits.false))
+    let p = kept_clear k (verdict_accepted _ c.head-x.ensures c.in-Accepted.is) in
+    c.faults_but_roots.ensures ∙ ap verdict_of (kept-faults k p.0 p.1 p.2)

@@ -1,45 +1,28 @@
--- The tests in order. Assumes nothing.
-use mathlib.Core.Path.{sym, ◌∙◌}
-use Rattle.field.proofs.Verdicts.{refuses, accepts}
-use Rattle.euclid.proofs.Answers.{square_in_bounds}
-use Rattle.key.proofs.Order.{failed, passed, distinct-elements, fault_support, fault_coefficient, fault_twice, fault_square, fault_none}
+-- The numbers 4, 5 and 6, then 7. Assumes nothing.
+use mathlib.Core.Path.{ap, ◌∙◌}
+use Rattle.field.specs.Verdicts.{verdict_of}
+use Rattle.field.proofs.Verdicts.{refuses, verdict_accepted, verdict_refused}
+use Rattle.key.proofs.Order.{failed, passed, early_clear, fault-root, fault_none}
+use Rattle.key.proofs.Conditions.{first-take}
 use Rattle.key.proofs.checks.faults.Goals as goal
 
-pub returns-then-not-elements : goal.returns-then-not-elements
-returns-then-not-elements c = refuses (fault_support _ _ _ (failed c.elements.ensures c.if-not-elements.true))
+pub faults_but_roots-x-requires : goal.faults_but_roots-x-requires
+faults_but_roots-x-requires c = (c.requires.0, c.requires.2)
 
-pub returns-then-not-elements-2 : goal.returns-then-not-elements-2
-returns-then-not-elements-2 c = refuses (fault_coefficient _ _ _ (passed c.elements.ensures c.if-not-elements.false) (failed c.elements-2.ensures c.if-not-elements-2.true))
+pub returns-in_default : goal.returns-in_default
+returns-in_default c = let e = c.faults_but_roots-x.ensures in e ∙ ap verdict_of (first-take 3 _ (verdict_refused _ e c.in_default.is))
 
-pub returns-then-not-distinct : goal.returns-then-not-distinct
-returns-then-not-distinct c =
-    let s = passed c.elements.ensures c.if-not-elements.false in
-    refuses
-    (fault_twice _ _ _
-    s
-    (passed c.elements-2.ensures c.if-not-elements-2.false)
-    (failed (c.distinct.ensures ∙ distinct-elements _ _ c.requires.0 s) c.if-not-distinct.true))
+pub no_root-requires : goal.no_root-requires
+no_root-requires c = (c.requires.0, c.requires.1)
 
-pub returns-then-has_square : goal.returns-then-has_square
-returns-then-has_square c =
-    let pre = c.requires in
-    let s = passed c.elements.ensures c.if-not-elements.false in
-    let g = passed c.elements-2.ensures c.if-not-elements-2.false in
-    refuses
-    (fault_square _ _ _
-    s
-    g
-    (passed (c.distinct.ensures ∙ distinct-elements _ _ pre.0 s) c.if-not-distinct.false)
-    (sym (square_in_bounds _ _ pre.0 pre.1 g) ∙ sym c.has_square.ensures ∙ c.if-has_square.true))
+pub returns-then-not-no_root : goal.returns-then-not-no_root
+returns-then-not-no_root c =
+    let p = early_clear _ _ _ (verdict_accepted _ c.faults_but_roots-x.ensures c.in-Accepted.is) in
+    refuses (fault-root _ _ _ p.0 p.1 p.2 p.3 (failed c.no_root.ensures c.if-not-no_root.true))
 
 pub returns : goal.returns
 returns c =
-    let pre = c.requires in
-    let s = passed c.elements.ensures c.if-not-elements.false in
-    let g = passed c.elements-2.ensures c.if-not-elements-2.false in
-    accepts
-    (fault_none _ _ _
-    s
-    g
-    (passed (c.distinct.ensures ∙ distinct-elements _ _ pre.0 s) c.if-not-distinct.false)
-    (sym (square_in_bounds _ _ pre.0 pre.1 g) ∙ sym c.has_square.ensures ∙ c.if-has_square.false))
+    let r = c.faults_but_roots-x.ensures in
+    let z = verdict_accepted _ r c.in-Accepted.is in
+    let p = early_clear _ _ _ z in
+    r ∙ ap verdict_of (z ∙ fault_none _ _ _ p.0 p.1 p.2 p.3 (passed c.no_root.ensures c.if-not-no_root.false))
