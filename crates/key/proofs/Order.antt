@@ -93,9 +93,9 @@ module _ (m : ℕ) (s g : List ℕ) where
         fault_square e = first-from 3 _ (early_square m s g a b d e)
 
         module _ (q : has_square m g ≡ false) where
-          pub fault-root : no_root m g s ≡ false → 7 ≡ first_of (faults m s g)
+          pub fault_root : no_root m g s ≡ false → 7 ≡ first_of (faults m s g)
           unfolding faults first_of
-          fault-root e = rw (every_append (is_element m) s g, a, b, d, q, e)
+          fault_root e = rw (every_append (is_element m) s g, a, b, d, q, e)
 
           pub fault_none : no_root m g s ≡ true → 0 ≡ first_of (faults m s g)
           unfolding faults first_of

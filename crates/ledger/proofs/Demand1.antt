@@ -10,7 +10,7 @@ use Rattle.ledger.specs.Slot.{Slot, Held, is_empty, held_by}
 use Rattle.ledger.specs.Calls.{Call, load, publish, ask, drop_key, conditions_of, made, step}
 use Rattle.ledger.specs.Systems.{definitions}
 use Rattle.ledger.specs.Demands.{workspace_of, Demand1}
-use Rattle.ledger.proofs.Forms.{loading_numbered, publishing_numbered, question_numbered, publishing_free, freed_workspace}
+use Rattle.ledger.proofs.Forms.{loading_numbered, publishing_numbered, question_numbered, publishing_free, freed_needed}
 use Rattle.ledger.proofs.StepLaws.{step-number, step_stays, step_output, step_count, step-answer, step_free}
 
 -- no call has a condition with the number 0
@@ -44,7 +44,7 @@ none_first false w v p = p
 made_workspace : (s : Slot) (c : Call) → ((made s c).free ≡ 0) ⊎ ((made s c).free ≡ workspace_of s.key c)
 unfolding made workspace_of
 made_workspace s (load f) = inl refl
-made_workspace s (publish p) = none_first (is_empty s.state) _ _ (freed_workspace s.key p)
+made_workspace s (publish p) = none_first (is_empty s.state) _ _ (freed_needed s.key p)
 made_workspace s (ask q) = inl refl
 made_workspace s drop_key = inl refl
 

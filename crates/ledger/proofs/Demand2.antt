@@ -21,10 +21,10 @@ use Rattle.code.specs.Lock.{locked}
 use Rattle.code.proofs.PublicKey.{row_capsule}
 use Rattle.code.proofs.LockLaws.{public_size_lem, lock-written, lock_accepts}
 use Rattle.code.proofs.Exchange.{exchangeable}
-use Rattle.code.specs.Publish.{capsule_bits, public_bytes, publish_checks_within, publish_conditions_within, free_bytes_within}
+use Rattle.code.specs.Publish.{capsule_bits, public_bytes, work_bytes, publish_checks_within, publish_conditions_within, free_bytes_within}
 use Rattle.decoder.specs.Calls.{open_conditions}
 use Rattle.ledger.specs.Slot.{State, empty, loaded, published, Slot, Held, is_empty, held_by, Result}
-use Rattle.ledger.specs.Publishing.{Publishing, public_buffer, work_buffer, needed_bytes, publishing_conditions, publication, freed_bytes}
+use Rattle.ledger.specs.Publishing.{Publishing, systematic, public_buffer, work_buffer, needed_bytes, publishing_conditions, publication, freed_bytes}
 use Rattle.ledger.specs.Questions.{open_capsule, question_conditions, gives, given}
 use Rattle.ledger.specs.Calls.{publish, ask, conditions_of, made, step}
 use Rattle.ledger.specs.Systems.{definitions}
@@ -34,8 +34,8 @@ use Rattle.ledger.proofs.Agreement.{sound_held}
 use Rattle.ledger.proofs.Demand3.{differ, open_decides}
 
 -- what publish and open hand back, and the pattern that open wrote
-abbrev publish_result : State → Key → Publishing → Result
-publish_result state k p = step (at state k) (publish p)
+abbrev form_result : State → Key → Publishing → Result
+form_result state k p = step (at state k) (publish p)
 
 abbrev open_result : Key → List ℕ → List ℕ → Result
 open_result k capsule out = step (at published k) (ask (open_capsule capsule out))
@@ -85,20 +85,20 @@ independent k p = ap (λ (o : Option Matrix). elim o as (λ x. Bool) [ none ↦ 
 
 -- a key with a public key
 module _ (k : Key) (rows : Matrix) (good : key_number k ≡ 0) (public : public_key k ≡ some rows) where
-  pub publish_output_lem : (state : State) (p : Publishing) → (publish_result state k p).number ≡ 0
-      → (publish_result state k p).output ≡ over (flat_map pack rows) (public_buffer p)
+  pub form_output : (state : State) (p : Publishing) → (form_result state k p).number ≡ 0
+      → (form_result state k p).output ≡ over (flat_map pack rows) (public_buffer p)
   unfolding at made publication written
-  publish_output_lem state p e =
+  form_output state p e =
       ap (λ (r : Result). r.output) (step-made (at state k) (publish p) e)
       ∙ ap (λ (o : Option Matrix). over (written o) (public_buffer p)) public
 
   -- the public key begins what publish wrote
-  public_begins : (state : State) (p : Publishing) → (publish_result state k p).number ≡ 0
-      → take (public_bytes k) (publish_result state k p).output ≡ flat_map pack rows
+  form_begins : (state : State) (p : Publishing) → (form_result state k p).number ≡ 0
+      → take (public_bytes k) (form_result state k p).output ≡ flat_map pack rows
   unfolding capsule_bits
-  public_begins state p e =
+  form_begins state p e =
       let l : length (flat_map pack rows) ≡ public_bytes k = public_size_lem k rows good public in
-      ap (take (public_bytes k)) (publish_output_lem state p e)
+      ap (take (public_bytes k)) (form_output state p e)
       ∙ over_first (flat_map pack rows) (public_buffer p) (public_bytes k) l
 
   -- a pattern's capsule has m·t bits
@@ -118,33 +118,33 @@ module _ (k : Key) (rows : Matrix) (good : key_number k ≡ 0) (irreducible : re
   unfolding at
   opens = open_decides k good irreducible rows public
 
-  publish_accepted : (state : State) (p : Publishing) → is_empty state ≡ false → public_bytes k ≤ length (public_buffer p) → needed_bytes k p ≤ length (work_buffer p)
-      → (publish_result state k p).number ≡ 0
+  form_accepted : (state : State) (p : Publishing) → is_empty state ≡ false → public_bytes k ≤ length (public_buffer p) → needed_bytes k p ≤ length (work_buffer p)
+      → (form_result state k p).number ≡ 0
   unfolding at conditions_of publishing_conditions publish_checks_within publish_conditions_within
-  publish_accepted state p h long room =
+  form_accepted state p h long room =
       step-number (at state k) (publish p)
       ∙ ap (λ (x : Held). first_of (conditions_of x (publish p))) (sound_held state k good)
       ∙ publish_first (is_empty state) (reducible k) (ltb (length (public_buffer p)) (public_bytes k)) (ltb (length (work_buffer p)) (needed_bytes k p)) (dependent k)
       h irreducible (le-ltb _ _ long) (le-ltb _ _ room) (independent k public)
 
-  publish_frees : (state : State) (p : Publishing) → is_empty state ≡ false → public_bytes k ≤ length (public_buffer p) → needed_bytes k p ≤ length (work_buffer p)
-      → (publish_result state k p).free ≡ needed_bytes k p
+  form_frees : (state : State) (p : Publishing) → is_empty state ≡ false → public_bytes k ≤ length (public_buffer p) → needed_bytes k p ≤ length (work_buffer p)
+      → (form_result state k p).free ≡ needed_bytes k p
   unfolding at made held_by freed_bytes free_bytes_within publish_checks_within
-  publish_frees state p h long room =
+  form_frees state p h long room =
       step_free (at state k) (publish p)
       ∙ ap (λ (b : Bool). cond b 0 (freed_bytes k p)) h
       ∙ ap (λ (b : Bool). cond (eqb (first_of (publish_checks_within (needed_bytes k p) b k (public_buffer p) (work_buffer p))) 0) (needed_bytes k p) 0) (ap (λ (x : Held). x.unsound) (sound_held state k good))
       ∙ ap (λ (n : ℕ). cond (eqb n 0) (needed_bytes k p) 0)
       (checks_first (reducible k) (ltb (length (public_buffer p)) (public_bytes k)) (ltb (length (work_buffer p)) (needed_bytes k p)) irreducible (le-ltb _ _ long) (le-ltb _ _ room))
 
-  publishes : (state : State) (p : Publishing) → is_empty state ≡ false → public_bytes k ≤ length (public_buffer p) → needed_bytes k p ≤ length (work_buffer p)
-      → publish_result state k p ≡ record { station = at published k; number = 0; output = over (flat_map pack rows) (public_buffer p); count = 0; answer = []; free = needed_bytes k p }
+  form_publishes : (state : State) (p : Publishing) → is_empty state ≡ false → public_bytes k ≤ length (public_buffer p) → needed_bytes k p ≤ length (work_buffer p)
+      → form_result state k p ≡ record { station = at published k; number = 0; output = over (flat_map pack rows) (public_buffer p); count = 0; answer = []; free = needed_bytes k p }
   unfolding at made
-  publishes state p h long room =
-      let zero = publish_accepted state p h long room in
+  form_publishes state p h long room =
+      let zero = form_accepted state p h long room in
       let w = step-made (at state k) (publish p) zero in
-      outcome (ap (λ (r : Result). r.station) w) zero (publish_output_lem k rows good public state p zero) (ap (λ (r : Result). r.count) w) (ap (λ (r : Result). r.answer) w)
-      (publish_frees state p h long room)
+      outcome (ap (λ (r : Result). r.station) w) zero (form_output k rows good public state p zero) (ap (λ (r : Result). r.count) w) (ap (λ (r : Result). r.answer) w)
+      (form_frees state p h long room)
 
   locked_opened : (pattern out : List ℕ) → Bytes pattern → well_formed k.n pattern ≡ true → weight k.n pattern ≡ k.t
       → bytes_for k.n ≤ length out
@@ -196,15 +196,45 @@ module _ (k : Key) (rows : Matrix) (good : key_number k ≡ 0) (irreducible : re
       ∙ ap pack f.locks.same
       ∙ pack-unpack (capsule_bits k) capsule bytes (opened k capsule out zero).0
 
+-- the form that needs m·t rows of n bits
+abbrev publish_result : State → Key → List ℕ → List ℕ → Result
+publish_result state k out work = form_result state k (systematic out work)
+
+module _ (k : Key) (rows : Matrix) (good : key_number k ≡ 0) (public : public_key k ≡ some rows) where
+  pub publish_output_lem : (state : State) (out work : List ℕ) → (publish_result state k out work).number ≡ 0
+      → (publish_result state k out work).output ≡ over (flat_map pack rows) out
+  unfolding public_buffer
+  publish_output_lem state out work e = form_output k rows good public state (systematic out work) e
+
+  public_begins : (state : State) (out work : List ℕ) → (publish_result state k out work).number ≡ 0
+      → take (public_bytes k) (publish_result state k out work).output ≡ flat_map pack rows
+  public_begins state out work e = form_begins k rows good public state (systematic out work) e
+
+module _ (k : Key) (rows : Matrix) (good : key_number k ≡ 0) (irreducible : reducible k ≡ false) (public : public_key k ≡ some rows) where
+  publish_accepted : (state : State) (out work : List ℕ) → is_empty state ≡ false → public_bytes k ≤ length out → work_bytes k ≤ length work
+      → (publish_result state k out work).number ≡ 0
+  unfolding public_buffer work_buffer needed_bytes
+  publish_accepted state out work h long room = form_accepted k rows good irreducible public state (systematic out work) h long room
+
+  publish_frees : (state : State) (out work : List ℕ) → is_empty state ≡ false → public_bytes k ≤ length out → work_bytes k ≤ length work
+      → (publish_result state k out work).free ≡ work_bytes k
+  unfolding public_buffer work_buffer needed_bytes
+  publish_frees state out work h long room = form_frees k rows good irreducible public state (systematic out work) h long room
+
+  publishes : (state : State) (out work : List ℕ) → is_empty state ≡ false → public_bytes k ≤ length out → work_bytes k ≤ length work
+      → publish_result state k out work ≡ record { station = at published k; number = 0; output = over (flat_map pack rows) out; count = 0; answer = []; free = work_bytes k }
+  unfolding public_buffer work_buffer needed_bytes
+  publishes state out work h long room = form_publishes k rows good irreducible public state (systematic out work) h long room
+
 pub demand_2 : Demand2 definitions
 unfolding at
 demand_2 k rows good irreducible public =
     record {
       publishes = λ s p h long room. at_held (λ (x : Slot). step x (publish p) ≡ record { station = record { state = published; key = x.key }; number = 0; output = over (flat_map pack rows) (public_buffer p); count = 0; answer = []; free = needed_bytes k p }) s k h
-          (λ state e. publishes k rows good irreducible public state p e long room);
+          (λ state e. form_publishes k rows good irreducible public state p e long room);
       marks = λ s h. at_held (λ (x : Slot). at published x.key ≡ at published k) s k h (λ state e. refl);
       public = λ s p h. at_held (λ (x : Slot). (step x (publish p)).number ≡ 0 → take (public_bytes k) (step x (publish p)).output ≡ flat_map pack rows) s k h
-          (λ state e. public_begins k rows good public state p);
+          (λ state e. form_begins k rows good public state p);
       locks = locks k rows good public;
       locked_opened = λ s pattern out p bytes formed count long.
           rw p (locked_opened k rows good irreducible public pattern out bytes formed count long);

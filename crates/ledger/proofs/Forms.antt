@@ -15,7 +15,7 @@ use Rattle.key.proofs.Parse.{accepted_key}
 use Rattle.network_key.specs.Files.{network_conditions}
 use Rattle.network_key.proofs.Convert.{accepted-network}
 use Rattle.code.specs.PublicKey.{Matrix, public_key, dependent}
-use Rattle.code.specs.Publish.{publish_checks_within, publish_conditions_within, free_bytes_within}
+use Rattle.code.specs.Publish.{work_bytes, publish_checks_within, publish_conditions_within, free_bytes_within}
 use Rattle.code.proofs.Exchange.{exchangeable}
 use Rattle.decoder.specs.Calls.{open_conditions, read_conditions}
 use Rattle.marks.specs.Marked.{marked_conditions}
@@ -23,7 +23,7 @@ use Rattle.records.specs.Records.{report_conditions}
 use Rattle.session.specs.Session.{session_conditions}
 use Rattle.ledger.specs.Slot.{Held}
 use Rattle.ledger.specs.Loading.{Loading, key_file, network_file, loading_conditions, loaded_key}
-use Rattle.ledger.specs.Publishing.{Publishing, public_buffer, work_buffer, needed_bytes, publishing_conditions, freed_bytes}
+use Rattle.ledger.specs.Publishing.{Publishing, systematic, public_buffer, work_buffer, needed_bytes, publishing_conditions, freed_bytes}
 use Rattle.ledger.specs.Questions.{Question, open_capsule, read_word, read_marked, report, derive_session_key, question_conditions}
 
 -- load
@@ -95,10 +95,14 @@ publishing_free h p n same e other =
     (refused_free (publish_checks_within (needed_bytes h.key p) h.unsound h.key (public_buffer p) (work_buffer p)) (dependent h.key) (needed_bytes h.key p) n refl e other)
 
 -- No byte of the workspace is free, or those that the form needs.
-none_or_needed : (b : Bool) (w : ℕ) → (cond b w 0 ≡ 0) ⊎ (cond b w 0 ≡ w)
-none_or_needed true w = inr refl
-none_or_needed false w = inl refl
+none_or_work : (b : Bool) (w : ℕ) → (cond b w 0 ≡ 0) ⊎ (cond b w 0 ≡ w)
+none_or_work true w = inr refl
+none_or_work false w = inl refl
 
-pub freed_workspace : (k : Key) (p : Publishing) → (freed_bytes k p ≡ 0) ⊎ (freed_bytes k p ≡ needed_bytes k p)
+pub freed_needed : (k : Key) (p : Publishing) → (freed_bytes k p ≡ 0) ⊎ (freed_bytes k p ≡ needed_bytes k p)
 unfolding freed_bytes free_bytes_within
-freed_workspace k p = none_or_needed (eqb (first_of (publish_checks_within (needed_bytes k p) (unsound k) k (public_buffer p) (work_buffer p))) 0) (needed_bytes k p)
+freed_needed k p = none_or_work (eqb (first_of (publish_checks_within (needed_bytes k p) (unsound k) k (public_buffer p) (work_buffer p))) 0) (needed_bytes k p)
+
+pub freed_workspace : (k : Key) (out work : List ℕ) → (freed_bytes k (systematic out work) ≡ 0) ⊎ (freed_bytes k (systematic out work) ≡ work_bytes k)
+unfolding needed_bytes
+freed_workspace k out work = freed_needed k (systematic out work)

@@ -1,7 +1,7 @@
 -- Marked reading by code words, and beside read. Assumes nothing.
 use Prim.Native.Nat.{ℕ, zero, suc, ◌+◌, ◌*◌, ◌≤◌, ◌<◌}
-use mathlib.Core.Path.{◌≡◌, refl, sym, ap, ap₂, ◌∙◌, subst}
-use mathlib.Core.Bool.{Bool, true, false, cond, not, ◌||◌}
+use mathlib.Core.Path.{◌≡◌, refl, sym, ap, ◌∙◌, subst}
+use mathlib.Core.Bool.{Bool, true, false, not}
 use mathlib.Core.List.{List, [], ◌∷◌}
 use mathlib.Core.Option.{Option, some}
 use native.Mathlib.Omega.{arith}
@@ -18,11 +18,11 @@ use Rattle.marks.specs.Marked.{differences, marked_reading, marked_conditions}
 use Rattle.marks.proofs.Added.{added_front}
 use Rattle.marks.proofs.Plain.{plain_differences, plain_reading}
 use Rattle.ledger.specs.Slot.{Slot, held_by, Result}
-use Rattle.ledger.specs.Questions.{Question, read_word, read_marked, answer_buffer, question_conditions, Given, gives, given, answer_size}
+use Rattle.ledger.specs.Questions.{Question, read_word, read_marked, answer_buffer, question_conditions, gives, given, answer_size}
 use Rattle.ledger.specs.Calls.{Call, ask, conditions_of, output_of, no_answer, made, unless, step}
 use Rattle.ledger.specs.Systems.{System}
 use Rattle.ledger.specs.Demands.{at, key_held, DiffersMarked, Decides}
-use Rattle.ledger.specs.Marks.{unmarked_differences, NearMarked, wrong_marks, CorrectsWithMarks, BesideRead, MarkedReading}
+use Rattle.ledger.specs.Marks.{NearMarked, wrong_marks, CorrectsWithMarks, BesideRead, MarkedReading}
 use Rattle.ledger.proofs.StepLaws.{outcome, call_number, step-number}
 use Rattle.ledger.proofs.Demand2.{at_held}
 use Rattle.ledger.proofs.Demand3.{marked_decides}

@@ -19,7 +19,7 @@ use Rattle.ledger.specs.Systems.{System, definitions}
 use Rattle.ledger.specs.Demands.{at, key_held}
 use Rattle.ledger.specs.SmallPublish.{unfreed, small_checks, SmallPublish}
 use Rattle.ledger.proofs.StepLaws.{outcome, call_number, step-number, step_free}
-use Rattle.ledger.proofs.Demand2.{at_held, publish_output_lem}
+use Rattle.ledger.proofs.Demand2.{at_held, form_output}
 use Rattle.ledger.proofs.Found.{Publishes, publish_found}
 use Rattle.ledger.proofs.Simulation.{Simulates, definitions_simulate, same_number, same_output, same_count, same_answer, same_free}
 
@@ -124,7 +124,7 @@ module _ (sys : System) (sim : Simulates sys) where
         sim.marks s p e,
         f.rows,
         f.public,
-        same_output sys sim s (publish p) ∙ publish_output_lem (sys.view s).key f.rows f.good f.public (sys.view s).state p z,
+        same_output sys sim s (publish p) ∙ form_output (sys.view s).key f.rows f.good f.public (sys.view s).state p z,
       )
 
   pub small_publish : SmallPublish sys

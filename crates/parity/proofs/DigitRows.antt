@@ -17,7 +17,7 @@ pub length-digit_row : (p : List ℕ) (k : ℕ) → length (digit_row p k) ≡ l
 unfolding digit_row
 length-digit_row p k = length-map p (λ x. x / 2 ^ k % 2)
 
-row_digit_row : (p : List ℕ) (k : ℕ) → Row (length p) (digit_row p k)
+pub row_digit_row : (p : List ℕ) (k : ℕ) → Row (length p) (digit_row p k)
 unfolding digit_row
 row_digit_row [] k = end
 row_digit_row (x ∷ p) k = row_cons (low (x / 2 ^ k)) (row_digit_row p k)

@@ -14,7 +14,7 @@ ghost use Rattle.parity.specs.Rows.{digit_row, digit_rows, over_rows};
 use field::Verdict;
 
 // Digit k of the first n numbers of p, bit after bit from the start of row.
-fn digit_row(row: &mut [u8], p: &[u16], n: usize, k: u8)
+pub fn digit_row(row: &mut [u8], p: &[u16], n: usize, k: u8)
     requires { (n ≤ length p.now) × (k < 16) }
     ensures { row.new ≡ put_bits (digit_row (take n p.now) k) 0 row.old }
 {

@@ -1,26 +1,22 @@
 -- The numbers of publish by the tests of the code, and its output. Assumes nothing.
-use mathlib.Core.Path.{◌≡◌, refl, sym}
-use mathlib.Core.Bool.{Bool, true, false, not, cond}
-use mathlib.Core.List.{List, [], ◌∷◌}
-use mathlib.Core.Option.{Option, none, some}
+use mathlib.Core.Path.{◌≡◌}
+use mathlib.Core.Bool.{cond}
+use mathlib.Core.List.{List}
 use Prim.Native.Nat.{ℕ, ◌-◌, ◌*◌, ◌≤◌, ◌<◌}
 use native.Mathlib.Nat.{le_of_suc-le-suc}
 use native.Mathlib.Omega.{arith}
-use lib.Dec.{eqb, ltb}
 use lib.ListN.{length, drop}
 use lib.Pow.{pow_mono}
-use borrow.Author.Tests.{eq-eqb, ne_eqb, eqb-true, not-false, lt-ltb, le-ltb, ltb-false}
 use Rattle.bits.specs.Bits.{bytes_for, over}
 use Rattle.field.specs.Numbers.{first_of}
-use Rattle.field.proofs.Numbers.{numbered, first-clear, first-append}
 use Rattle.field.proofs.Table.{Width, width_narrow}
-use Rattle.key.specs.Keys.{Key, key_number, unsound, reducible}
+use Rattle.key.specs.Keys.{Key, key_number, unsound}
 use Rattle.key.proofs.Accepted.{accepted}
-use Rattle.key.proofs.Conditions.{first-take}
 use Rattle.irreducible.specs.Answers.{exchange_checks}
-use Rattle.code.specs.PublicKey.{Matrix, public_key, dependent, written}
-use Rattle.code.specs.Publish.{capsule_bits, publish_checks_within, free_bytes_within, publish_conditions_within, publish_number_within, publish_output_within}
-use Rattle.publishing.specs.Checks.{size_checks_within}
+use Rattle.code.specs.PublicKey.{public_key, dependent, written}
+use Rattle.code.specs.Publish.{capsule_bits, work_bytes, free_bytes, publish_number, publish_output}
+use Rattle.publishing.specs.Checks.{size_checks}
+use Rattle.publishing.proofs.ChecksWithin as within
 
 -- the sizes of an accepted key
 pub record Sizes (k : Key) : Type 0 where
@@ -42,73 +38,48 @@ sizes k e =
       degree = a.limits.few;
     }
 
--- for the bytes of workspace that a form of publish needs
-module _ (need : ℕ) (k : Key) (out work : ℕ) where
+module _ (k : Key) (out work : ℕ) where
   -- 25, 34
-  pub check_key : (first_of (exchange_checks k) ≡ 0 → ⊥) → first_of (exchange_checks k) ≡ first_of (size_checks_within need (unsound k) k out work)
-  unfolding exchange_checks size_checks_within
-  check_key h = first-take 2 (size_checks_within need (unsound k) k out work) h
+  pub check_key : (first_of (exchange_checks k) ≡ 0 → ⊥) → first_of (exchange_checks k) ≡ first_of (size_checks (unsound k) k out work)
+  check_key h = within.check_key (work_bytes k) k out work h
 
   module _ (z : first_of (exchange_checks k) ≡ 0) where
-    lengths : List (Bool × ℕ)
-    lengths = (ltb out (k.m * k.t * bytes_for (k.n - k.m * k.t)), 10) ∷ (ltb work need, 11) ∷ []
-
-    passed : first_of lengths ≡ first_of (size_checks_within need (unsound k) k out work)
-    unfolding exchange_checks size_checks_within numbered capsule_bits lengths
-    passed = sym (first-append (exchange_checks k) lengths refl z)
-
-    pub check_output : out < k.m * k.t * bytes_for (k.n - k.m * k.t) → 10 ≡ first_of (size_checks_within need (unsound k) k out work)
-    unfolding first_of lengths
-    check_output h = rw (← passed, lt-ltb out (k.m * k.t * bytes_for (k.n - k.m * k.t)) h)
+    pub check_output : out < k.m * k.t * bytes_for (k.n - k.m * k.t) → 10 ≡ first_of (size_checks (unsound k) k out work)
+    check_output h = within.check_output (work_bytes k) k out work z h
 
     module _ (fits : k.m * k.t * bytes_for (k.n - k.m * k.t) ≤ out) where
-      pub check_work : work < need → 11 ≡ first_of (size_checks_within need (unsound k) k out work)
-      unfolding first_of lengths
-      check_work h = rw (← passed, le-ltb out (k.m * k.t * bytes_for (k.n - k.m * k.t)) fits, lt-ltb work need h)
+      pub check_work : work < k.m * k.t * bytes_for k.n → 11 ≡ first_of (size_checks (unsound k) k out work)
+      unfolding capsule_bits
+      check_work h = within.check_work (work_bytes k) k out work z fits h
 
-      pub check_none : need ≤ work → 0 ≡ first_of (size_checks_within need (unsound k) k out work)
-      unfolding first_of lengths
-      check_none h = rw (← passed, le-ltb out (k.m * k.t * bytes_for (k.n - k.m * k.t)) fits, le-ltb work need h)
+      pub check_none : k.m * k.t * bytes_for k.n ≤ work → 0 ≡ first_of (size_checks (unsound k) k out work)
+      unfolding capsule_bits
+      check_none h = within.check_none (work_bytes k) k out work z fits h
 
   -- no number: the key is accepted, and output and workspace are long enough
-  pub checks_clear : first_of (size_checks_within need (unsound k) k out work) ≡ 0
-      → (key_number k ≡ 0) × (k.m * k.t * bytes_for (k.n - k.m * k.t) ≤ out) × (need ≤ work)
-  unfolding size_checks_within unsound capsule_bits
-  checks_clear e =
-      let c25 = first-clear (not (eqb (key_number k) 0)) 24 _ e in
-      let c34 = first-clear (reducible k) 33 _ c25.1 in
-      let c10 = first-clear (ltb out (k.m * k.t * bytes_for (k.n - k.m * k.t))) 9 _ c34.1 in
-      let c11 = first-clear (ltb work need) 10 _ c10.1 in
-      (eqb-true (key_number k) 0 (not-false _ c25.0), ltb-false out _ c10.0, ltb-false work _ c11.0)
+  pub checks_clear : first_of (size_checks (unsound k) k out work) ≡ 0
+      → (key_number k ≡ 0) × (k.m * k.t * bytes_for (k.n - k.m * k.t) ≤ out) × (k.m * k.t * bytes_for k.n ≤ work)
+  unfolding capsule_bits
+  checks_clear e = within.checks_clear (work_bytes k) k out work e
 
 -- the number and the output of publish, where a check holds
-module _ (need : ℕ) (k : Key) (out work : List ℕ) where
-  pub number_refused : (first_of (size_checks_within need (unsound k) k (length out) (length work)) ≡ 0 → ⊥)
-      → first_of (size_checks_within need (unsound k) k (length out) (length work)) ≡ publish_number_within need k out work
-  unfolding size_checks_within publish_number_within publish_conditions_within publish_checks_within
-  number_refused h = first-take 4 (publish_conditions_within need (unsound k) k out work) h
+module _ (k : Key) (out work : List ℕ) where
+  pub number_refused : (first_of (size_checks (unsound k) k (length out) (length work)) ≡ 0 → ⊥)
+      → first_of (size_checks (unsound k) k (length out) (length work)) ≡ publish_number k out work
+  number_refused h = within.number_refused (work_bytes k) k out work h
 
-  pub output_refused : (publish_number_within need k out work ≡ 0 → ⊥) → out ≡ publish_output_within need k out work
-  unfolding publish_output_within
-  output_refused h = rw (ne_eqb (publish_number_within need k out work) 0 h)
+  pub output_refused : (publish_number k out work ≡ 0 → ⊥) → out ≡ publish_output k out work
+  output_refused h = within.output_refused (work_bytes k) k out work h
 
   -- where none does: 23 decides
-  module _ (clear : first_of (size_checks_within need (unsound k) k (length out) (length work)) ≡ 0) where
-    pub number-made : publish_number_within need k out work ≡ cond (dependent k) 23 0
-    unfolding size_checks_within publish_number_within publish_conditions_within publish_checks_within numbered first_of
-    number-made = first-append (publish_checks_within need (unsound k) k out work) ((dependent k, 23) ∷ []) refl clear
+  module _ (clear : first_of (size_checks (unsound k) k (length out) (length work)) ≡ 0) where
+    pub number-made : publish_number k out work ≡ cond (dependent k) 23 0
+    number-made = within.number-made (work_bytes k) k out work clear
 
     -- the bytes that are not free are as they were
-    pub free_made : (after : List ℕ) → drop need after ≡ drop need work
-        → drop (free_bytes_within need k out work) after ≡ drop (free_bytes_within need k out work) work
-    unfolding free_bytes_within publish_checks_within size_checks_within
-    free_made after e = rw (eq-eqb _ 0 clear) e
+    pub free_made : (after : List ℕ) → drop (work_bytes k) after ≡ drop (work_bytes k) work
+        → drop (free_bytes k out work) after ≡ drop (free_bytes k out work) work
+    free_made after e = within.free_made (work_bytes k) k out work clear after e
 
-    pub output_made : over (written (public_key k)) out ≡ publish_output_within need k out work
-    unfolding publish_output_within dependent written over
-    output_made = rw number-made (go (public_key k))
-      where
-        go : (p : Option Matrix)
-            → over (written p) out ≡ cond (eqb (cond (elim p as (λ x. Bool) [ none ↦ true | some rows ↦ false ]) 23 0) 0) (over (written p) out) out
-        go none = refl
-        go (some rows) = refl
+    pub output_made : over (written (public_key k)) out ≡ publish_output k out work
+    output_made = within.output_made (work_bytes k) k out work clear

@@ -1,3 +1,6 @@
 pub mod WrittenRows
+pub mod ChecksWithin
 pub mod Checks
+pub mod DigitRows
+pub mod Entries
 pub mod Made

@@ -8,7 +8,7 @@ use lib.ListN.{drop}
 use Rattle.key.specs.Keys.{Key}
 use Rattle.key.specs.Kept.{kept, keep}
 use Rattle.key.specs.Answers.{shape_answer}
-use Rattle.code.specs.Publish.{free_bytes_within, publish_number_within, publish_output_within}
+use Rattle.code.specs.Publish.{free_bytes, free_bytes_within, publish_number, publish_number_within, publish_output, publish_output_within}
 use Rattle.decoder.specs.Calls.{open_number, read_number, open_output, read_output, pattern_output}
 use Rattle.reading.specs.Answers.{answer_of, open_of, read_of}
 use Rattle.marks.specs.Marked.{marked_number, marked_output}
@@ -16,7 +16,7 @@ use Rattle.marked_reading.specs.Answers.{marked_of}
 use Rattle.ledger.specs.Slot.{is_empty, is_unpublished, held_by}
 use Rattle.ledger.specs.Loading.{Loading, loading_conditions, loaded_key}
 use Rattle.loading.specs.Forms.{loaded_shape}
-use Rattle.ledger.specs.Publishing.{Publishing, public_buffer, work_buffer, needed_bytes, publishing_conditions, publication, freed_bytes}
+use Rattle.ledger.specs.Publishing.{Publishing, systematic, public_buffer, work_buffer, needed_bytes, publishing_conditions, publication, freed_bytes}
 use Rattle.ledger.specs.Questions.{open_capsule, read_word, read_marked, answer_buffer, question_conditions, gives, given}
 use Rattle.ledger.specs.Calls.{Call, load, publish, ask, output_of, made}
 use Rattle.ledger.proofs.StepLaws.{step_free}
@@ -45,24 +45,42 @@ load_answer s f empty = go (lower s (load f)) refl
 
 -- publish, of each form, with a key
 module _ (s : Slot) (p : Publishing) (keyed : is_empty (state_of s.state) ≡ false) where
-  publish_passes : (stop s (publish p)).0 ≡ false
+  form_passes : (stop s (publish p)).0 ≡ false
   unfolding stop
-  publish_passes = keyed
+  form_passes = keyed
 
-  pub publish_number_lem : publish_number_within (needed_bytes (kept s.key) p) (kept s.key) (public_buffer p) (work_buffer p) ≡ (handed s (publish p)).reply.refused
+  pub form_number : publish_number_within (needed_bytes (kept s.key) p) (kept s.key) (public_buffer p) (work_buffer p) ≡ (handed s (publish p)).reply.refused
   unfolding lower publishing_conditions held_by view publish_number_within
-  publish_number_lem = lower_number s (publish p) publish_passes
+  form_number = lower_number s (publish p) form_passes
 
-  pub publish_output_lem : publish_output_within (needed_bytes (kept s.key) p) (kept s.key) (public_buffer p) (work_buffer p) ≡ (handed s (publish p)).output
+  pub form_output : publish_output_within (needed_bytes (kept s.key) p) (kept s.key) (public_buffer p) (work_buffer p) ≡ (handed s (publish p)).output
   unfolding publish_output_within publish_number_within lower publishing_conditions held_by made publication view output_of
-  publish_output_lem = lower_output s (publish p) publish_passes
+  form_output = lower_output s (publish p) form_passes
 
-  pub publish_work : (before after : List ℕ) → (let f = free_bytes_within (needed_bytes (kept s.key) p) (kept s.key) (public_buffer p) (work_buffer p) in drop f after ≡ drop f before)
+  pub form_work : (before after : List ℕ) → (let f = free_bytes_within (needed_bytes (kept s.key) p) (kept s.key) (public_buffer p) (work_buffer p) in drop f after ≡ drop f before)
       → (let f = (handed s (publish p)).free in drop f after ≡ drop f before)
   unfolding handed made freed_bytes view
-  publish_work before after =
+  form_work before after =
       subst (λ (f : ℕ). drop f after ≡ drop f before)
       (sym (step_free (view s) (publish p) ∙ ap (λ (b : Bool). cond b 0 (freed_bytes (kept s.key) p)) keyed))
+
+-- the form that needs m·t rows of n bits
+module _ (s : Slot) (out work : List ℕ) (keyed : is_empty (state_of s.state) ≡ false) where
+  pub publish_passes : (stop s (publish (systematic out work))).0 ≡ false
+  publish_passes = form_passes s (systematic out work) keyed
+
+  pub publish_number_lem : publish_number (kept s.key) out work ≡ (handed s (publish (systematic out work))).reply.refused
+  unfolding needed_bytes public_buffer work_buffer
+  publish_number_lem = form_number s (systematic out work) keyed
+
+  pub publish_output_lem : publish_output (kept s.key) out work ≡ (handed s (publish (systematic out work))).output
+  unfolding needed_bytes public_buffer work_buffer
+  publish_output_lem = form_output s (systematic out work) keyed
+
+  pub publish_work : (before after : List ℕ) → (let f = free_bytes (kept s.key) out work in drop f after ≡ drop f before)
+      → (let f = (handed s (publish (systematic out work))).free in drop f after ≡ drop f before)
+  unfolding needed_bytes public_buffer work_buffer
+  publish_work before after = form_work s (systematic out work) keyed before after
 
 -- open and read, with a key
 answer_lower : (s : Slot) (c : Call) → (stop s c).0 ≡ false → answer_of (lower s c) (made (view s) c).count ≡ answered_of (handed s c)

@@ -2,12 +2,10 @@
 use mathlib.Core.Path.{ap, ◌∙◌}
 use Prim.Native.Nat.{◌-◌, ◌*◌}
 use native.Mathlib.Omega.{arith}
-use Rattle.bits.specs.Bits.{bytes_for}
 use Rattle.field.specs.Verdicts.{verdict_of}
 use Rattle.field.proofs.Verdicts.{refuses, verdict_accepted, verdict_refused}
 use Rattle.key.specs.Kept.{kept, parts}
 use Rattle.irreducible.proofs.Exchange.{exchange-clear}
-use Rattle.code.specs.Publish.{capsule_bits}
 use Rattle.elimination.proofs.Sizes.{sizes-le}
 use Rattle.publishing.proofs.Checks.{Sizes, sizes, check_key, check_output, check_work, check_none}
 use Rattle.publishing.proofs.check.Goals as goal
@@ -15,7 +13,7 @@ use Rattle.publishing.proofs.check.Goals as goal
 pub returns-in_default : goal.returns-in_default
 returns-in_default c =
     let r = c.check_exchange-x.ensures in
-    r ∙ ap verdict_of (check_key _ _ _ _ (verdict_refused _ r c.in_default.is))
+    r ∙ ap verdict_of (check_key _ _ _ (verdict_refused _ r c.in_default.is))
 
 pub overflow_mul-rows : goal.overflow_mul-rows
 unfolding kept
@@ -52,7 +50,7 @@ returns-then-out-rows c =
     let k = parts a.m a.n a.t a.support.now a.g.now in
     let z = verdict_accepted _ c.check_exchange-x.ensures c.in-Accepted.is in
     let e = ap (◌*◌ (k.m * k.t)) c.bytes_for.ensures in
-    refuses (check_output _ (kept k) _ _ z (omega arith))
+    refuses (check_output (kept k) _ _ z (omega arith))
 
 pub overflow_mul-rows-3 : goal.overflow_mul-rows-3
 unfolding kept
@@ -65,17 +63,17 @@ overflow_mul-rows-3 c =
     omega arith
 
 pub returns-then-work-rows : goal.returns-then-work-rows
-unfolding kept capsule_bits
+unfolding kept
 returns-then-work-rows c =
     let a = c.args in
     let k = parts a.m a.n a.t a.support.now a.g.now in
     let z = verdict_accepted _ c.check_exchange-x.ensures c.in-Accepted.is in
     let e = ap (◌*◌ (k.m * k.t)) c.bytes_for.ensures in
     let f = ap (◌*◌ (k.m * k.t)) c.bytes_for-2.ensures in
-    refuses (check_work (k.m * k.t * bytes_for k.n) (kept k) _ _ z (omega arith) (omega arith))
+    refuses (check_work (kept k) _ _ z (omega arith) (omega arith))
 
 pub returns : goal.returns
-unfolding kept capsule_bits
+unfolding kept
 returns c =
     let a = c.args in
     let k = parts a.m a.n a.t a.support.now a.g.now in
@@ -83,4 +81,4 @@ returns c =
     let z = verdict_accepted _ r c.in-Accepted.is in
     let e = ap (◌*◌ (k.m * k.t)) c.bytes_for.ensures in
     let f = ap (◌*◌ (k.m * k.t)) c.bytes_for-2.ensures in
-    r ∙ ap verdict_of (z ∙ check_none (k.m * k.t * bytes_for k.n) (kept k) _ _ z (omega arith) (omega arith))
+    r ∙ ap verdict_of (z ∙ check_none (kept k) _ _ z (omega arith) (omega arith))

@@ -21,7 +21,7 @@ unfolding kept
 overflow_mul-rows c =
     let a = c.args in
     let k = parts a.m a.n a.t a.support.now a.g.now in
-    let f = checks_clear _ (kept k) _ _ c.requires in
+    let f = checks_clear (kept k) _ _ c.requires in
     let z : Sizes (kept k) = sizes (kept k) f.0 in
     omega (arith, z.rows, z.columns)
 
@@ -30,7 +30,7 @@ unfolding kept capsule_bits
 key_rows-requires c =
     let a = c.args in
     let k = parts a.m a.n a.t a.support.now a.g.now in
-    let f = checks_clear _ (kept k) _ _ c.requires in
+    let f = checks_clear (kept k) _ _ c.requires in
     let z : Sizes (kept k) = sizes (kept k) f.0 in
     (z.columns, z.degree, f.2, ap key_number (key_of-kept k f.0) ∙ f.0)
 
@@ -41,7 +41,7 @@ returns-then-not-eliminate c =
     let k = parts a.m a.n a.t a.support.now a.g.now in
     let q = c.key_rows in
     let w : List ℕ = q.new.work in
-    let f = checks_clear _ (kept k) _ _ c.requires in
+    let f = checks_clear (kept k) _ _ c.requires in
     let z : Sizes (kept k) = sizes (kept k) f.0 in
     let l : length w ≡ length c.args.work.now = q.auto.work in
     let room : k.m * k.t * bytes_for k.n ≤ length w = omega (arith, f.2) in
@@ -55,7 +55,7 @@ unfolding kept
 write_rows-requires c =
     let a = c.args in
     let k = parts a.m a.n a.t a.support.now a.g.now in
-    let f = checks_clear _ (kept k) _ _ c.requires in
+    let f = checks_clear (kept k) _ _ c.requires in
     let z : Sizes (kept k) = sizes (kept k) f.0 in
     (omega (arith, z.rows), z.columns, omega (arith, f.1))
 
@@ -66,7 +66,7 @@ returns c =
     let k = parts a.m a.n a.t a.support.now a.g.now in
     let q = c.key_rows in
     let w : List ℕ = q.new.work in
-    let f = checks_clear _ (kept k) _ _ c.requires in
+    let f = checks_clear (kept k) _ _ c.requires in
     let z : Sizes (kept k) = sizes (kept k) f.0 in
     let l : length w ≡ length c.args.work.now = q.auto.work in
     let room : k.m * k.t * bytes_for k.n ≤ length w = omega (arith, f.2) in

@@ -12,8 +12,8 @@ returns-in_default c =
     let k = parts a.m a.n a.t a.support.now a.g.now in
     let r = c.check-x.ensures in
     let n = verdict_refused _ r c.in_default.is in
-    let e = number_refused _ (kept k) a.out.now a.work.now n in
-    record { answer = r ∙ ap verdict_of e; output = output_refused _ (kept k) a.out.now a.work.now (λ z. n (e ∙ z)); workspace = refl }
+    let e = number_refused (kept k) a.out.now a.work.now n in
+    record { answer = r ∙ ap verdict_of e; output = output_refused (kept k) a.out.now a.work.now (λ z. n (e ∙ z)); workspace = refl }
 
 pub make-requires : goal.make-requires
 make-requires c = verdict_accepted _ c.check-x.ensures c.in-Accepted.is
@@ -25,7 +25,7 @@ returns c =
     let m = c.make in
     let clear = verdict_accepted _ c.check-x.ensures c.in-Accepted.is in
     record {
-      answer = m.ensures.answer ∙ ap verdict_of (sym (number-made _ (kept k) a.out.now a.work.now clear));
-      output = m.ensures.output ∙ output_made _ (kept k) a.out.now a.work.now clear;
-      workspace = free_made _ (kept k) a.out.now a.work.now clear m.new.work m.ensures.rest;
+      answer = m.ensures.answer ∙ ap verdict_of (sym (number-made (kept k) a.out.now a.work.now clear));
+      output = m.ensures.output ∙ output_made (kept k) a.out.now a.work.now clear;
+      workspace = free_made (kept k) a.out.now a.work.now clear m.new.work m.ensures.rest;
     }

@@ -2,7 +2,7 @@
 use mathlib.Core.Path.{refl, sym, ap, ◌∙◌}
 use Rattle.field.specs.Verdicts.{verdict_of}
 use Rattle.field.proofs.Verdicts.{refuses}
-use Rattle.ledger.specs.Publishing.{systematic, public_buffer, work_buffer, needed_bytes}
+use Rattle.ledger.specs.Publishing.{systematic, public_buffer}
 use Rattle.ledger.specs.Calls.{publish, output_of}
 use Rattle.slot.specs.Parts.{slot_in}
 use Rattle.slot.proofs.ReplyLaws.{stop, stopped, stopped_number}
@@ -19,14 +19,12 @@ returns-then-is_empty c =
     record { answer = refuses (stopped_number s p k); output = (stopped s p k).1; workspace = refl }
 
 pub returns : goal.returns
-unfolding public_buffer work_buffer needed_bytes
 returns c =
     let a = c.args in
     let s = slot_in a.state a.m a.n a.t a.support.now a.g.now in
-    let f = systematic a.out.now a.work.now in
     let k = sym c.is_empty.ensures ∙ c.if-is_empty.false in
     record {
-      answer = c.publish.ensures.answer ∙ ap verdict_of (publish_number_lem s f k);
-      output = c.publish.ensures.output ∙ publish_output_lem s f k;
-      workspace = publish_work s f k _ _ c.publish.ensures.workspace;
+      answer = c.publish.ensures.answer ∙ ap verdict_of (publish_number_lem s a.out.now a.work.now k);
+      output = c.publish.ensures.output ∙ publish_output_lem s a.out.now a.work.now k;
+      workspace = publish_work s a.out.now a.work.now k _ _ c.publish.ensures.workspace;
     }

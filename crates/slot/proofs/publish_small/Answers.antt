@@ -6,7 +6,7 @@ use Rattle.ledger.specs.Publishing.{small, public_buffer, work_buffer, needed_by
 use Rattle.ledger.specs.Calls.{publish, output_of}
 use Rattle.slot.specs.Parts.{slot_in}
 use Rattle.slot.proofs.ReplyLaws.{stop, stopped, stopped_number}
-use Rattle.slot.proofs.LowerLaws.{publish_number_lem, publish_output_lem, publish_work}
+use Rattle.slot.proofs.LowerLaws.{form_number, form_output, form_work}
 use Rattle.slot.proofs.publish_small.Goals as goal
 
 pub returns-then-is_empty : goal.returns-then-is_empty
@@ -26,7 +26,7 @@ returns c =
     let f = small a.out.now a.work.now in
     let k = sym c.is_empty.ensures ∙ c.if-is_empty.false in
     record {
-      answer = c.publish_small.ensures.answer ∙ ap verdict_of (publish_number_lem s f k);
-      output = c.publish_small.ensures.output ∙ publish_output_lem s f k;
-      workspace = publish_work s f k _ _ c.publish_small.ensures.workspace;
+      answer = c.publish_small.ensures.answer ∙ ap verdict_of (form_number s f k);
+      output = c.publish_small.ensures.output ∙ form_output s f k;
+      workspace = form_work s f k _ _ c.publish_small.ensures.workspace;
     }

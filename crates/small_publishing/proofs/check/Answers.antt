@@ -9,7 +9,8 @@ use Rattle.key.specs.Kept.{kept, parts}
 use Rattle.irreducible.proofs.Exchange.{exchange-clear}
 use Rattle.code.specs.Publish.{capsule_bits}
 use Rattle.elimination.proofs.Sizes.{sizes-le}
-use Rattle.publishing.proofs.Checks.{Sizes, sizes, check_key, check_output, check_work, check_none}
+use Rattle.publishing.proofs.Checks.{Sizes, sizes}
+use Rattle.publishing.proofs.ChecksWithin.{check_key, check_output, check_work, check_none}
 use Rattle.small_publishing.proofs.Sizes.{rows_most}
 use Rattle.small_publishing.proofs.check.Goals as goal
 

@@ -10,7 +10,8 @@ use Rattle.key.specs.Keys.{key_number}
 use Rattle.key.specs.Kept.{kept, parts}
 use Rattle.key.proofs.Parts.{kept-sizes, key_of-kept}
 use Rattle.code.specs.PublicKey.{public_key, dependent, written}
-use Rattle.publishing.proofs.Checks.{Sizes, sizes, checks_clear}
+use Rattle.publishing.proofs.Checks.{Sizes, sizes}
+use Rattle.publishing.proofs.ChecksWithin.{checks_clear}
 use Rattle.block_product.specs.Blocks.{step_of}
 use Rattle.small_publishing.proofs.Sizes.{small_is, refused_by_lem, accepted_by}
 use Rattle.small_publishing.proofs.make.Goals as goal

@@ -3,7 +3,7 @@ use mathlib.Core.Path.{refl, sym, ap, ◌∙◌}
 use Rattle.field.specs.Verdicts.{verdict_of}
 use Rattle.field.proofs.Verdicts.{verdict_accepted, verdict_refused}
 use Rattle.key.specs.Kept.{kept, parts}
-use Rattle.publishing.proofs.Checks.{number_refused, output_refused, number-made, output_made, free_made}
+use Rattle.publishing.proofs.ChecksWithin.{number_refused, output_refused, number-made, output_made, free_made}
 use Rattle.small_publishing.proofs.publish_small.Goals as goal
 
 pub returns-in_default : goal.returns-in_default

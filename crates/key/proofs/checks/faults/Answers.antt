@@ -2,7 +2,7 @@
 use mathlib.Core.Path.{ap, ◌∙◌}
 use Rattle.field.specs.Verdicts.{verdict_of}
 use Rattle.field.proofs.Verdicts.{refuses, verdict_accepted, verdict_refused}
-use Rattle.key.proofs.Order.{failed, passed, early_clear, fault-root, fault_none}
+use Rattle.key.proofs.Order.{failed, passed, early_clear, fault_root, fault_none}
 use Rattle.key.proofs.Conditions.{first-take}
 use Rattle.key.proofs.checks.faults.Goals as goal
 
@@ -18,7 +18,7 @@ no_root-requires c = (c.requires.0, c.requires.1)
 pub returns-then-not-no_root : goal.returns-then-not-no_root
 returns-then-not-no_root c =
     let p = early_clear _ _ _ (verdict_accepted _ c.faults_but_roots-x.ensures c.in-Accepted.is) in
-    refuses (fault-root _ _ _ p.0 p.1 p.2 p.3 (failed c.no_root.ensures c.if-not-no_root.true))
+    refuses (fault_root _ _ _ p.0 p.1 p.2 p.3 (failed c.no_root.ensures c.if-not-no_root.true))
 
 pub returns : goal.returns
 returns c =

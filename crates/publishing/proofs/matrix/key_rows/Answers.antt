@@ -12,21 +12,21 @@ use Rattle.key.proofs.Units.{goppa_units}
 use Rattle.code.specs.Lock.{rows_of}
 use Rattle.publishing.proofs.matrix.key_rows.Goals as goal
 
-pub slice_bounds-support_rows-end : goal.slice_bounds-support_rows-end
-slice_bounds-support_rows-end c =
+pub slice_bounds-parity_rows-end : goal.slice_bounds-parity_rows-end
+slice_bounds-parity_rows-end c =
     let a = c.args in
     let e : length a.support.now ≡ 8192 = search rules in
     sym (length-take-le a.n a.support.now (omega arith))
 
-pub slice_bounds-support_rows-end-2 : goal.slice_bounds-support_rows-end-2
-slice_bounds-support_rows-end-2 c =
+pub slice_bounds-parity_rows-end-2 : goal.slice_bounds-parity_rows-end-2
+slice_bounds-parity_rows-end-2 c =
     let a = c.args in
     let e : length a.g.now ≡ 128 = search rules in
     sym (length-take-le a.t a.g.now (omega arith))
 
-pub support_rows-requires : goal.support_rows-requires
+pub parity_rows-requires : goal.parity_rows-requires
 unfolding key_of
-support_rows-requires c =
+parity_rows-requires c =
     let a = c.args in
     let ls : length a.support.now ≡ 8192 = search rules in
     let lg : length a.g.now ≡ 128 = search rules in
@@ -42,7 +42,7 @@ returns c =
     let lg : length a.g.now ≡ 128 = search rules in
     let s = length-take-le a.n a.support.now (omega arith) in
     let g = length-take-le a.t a.g.now (omega arith) in
-    let q = c.support_rows in
+    let q = c.parity_rows in
     record {
       rows = ap₂ (λ (t n : ℕ). rows_of (a.m * t) n q.new.work) (sym g) (sym s) ∙ q.ensures.rows;
       rest = ap₂ (λ (t n : ℕ). drop (a.m * t * bytes_for n) q.new.work) (sym g) (sym s) ∙ q.ensures.rest ∙ ap₂ (λ (t n : ℕ). drop (a.m * t * bytes_for n) a.work.now) g s;
