@@ -8,14 +8,15 @@ use mathlib.Core.Option.{Option, none, some}
 use native.Mathlib.Omega.{arith}
 use lib.Dec.{eqb}
 use borrow.Author.Tests.{eqb-true}
+use Rattle.bits.specs.Bits.{over}
 use Rattle.field.specs.Numbers.{first_of}
 use Rattle.field.proofs.Numbers.{numbered, first-clear, first-append}
 use Rattle.key.specs.Keys.{Key, conditions, file_conditions, key_number, unsound, reducible}
 use Rattle.key.proofs.Parse.{accepted_key}
 use Rattle.network_key.specs.Files.{network_conditions}
 use Rattle.network_key.proofs.Convert.{accepted-network}
-use Rattle.code.specs.PublicKey.{Matrix, public_key, dependent}
-use Rattle.code.specs.Publish.{work_bytes, publish_checks_within, publish_conditions_within, free_bytes_within}
+use Rattle.code.specs.PublicKey.{Matrix, public_key, dependent, written}
+use Rattle.code.specs.Publish.{work_bytes, publish_conditions, free_bytes, publish_checks_within, publish_conditions_within, free_bytes_within}
 use Rattle.code.proofs.Exchange.{exchangeable}
 use Rattle.decoder.specs.Calls.{open_conditions, read_conditions}
 use Rattle.marks.specs.Marked.{marked_conditions}
@@ -23,7 +24,7 @@ use Rattle.records.specs.Records.{report_conditions}
 use Rattle.session.specs.Session.{session_conditions}
 use Rattle.ledger.specs.Slot.{Held}
 use Rattle.ledger.specs.Loading.{Loading, key_file, network_file, loading_conditions, loaded_key}
-use Rattle.ledger.specs.Publishing.{Publishing, systematic, public_buffer, work_buffer, needed_bytes, publishing_conditions, freed_bytes}
+use Rattle.ledger.specs.Publishing.{Publishing, systematic, public_buffer, work_buffer, needed_bytes, publishing_conditions, publication, freed_bytes}
 use Rattle.ledger.specs.Questions.{Question, open_capsule, read_word, read_marked, report, derive_session_key, question_conditions}
 
 -- load
@@ -106,3 +107,16 @@ freed_needed k p = none_or_work (eqb (first_of (publish_checks_within (needed_by
 pub freed_workspace : (k : Key) (out work : List ℕ) → (freed_bytes k (systematic out work) ≡ 0) ⊎ (freed_bytes k (systematic out work) ≡ work_bytes k)
 unfolding needed_bytes
 freed_workspace k out work = freed_needed k (systematic out work)
+
+-- what the definitions say of the form that needs m·t rows of n bits
+pub systematic_conditions : (h : Held) (out work : List ℕ) → publishing_conditions h (systematic out work) ≡ publish_conditions h.unsound h.key out work
+unfolding publishing_conditions needed_bytes public_buffer work_buffer
+systematic_conditions h out work = refl
+
+pub systematic_output : (k : Key) (out work : List ℕ) → publication k (systematic out work) ≡ over (written (public_key k)) out
+unfolding publication public_buffer
+systematic_output k out work = refl
+
+pub systematic_free : (k : Key) (out work : List ℕ) → freed_bytes k (systematic out work) ≡ free_bytes k out work
+unfolding freed_bytes needed_bytes public_buffer work_buffer
+systematic_free k out work = refl

@@ -9,7 +9,7 @@ unfoldable pub digit_row : List ℕ → ℕ → List ℕ
 digit_row p k = map (λ x. x / 2 ^ k % 2) p
 
 -- a row for each of the m lowest digits
-unfoldable pub digit_rows : ℕ → List ℕ → Matrix
+unfoldable pub digit_rows : ℕ → List ℕ → List (List ℕ)
 digit_rows m p = map (digit_row p) (from 0 m)
 
 -- each row written over the row at the same place
