@@ -1,6 +1,6 @@
 -- Rows of n bits in a list of bytes: one by one, in a list's front, and the first bits of longer rows. Assumes nothing.
-use mathlib.Core.Path.{◌≡◌, refl, sym, ap, ap₂, ◌∙◌, fun_ext}
-use mathlib.Core.List.{List, [], ◌∷◌, ◌++◌, map, map-map, map-append}
+use mathlib.Core.Path.{◌≡◌, refl, sym, ap, ap₂, ◌∙◌}
+use mathlib.Core.List.{List, [], ◌∷◌, ◌++◌, map, map-append}
 use Prim.Native.Nat.{ℕ, zero, suc, ◌+◌, ◌-◌, ◌*◌, ◌/◌, ◌%◌, ◌^◌, ◌≤◌, ◌<◌}
 use native.Mathlib.Nat.{zero-mul, one-mul, suc-mul, add-mul, add-suc, add_comm}
 use native.Mathlib.Omega.{arith}
@@ -9,7 +9,7 @@ use lib.Seq.{drop-drop, drop-append-le, take_at, length-take-le}
 use Rattle.bits.specs.Bits.{from, bytes_for, bit_at, unpack}
 use Rattle.bits.proofs.Bits.{bit_zeros}
 use Rattle.bits.proofs.Lists.{cons_eq, length_from, from-add}
-use Rattle.bits.proofs.Pack.{length-unpack, unpack-add, unpack_ext, unpack-take, byte_below, bytes_enough}
+use Rattle.bits.proofs.Pack.{length-unpack, unpack-add, unpack_ext, unpack-take, byte_below}
 use Rattle.code.specs.PublicKey.{Matrix}
 use Rattle.code.specs.Lock.{row_of, rows_of}
 
@@ -101,16 +101,3 @@ take-unpack n k s h =
     ap (λ (i : ℕ). take n (unpack i s)) e
     ∙ ap (take n) (unpack-add n (k - n) s)
     ∙ take_at (unpack n s) (map (bit_at s) (from n (k - n))) n (length-unpack n s)
-
--- rows of n bits are the first bits of rows of as many bytes
-pub rows_take : (k n : ℕ) (w : List ℕ) → rows_of k n w ≡ map (take n) (rows_of k (8 * bytes_for n) w)
-unfolding rows_of row_of
-rows_take k n w =
-    let wide : ℕ = 8 * bytes_for n in
-    sym
-    (map-map (take n) (λ r. unpack wide (row_of wide w r)) (from 0 k)
-    ∙ ap (λ f. map f (from 0 k))
-    (fun_ext
-    (λ r.
-    take-unpack n wide (row_of wide w r) (bytes_enough n)
-    ∙ ap (λ (b : ℕ). unpack n (take b (drop (r * b) w))) (bytes_whole (bytes_for n)))))

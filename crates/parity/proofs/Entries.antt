@@ -4,11 +4,11 @@ use mathlib.Core.List.{List, ◌++◌, map, map-map, map-append, zip_with}
 use Prim.Native.Nat.{ℕ, ◌+◌, ◌*◌, ◌/◌, ◌%◌, ◌^◌}
 use native.Mathlib.Nat.{zero-add, zero-mul, mul_comm}
 use native.Mathlib.Numerals.{add-one}
-use lib.ListN.{length, take, length-map}
+use lib.ListN.{length, take}
 use Rattle.bits.specs.Xor.{◌⊕◌}
 use Rattle.bits.specs.Bits.{from, each_with}
 use Rattle.bits.proofs.Xor.{xor-zero}
-use Rattle.bits.proofs.Lists.{length_from, from-add, map-from}
+use Rattle.bits.proofs.Lists.{from-add, map-from}
 use Rattle.bits.proofs.Each.{take-each_with}
 use Rattle.field.specs.Field.{mul, power, inv}
 use Rattle.field.specs.Poly.{horner_each}
@@ -22,7 +22,6 @@ use Rattle.code.specs.PublicKey.{Matrix}
 use Rattle.code.specs.Lock.{rows_of}
 use Rattle.code.proofs.Parity.{row_power, row_digit}
 use Rattle.parity.specs.Rows.{digit_row, digit_rows, over_rows}
-use Rattle.parity.proofs.RowsOver.{take-over_rows}
 
 module _ (k : Key) where
   entry_zero : Width k.m → (a : ℕ) → inv k.m (goppa_at k a) ≡ entry k 0 a
@@ -80,11 +79,3 @@ module _ (m : ℕ) (w : Width m) (s g : List ℕ) where
   pub parity_all : (i : ℕ) → i ≡ length g → map (parity_row (key_of m s g)) (from 0 (i * m)) ≡ parity_rows (key_of m s g)
   unfolding parity_rows key_of
   parity_all i e = ap (λ (x : ℕ). map (parity_row (key_of m s g)) (from 0 x)) (ap (λ (j : ℕ). j * m) e ∙ mul_comm (length g) m)
-
-  -- written over as many rows, they are the first bits of each
-  pub parity_front : (others : Matrix) → length others ≡ m * length g → map (take (length s)) (over_rows (parity_rows (key_of m s g)) others) ≡ parity_rows (key_of m s g)
-  unfolding parity_rows parity_row key_of
-  parity_front others h =
-      let k : Key = key_of m s g in
-      take-over_rows (parity_row k) (length s) (λ r. length-map s (λ a. entry k (r / m) a / 2 ^ (r % m) % 2)) (from 0 (m * length g)) others
-      (h ∙ sym (length_from 0 (m * length g)))

@@ -1,6 +1,6 @@
 -- Bits written over the first bits of a row, and rows over the rows of a workspace. Assumes nothing.
 use mathlib.Core.Path.{◌≡◌, refl, sym, ap, ap₂, ◌∙◌}
-use mathlib.Core.List.{List, [], ◌∷◌, ◌++◌, map, zip_with}
+use mathlib.Core.List.{List, [], ◌∷◌, ◌++◌, zip_with}
 use Prim.Native.Nat.{ℕ, zero, suc, ◌+◌, ◌*◌, ◌/◌, ◌%◌, ◌≤◌, ◌<◌}
 use native.Mathlib.Nat.{le_of_eq, mod-eq_of_lt, suc_inj, suc-ne-zero}
 use native.Mathlib.Omega.{arith}
@@ -10,7 +10,7 @@ use Rattle.bits.specs.Bits.{Row, from, bytes_for, with_bit, set_bit, put_bits, u
 use Rattle.bits.proofs.Bits.{length-set_bit}
 use Rattle.bits.proofs.Pack.{row_lt, row_length, length-unpack, unpack-set_bit}
 use Rattle.bits.proofs.PutBits.{put_next, put_end}
-use Rattle.bits.proofs.Padded.{over-start, over-next, over_first}
+use Rattle.bits.proofs.Padded.{over-start, over-next}
 use Rattle.code.specs.PublicKey.{Matrix}
 use Rattle.code.specs.Lock.{rows_of}
 use Rattle.code.proofs.PackedRows.{rows_one, rows_add, rows_front, length_rows}
@@ -79,11 +79,3 @@ over-placed k j n at a b w₀ w y e h l rest front behind =
     ∙ ap (λ (x : List ℕ). over_rows b (rows_of j n x)) (rest ∙ ap (λ (i : ℕ). drop i w₀) e))
     ∙ sym (over-append a (rows_of k n w₀) b (rows_of j n (drop (k * bytes_for n) w₀)) (l ∙ sym (length_rows k n w₀)))
     ∙ ap (over_rows (a ++ b)) (sym (rows_add k j n w₀))
-
--- of rows of n bits written over as many others, the first n bits are the rows
-pub take-over_rows : (f : ℕ → List ℕ) (n : ℕ) → ((r : ℕ) → length (f r) ≡ n) → (l : List ℕ) (others : Matrix) → length others ≡ length l
-    → map (take n) (over_rows (map f l) others) ≡ map f l
-unfolding over_rows zip_with
-take-over_rows f n e [] others h = refl
-take-over_rows f n e (r ∷ l) [] h = absurd (suc-ne-zero _ (sym h))
-take-over_rows f n e (r ∷ l) (x ∷ others) h = ap₂ (λ (a : List ℕ) (b : Matrix). a ∷ b) (over_first (f r) x n (e r)) (take-over_rows f n e l others (suc_inj h))
