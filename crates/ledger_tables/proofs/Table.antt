@@ -187,19 +187,6 @@ orders =
     (on (factored published) (publish (systematic (zeros 8) [])), refused 34) ∷
     (after (load (key_file K3) ∷ []) (publish (systematic (zeros 3) (zeros 3))), refused 10) ∷
     (after (load (key_file K3) ∷ []) (publish (systematic (zeros 4) (zeros 3))), refused 11) ∷
-    -- publish with the small workspace alike; K1 and K3 need 8 bytes of it
-    (after [] (publish (small [] [])), refused 21) ∷
-    (on (bad empty) (publish (small (zeros 4) (zeros 8))), refused 21) ∷
-    (on (bad loaded) (publish (small [] [])), refused 25) ∷
-    (on (bad_factored loaded) (publish (small [] [])), refused 25) ∷
-    (after (load (key_file factored_file) ∷ []) (publish (small [] [])), refused 34) ∷
-    (on (factored published) (publish (small (zeros 8) (zeros 16))), refused 34) ∷
-    (after (load (key_file K3) ∷ []) (publish (small (zeros 3) (zeros 7))), refused 10) ∷
-    (after (load (key_file K3) ∷ []) (publish (small (zeros 4) (zeros 7))), refused 11) ∷
-    (after (load (key_file K3) ∷ []) (publish (small (zeros 4) (zeros 8))), refused 23) ∷
-    (after (load (key_file K1) ∷ []) (publish (small (zeros 4) (zeros 7))), refused 11) ∷
-    (after (load (key_file K1) ∷ []) (publish (small (9 ∷ 9 ∷ 9 ∷ 9 ∷ 9 ∷ []) (zeros 8))), accepted (0x03 ∷ 0x01 ∷ 0x02 ∷ 0x00 ∷ 9 ∷ []) 0) ∷
-    (after (load (key_file K1) ∷ publish (small (zeros 4) (zeros 8)) ∷ []) (ask (open_capsule (0x03 ∷ []) (zeros 1))), accepted (0x10 ∷ []) 1) ∷
     -- open 21, 25, 34, 24, 8, 9, 10, 13
     (after [] (ask (open_capsule [] [])), refused 21) ∷
     (on (bad loaded) (ask (open_capsule [] [])), refused 25) ∷
@@ -292,14 +279,7 @@ remains =
     (frees (run step fresh (load (key_file K1) ∷ [])) (publish (systematic (zeros 3) (zeros 4))), free 0) ∷
     (frees (run step fresh (load (key_file K1) ∷ [])) (publish (systematic (zeros 4) (zeros 3))), free 0) ∷
     (frees (run step fresh (load (key_file K1) ∷ [])) (publish (systematic (zeros 4) (zeros 6))), free 4) ∷
-    (frees (run step fresh (load (key_file K3) ∷ [])) (publish (systematic (zeros 4) (zeros 4))), free 4) ∷
-    (frees fresh (publish (small (zeros 4) (zeros 8))), free 0) ∷
-    (frees (bad loaded) (publish (small (zeros 4) (zeros 8))), free 0) ∷
-    (frees (factored loaded) (publish (small (zeros 8) (zeros 16))), free 0) ∷
-    (frees (run step fresh (load (key_file K1) ∷ [])) (publish (small (zeros 3) (zeros 8))), free 0) ∷
-    (frees (run step fresh (load (key_file K1) ∷ [])) (publish (small (zeros 4) (zeros 7))), free 0) ∷
-    (frees (run step fresh (load (key_file K1) ∷ [])) (publish (small (zeros 4) (zeros 9))), free 8) ∷
-    (frees (run step fresh (load (key_file K3) ∷ [])) (publish (small (zeros 4) (zeros 8))), free 8) ∷ []
+    (frees (run step fresh (load (key_file K3) ∷ [])) (publish (systematic (zeros 4) (zeros 4))), free 4) ∷ []
 
 -- A key with capsules of two bytes, published: of width 12, with g the unknown itself.
 unfoldable pub two_bytes_lem : Slot
@@ -369,6 +349,33 @@ Story =
     (expected blank calls ≡ 21 ∷ 21 ∷ 21 ∷ 21 ∷ 0 ∷ 34 ∷ 34 ∷ 0 ∷ 34 ∷ 34 ∷ 0 ∷ 0 ∷ 10 ∷ 11 ∷ 0 ∷ 0 ∷ 10 ∷ 0 ∷ 14 ∷ 0 ∷ 13 ∷ 0 ∷ 31 ∷ 0 ∷ 33 ∷ 0 ∷ 0 ∷ 0 ∷ 24 ∷ 24 ∷ 24 ∷ 0 ∷ []) ×
     (ledger_after blank calls ≡ record { key = some (parse K1); mark = true })
 
+-- Publish in the small workspace: 21, 25, 34, 10, 11, 23 alike; K1 and K3 need 8 bytes of it.
+unfoldable pub small_orders : List (Asked × Answer)
+small_orders =
+    (after [] (publish (small [] [])), refused 21) ∷
+    (on (bad empty) (publish (small (zeros 4) (zeros 8))), refused 21) ∷
+    (on (bad loaded) (publish (small [] [])), refused 25) ∷
+    (on (bad_factored loaded) (publish (small [] [])), refused 25) ∷
+    (after (load (key_file factored_file) ∷ []) (publish (small [] [])), refused 34) ∷
+    (on (factored published) (publish (small (zeros 8) (zeros 16))), refused 34) ∷
+    (after (load (key_file K3) ∷ []) (publish (small (zeros 3) (zeros 7))), refused 10) ∷
+    (after (load (key_file K3) ∷ []) (publish (small (zeros 4) (zeros 7))), refused 11) ∷
+    (after (load (key_file K3) ∷ []) (publish (small (zeros 4) (zeros 8))), refused 23) ∷
+    (after (load (key_file K1) ∷ []) (publish (small (zeros 4) (zeros 7))), refused 11) ∷
+    (after (load (key_file K1) ∷ []) (publish (small (9 ∷ 9 ∷ 9 ∷ 9 ∷ 9 ∷ []) (zeros 8))), accepted (0x03 ∷ 0x01 ∷ 0x02 ∷ 0x00 ∷ 9 ∷ []) 0) ∷
+    (after (load (key_file K1) ∷ publish (small (zeros 4) (zeros 8)) ∷ []) (ask (open_capsule (0x03 ∷ []) (zeros 1))), accepted (0x10 ∷ []) 1) ∷ []
+
+-- How many bytes of it are free.
+unfoldable pub small_remains : List (Asked × Answer)
+small_remains =
+    (frees fresh (publish (small (zeros 4) (zeros 8))), free 0) ∷
+    (frees (bad loaded) (publish (small (zeros 4) (zeros 8))), free 0) ∷
+    (frees (factored loaded) (publish (small (zeros 8) (zeros 16))), free 0) ∷
+    (frees (run step fresh (load (key_file K1) ∷ [])) (publish (small (zeros 3) (zeros 8))), free 0) ∷
+    (frees (run step fresh (load (key_file K1) ∷ [])) (publish (small (zeros 4) (zeros 7))), free 0) ∷
+    (frees (run step fresh (load (key_file K1) ∷ [])) (publish (small (zeros 4) (zeros 9))), free 8) ∷
+    (frees (run step fresh (load (key_file K3) ∷ [])) (publish (small (zeros 4) (zeros 8))), free 8) ∷ []
+
 -- A list with publish in the small workspace.
 unfoldable pub small_story : List (Call × Answer)
 small_story =
@@ -387,9 +394,15 @@ SmallStory =
     (ledger_after blank small_calls ≡ record { key = some (parse K1); mark = true })
 
 -- one computation for all tables
-tables_hold : Holds rows × Holds running × Holds orders × Holds remains × Holds reports × Story × SmallStory
-unfolding ◌⊕◌ from every bytes_for bit_at unpack number pack ones weight filler_clear well_formed each_with xor_row dot first_of is_width is_element modulus_of poly_mul reduced mul_mod mul power last_below inv value sum same monic product some_below some_list has_square has_factor in_limits pair elements parse two_bytes four_bytes file_of distinct goppa_at conditions file_conditions exchange sent Network.network reversed switches support_of four parse_network network_conditions key_number reducible K1 K2 K1-with K3 entry in_code parity_row parity_rows with_row find_pivot clear with_pivot columns echelon public_key dependent written locked row_of rows_of lock_number lock or_else first_row corrects reading filled exactly opening unsound empty_key fresh is_empty is_unpublished held_by capsule_bits found is_none publish_checks_within publish_conditions_within free_bytes_within open_conditions read_conditions steady unmarked differences corrects_marked marked_reading marked_conditions cut capsules_of capsule_conditions record_of records_of occurrences counts_of report_conditions session_conditions loading_conditions loaded_key public_buffer work_buffer needed_bytes publishing_conditions publication freed_bytes answer_buffer question_conditions gives given answer_size over conditions_of output_of no_answer made unless step run blank held_in ledger_number entered fed ledger_after expected answer_by answer_of lock_answer counts_in answer zeros file network N1 published_K1 published_1 rows running factored_file factored bad_factored bad orders remains two_bytes_lem reports answers story calls small_story small_calls flat_map zip_with
-tables_hold = (refl, refl, refl, refl, refl, (refl, refl, refl), (refl, refl, refl))
+computed : (Holds rows × Holds running × Holds orders × Holds remains × Holds reports × Story) × (Holds small_orders × Holds small_remains × SmallStory)
+unfolding ◌⊕◌ from every bytes_for bit_at unpack number pack ones weight filler_clear well_formed each_with xor_row dot first_of is_width is_element modulus_of poly_mul reduced mul_mod mul power last_below inv value sum same monic product some_below some_list has_square has_factor in_limits pair elements parse two_bytes four_bytes file_of distinct goppa_at conditions file_conditions exchange sent Network.network reversed switches support_of four parse_network network_conditions key_number reducible K1 K2 K1-with K3 entry in_code parity_row parity_rows with_row find_pivot clear with_pivot columns echelon public_key dependent written locked row_of rows_of lock_number lock or_else first_row corrects reading filled exactly opening unsound empty_key fresh is_empty is_unpublished held_by capsule_bits found is_none publish_checks_within publish_conditions_within free_bytes_within open_conditions read_conditions steady unmarked differences corrects_marked marked_reading marked_conditions cut capsules_of capsule_conditions record_of records_of occurrences counts_of report_conditions session_conditions loading_conditions loaded_key public_buffer work_buffer needed_bytes publishing_conditions publication freed_bytes answer_buffer question_conditions gives given answer_size over conditions_of output_of no_answer made unless step run blank held_in ledger_number entered fed ledger_after expected answer_by answer_of lock_answer counts_in answer zeros file network N1 published_K1 published_1 rows running factored_file factored bad_factored bad orders remains two_bytes_lem reports answers story calls small_orders small_remains small_story small_calls flat_map zip_with
+computed = ((refl, refl, refl, refl, refl, (refl, refl, refl)), (refl, refl, (refl, refl, refl)))
+
+tables_hold : Holds rows × Holds running × Holds orders × Holds remains × Holds reports × Story
+tables_hold = computed.0
+
+small_tables_hold : Holds small_orders × Holds small_remains × SmallStory
+small_tables_hold = computed.1
 
 pub rows_hold : Holds rows
 rows_hold = tables_hold.0
@@ -409,5 +422,11 @@ reports_hold = tables_hold.4
 pub story_holds : Story
 story_holds = tables_hold.5
 
+pub small_orders_hold : Holds small_orders
+small_orders_hold = small_tables_hold.0
+
+pub small_remains_hold : Holds small_remains
+small_remains_hold = small_tables_hold.1
+
 pub small_story_holds : SmallStory
-small_story_holds = tables_hold.6
+small_story_holds = small_tables_hold.2

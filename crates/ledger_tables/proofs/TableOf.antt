@@ -12,7 +12,7 @@ use Rattle.ledger.specs.Slot.{Slot, Result}
 use Rattle.ledger.specs.Calls.{step, run}
 use Rattle.ledger.specs.Systems.{System}
 use Rattle.ledger.proofs.Simulation.{Simulates, seen, run-fresh}
-use Rattle.ledger_tables.proofs.Table.{Asked, after, on, frees, counts, lock_shape, locks, times, Answer, free, answer_of, counts_in, rows, running, orders, bad, file, factored_file, factored, bad_factored, published_1, two_bytes_lem, reports}
+use Rattle.ledger_tables.proofs.Table.{Asked, after, on, frees, counts, lock_shape, locks, times, Answer, free, answer_of, counts_in, rows, running, orders, small_orders, bad, file, factored_file, factored, bad_factored, published_1, two_bytes_lem, reports}
 use Rattle.ledger_tables.proofs.Table as Definitions
 
 -- the key's lists have the lengths n and t, so that it can be kept
@@ -48,11 +48,12 @@ module _ (sys : System) (store : Slot → sys.Stations) where
   abbrev pub HoldsOf : List (Asked × Answer) → Type 0
   HoldsOf table = map (λ r. answer r.0) table ≡ map (λ r. r.1) table
 
-  -- rows P1 to P13; document 01's facts by running; the orders of the numbers; the reports
+  -- rows P1 to P13; document 01's facts by running; the orders of the numbers, in the small workspace too; the reports
   pub record Tables : Type 0 where
     pub rows_hold : HoldsOf rows
     pub running_holds : HoldsOf running
     pub orders_hold : HoldsOf orders
+    pub small_orders_hold : HoldsOf small_orders
     pub reports_hold : HoldsOf reports
 
   module _ (sim : Simulates sys) (shown : (s : Slot) → sized s ≡ true → sys.view (store s) ≡ s) where
@@ -75,11 +76,12 @@ module _ (sys : System) (store : Slot → sys.Stations) where
         ap₂ ◌∷◌ (same_answer r.0 (and_left (fits r.0) (all_fit rs) h)) (same_answers rs (and_right (fits r.0) (all_fit rs) h))
 
     pub tables_hold : Tables
-    unfolding all_fit fits sized rows running orders reports bad file factored_file factored bad_factored published_1 two_bytes_lem K1 parse elements pair from K1-with file_of two_bytes flat_map
+    unfolding all_fit fits sized rows running orders small_orders reports bad file factored_file factored bad_factored published_1 two_bytes_lem K1 parse elements pair from K1-with file_of two_bytes flat_map
     tables_hold =
         record {
           rows_hold = same_answers rows refl ∙ Definitions.rows_hold;
           running_holds = same_answers running refl ∙ Definitions.running_holds;
           orders_hold = same_answers orders refl ∙ Definitions.orders_hold;
+          small_orders_hold = same_answers small_orders refl ∙ Definitions.small_orders_hold;
           reports_hold = same_answers reports refl ∙ Definitions.reports_hold;
         }
