@@ -2,8 +2,9 @@
 """compare_laws.py LANDED TODAY: the laws of two trees of this repository, by the files crates/NAME/proofs/*.antt.
 
 Prints each law of the first tree that the second has with another statement (DIFF), and each that is not in its file any more
-(GONE), with the files that have it word for word. A statement counts with the arguments of the modules around it; local laws
-below a `where`, and the folders of functions, are left out.
+(GONE), with the files that have it word for word. A statement counts with the arguments of the modules around it. What laws and
+definitions are made of, the fields of records and the constructors of data are not compared; local laws below a `where` and the
+folders of functions are left out.
 """
 import os
 import re
@@ -29,6 +30,8 @@ def laws_of(path):
             continue
         while around and around[-1][0] >= indent(line):
             around.pop()
+        while text.startswith("module _ ") and not text.endswith(" where"):
+            text, at = f"{text} {lines[at].strip()}", at + 1
         module, law = re.match(r"module _ (.*) where$", text), LAW.match(text)
         if module:
             around.append((indent(line), module[1]))
