@@ -34,11 +34,12 @@ fn shape(held: &Held) -> Shape {
     Shape::new(held.key.m, held.key.n as u16, held.key.t as u16).expect("a shape")
 }
 
-/// Publishes on both sides, with a workspace that is drawn; whether the key has a public key.
-fn same_public_key(random: &mut Random, station: &mut Station, held: &Held) -> bool {
+/// Publishes on both sides, and with the small workspace; whether the key has a public key.
+fn same_public_key(station: &mut Station, held: &Held) -> bool {
     assert_eq!(station.is_exchange_key(Name::B), Ok(!held.has_factor()), "{:?}", held.key);
     let expected = calls::publish(1, held, usize::MAX, usize::MAX);
-    let public = station.publish_with(Name::B, *random.pick(&Workspace::BOTH));
+    let public = station.publish(Name::B);
+    assert!(station.publish_with(Name::B, Workspace::Small) == public, "{:?}", held.key);
     assert_eq!(public.as_ref().map_or_else(|refusal| refusal.number(), |_| 0), expected.number, "{:?}", held.key);
     assert!(public.unwrap_or_default() == expected.written, "{:?}", held.key);
     assert_eq!(station.is_published(Name::B), expected.number == 0);
@@ -108,7 +109,7 @@ fn compare_small(random: &mut Random, held: &Held) {
         let word = near_code_word(random, held, errors);
         same_reading(&station, held, &word);
     }
-    if !same_public_key(random, &mut station, held) {
+    if !same_public_key(&mut station, held) {
         return opens_nothing(random, &station, held);
     }
     for number in some(random, rank) {
@@ -141,7 +142,7 @@ fn every_shape_of_width_4() {
 fn compare_large(random: &mut Random, held: &Held, rounds: usize) {
     let (n, t, rank) = (held.key.n, held.key.t, held.key.capsule_bits());
     let mut station = loaded(held);
-    let published = same_public_key(random, &mut station, held);
+    let published = same_public_key(&mut station, held);
     for errors in [0, 1, t / 2, t / 2 + 1, t - 1, t, t + 1].into_iter().cycle().take(rounds) {
         let word = near_code_word(random, held, errors.min(n));
         same_reading(&station, held, &word);

@@ -144,11 +144,12 @@ fn derive(station: &Station, capsule: &[u8]) {
     pause(Point::SecretWiped);
 }
 
-/// The second recipient's key beside the first's, published with the small workspace; then the first is dropped.
+/// The second recipient's key beside the first's, published, and again with the small workspace; then the first is dropped.
 fn hold_two(station: &mut Station) {
     let mut key = file_in::<7109>(SECOND, "key.bin");
     station.load(Name::B, &key[..]).expect("load accepts");
     wipe(&mut key[..]);
+    station.publish(Name::B).expect("publish accepts");
     station.publish_with(Name::B, Workspace::Small).expect("publish accepts");
     assert_eq!(station.open(Name::B, &file::<96>("capsule.bin")[..]), Err(Refusal::NoPattern));
     pause(Point::SecondPublished);
